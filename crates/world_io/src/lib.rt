@@ -1,0 +1,24 @@
+// The outside of the server: sources, sinks and disks, by what they tell of their bytes and how often they failed.
+#![tactic(auto)]
+
+mod count;
+mod disk;
+mod files;
+mod memory;
+mod memory_disk;
+mod outages;
+mod sink;
+mod source;
+mod steady;
+mod stream;
+#[cfg(test)]
+mod tests;
+
+pub use disk::Disk;
+pub use files::{FileDisk, FileSink, FileSource};
+pub use memory::{MemorySink, MemorySource};
+pub use memory_disk::MemoryDisk;
+pub use sink::{Sink, write_all};
+pub use source::{Failed, ReadStop, Source, read_all};
+pub use steady::{SteadySink, SteadySource};
+pub use stream::StreamSink;
