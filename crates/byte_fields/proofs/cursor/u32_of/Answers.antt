@@ -1,0 +1,6 @@
+use Rattle.std.proofs.Common.{arith, sym}
+use Rattle.std.proofs.lemmas.Nat.{le_bytes_4}
+use Rattle.byte_fields.proofs.cursor.u32_of.Goals as goal
+
+pub returns-clause-bytes : goal.returns-clause-bytes
+returns-clause-bytes c = sym (le_bytes_4 c.args.text.now c.read_u32.result c.requires (λ k. omega (arith, c.type_inv.text k)) (omega arith))
