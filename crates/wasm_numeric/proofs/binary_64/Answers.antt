@@ -1,0 +1,18 @@
+use Rattle.std.proofs.Common.{◌≡◌, ◌<◌, ◌^◌, ℕ, Some, ap, ◌∙◌, arith}
+use Rattle.std.specs.Int.{w64}
+use Rattle.wasm_numeric.specs.Opcodes.{binary_value, binary_entry}
+use Rattle.wasm_numeric.proofs.Rotations.{rotate_left_is, rotate_right_is}
+use Rattle.wasm_numeric.proofs.binary_64.Goals as goal
+
+pub returns-in-137-clause-value : goal.returns-in-137-clause-value
+unfolding binary_value binary_entry
+returns-in-137-clause-value c =
+    let within : c.args.a < 2 ^ 64 = omega arith in
+    rw c.in-137.is (ap (λ (x : ℕ). Some x) (c.rotate_left.ensures ∙ rotate_left_is w64 c.args.a c.args.b (omega arith) within))
+
+pub returns-in_default-clause-value : goal.returns-in_default-clause-value
+unfolding binary_value binary_entry
+returns-in_default-clause-value c =
+    let within : c.args.a < 2 ^ 64 = omega arith in
+    let last : c.args.op ≡ 0x8a = grind arith in
+    rw last (ap (λ (x : ℕ). Some x) (c.rotate_right.ensures ∙ rotate_right_is w64 c.args.a c.args.b (omega arith) within))

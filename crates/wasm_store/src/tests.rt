@@ -1,0 +1,68 @@
+// Each call once, with ample memory.
+use super::*;
+use std::test::Fail;
+
+#[test]
+fn memory_grows_to_its_limit(rt: HostRuntime) -> Result<(), Fail> {
+    let mut pages = Pages::new(rt.alloc(), 1, 3)?;
+    assert_eq!(rt; pages.size(), 1);
+    assert_eq!(rt; pages.grow(3), None);
+    assert_eq!(rt; pages.grow(2), Some(1));
+    assert_eq!(rt; pages.grow(1), None);
+    assert_eq!(rt; pages.grow(0), Some(3));
+    assert_eq!(rt; pages.load(196_600, 8), Some(0));
+    assert_eq!(rt; pages.load(196_601, 8), None);
+    let mut widest = Pages::new(rt.alloc(), 0, u32::MAX)?;
+    assert_eq!(rt; widest.grow(257), None);
+    assert_eq!(rt; widest.grow(256), Some(0));
+    Ok(())
+}
+
+#[test]
+fn memory_is_little_endian(rt: HostRuntime) -> Result<(), Fail> {
+    let mut pages = Pages::new(rt.alloc(), 1, 1)?;
+    assert!(rt; pages.store(65_528, 8, 0x1122_3344_5566_7788));
+    assert_eq!(rt; pages.load(65_528, 1), Some(0x88));
+    assert_eq!(rt; pages.load(65_529, 2), Some(0x6677));
+    assert_eq!(rt; pages.load(65_530, 4), Some(0x3344_5566));
+    assert_eq!(rt; pages.load(65_528, 8), Some(0x1122_3344_5566_7788));
+    assert!(rt; pages.store(65_530, 2, 0xffff_abcd));
+    assert_eq!(rt; pages.load(65_528, 8), Some(0x1122_3344_abcd_7788));
+    assert!(rt; !pages.store(65_533, 4, 0));
+    assert!(rt; !pages.store(u64::MAX, 8, 0));
+    assert_eq!(rt; pages.load(65_535, 1), Some(0x11));
+    Ok(())
+}
+
+#[test]
+fn spans_are_read_and_written(rt: HostRuntime) -> Result<(), Fail> {
+    let mut pages = Pages::new(rt.alloc(), 1, 1)?;
+    assert!(rt; pages.write_span(65_533, b"end"));
+    let end = pages.read_span(65_533, 3).ok_or("refused")?;
+    assert_eq!(rt; end, b"end".as_slice());
+    let nothing = pages.read_span(65_536, 0).ok_or("refused")?;
+    assert_eq!(rt; nothing.len(), 0);
+    assert!(rt; pages.read_span(65_534, 3).is_none());
+    assert!(rt; !pages.write_span(65_534, b"end"));
+    Ok(())
+}
+
+#[test]
+fn variables_begin_at_0(rt: HostRuntime) -> Result<(), Fail> {
+    let mut values = GlobalValues::new(rt.alloc(), 2)?;
+    values.set(1, 7);
+    assert_eq!(rt; values.get(0), 0);
+    assert_eq!(rt; values.get(1), 7);
+    Ok(())
+}
+
+#[test]
+fn entries_begin_empty(rt: HostRuntime) -> Result<(), Fail> {
+    let mut table = FuncTable::new(rt.alloc(), 2)?;
+    assert!(rt; table.set(1, 5));
+    assert!(rt; !table.set(2, 6));
+    assert_eq!(rt; table.get(0), Some(None));
+    assert_eq!(rt; table.get(1), Some(Some(5)));
+    assert_eq!(rt; table.get(2), None);
+    Ok(())
+}
