@@ -1,0 +1,152 @@
+// What is true of an object by its kind.
+ghost use Rattle.std.specs.Prelude.{◌≡◌};
+ghost use Rattle.game_tables.specs.Kinds.{building, building_room, decay_timer, hits_when_built, in_owned_room, most_hits, obstructing, owned, site_kind, source_room, work_to_build};
+
+use crate::body::Body;
+use crate::kind::Kind;
+
+/// Whether it is built from a site.
+pub fn is_building(kind: Kind) -> bool
+    ensures { result ≡ building kind }
+{
+    matches!(
+        kind,
+        Kind::Spawn | Kind::Extension | Kind::Storage | Kind::Container | Kind::Road
+    )
+}
+
+/// Whether no creep may step on its tile.
+pub fn obstructs(kind: Kind) -> bool
+    ensures { result ≡ obstructing kind }
+{
+    matches!(
+        kind,
+        Kind::Source | Kind::Controller | Kind::Spawn | Kind::Extension | Kind::Storage
+    )
+}
+
+/// Whether it always has an owner.
+pub fn is_owned(kind: Kind) -> bool
+    ensures { result ≡ owned kind }
+{
+    matches!(
+        kind,
+        Kind::Creep | Kind::Spawn | Kind::Extension | Kind::Storage | Kind::Site
+    )
+}
+
+/// Whether a site may be of the kind. `rules` is the number of the rules, and does not matter yet.
+pub fn is_site_kind(kind: Kind, rules: u8) -> bool
+    ensures { result ≡ site_kind kind rules }
+{
+    let _ = rules;
+    is_building(kind)
+}
+
+/// Whether a site of the kind needs a controller of its owner in the room.
+pub fn needs_owned_room(kind: Kind) -> bool
+    ensures { result ≡ in_owned_room kind }
+{
+    matches!(kind, Kind::Spawn | Kind::Extension | Kind::Storage)
+}
+
+/// The most hits, of a creep by its body.
+pub fn hits_max(kind: Kind, body: &Body) -> u32
+    ensures { result ≡ most_hits kind body.now }
+{
+    match kind {
+        Kind::Creep => 100 * body.parts().len() as u32,
+        Kind::Spawn => 5_000,
+        Kind::Extension => 1_000,
+        Kind::Storage => 10_000,
+        Kind::Container => 250_000,
+        Kind::Road => 5_000,
+        _ => 0,
+    }
+}
+
+/// The hits of a building that was just made, and 0 of what is not built.
+pub fn built_hits(kind: Kind) -> u32
+    ensures { result ≡ hits_when_built kind }
+{
+    if is_building(kind) {
+        hits_max(kind, &Body::new())
+    } else {
+        0
+    }
+}
+
+/// The work that a site of the kind needs, where it may be built.
+pub fn build_total(kind: Kind) -> Option<u32>
+    ensures { result ≡ work_to_build kind }
+{
+    match kind {
+        Kind::Spawn => Some(15_000),
+        Kind::Extension => Some(3_000),
+        Kind::Storage => Some(30_000),
+        Kind::Container => Some(5_000),
+        Kind::Road => Some(300),
+        _ => None,
+    }
+}
+
+/// The full decay timer in ticks, and 0 of what does not decay. `in_owned_room` says whether the
+/// room's controller has an owner.
+pub fn full_timer(kind: Kind, in_owned_room: bool) -> u32
+    ensures { result ≡ decay_timer kind in_owned_room }
+{
+    match kind {
+        Kind::Container if in_owned_room => 500,
+        Kind::Container => 100,
+        Kind::Road => 1_000,
+        _ => 0,
+    }
+}
+
+/// The energy that a building holds in a room whose controller has the level, and 0 of a kind
+/// that is none or holds nothing.
+pub fn store_capacity(kind: Kind, level: u8) -> u64
+    ensures { result ≡ building_room kind level }
+{
+    match kind {
+        Kind::Spawn => 300,
+        Kind::Extension if level == 8 => 200,
+        Kind::Extension if level == 7 => 100,
+        Kind::Extension => 50,
+        Kind::Storage => 1_000_000,
+        Kind::Container => 2_000,
+        _ => 0,
+    }
+}
+
+/// The energy that a source is filled to. `is_held` says whether the room's controller is owned or
+/// reserved.
+pub fn source_capacity(is_held: bool) -> u64
+    ensures { result ≡ source_room is_held }
+{
+    if is_held { 3_000 } else { 1_500 }
+}
+
+#[cfg(test)]
+mod tests {
+    use super::*;
+    use crate::kind::Part;
+
+    #[test]
+    fn kinds_differ(rt: HostRuntime) {
+        assert!(rt; is_building(Kind::Road));
+        assert!(rt; !is_building(Kind::Tower));
+        assert!(rt; !obstructs(Kind::Container));
+        assert!(rt; is_owned(Kind::Site));
+        assert!(rt; is_site_kind(Kind::Spawn, 1));
+        assert!(rt; !needs_owned_room(Kind::Container));
+        let mut body = Body::new();
+        body.push(Part::Move);
+        assert_eq!(rt; hits_max(Kind::Creep, &body), 100);
+        assert_eq!(rt; built_hits(Kind::Container), 250_000);
+        assert_eq!(rt; build_total(Kind::Site), None);
+        assert_eq!(rt; full_timer(Kind::Container, false), 100);
+        assert_eq!(rt; store_capacity(Kind::Extension, 7), 100);
+        assert_eq!(rt; source_capacity(true), 3_000);
+    }
+}

@@ -1,0 +1,56 @@
+// The greatest values of an object's fields between ticks.
+ghost use Rattle.std.specs.Prelude.{◌≡◌};
+ghost use Rattle.game_tables.specs.Fields.{energy_bound, extra_bound, other_ticks_bound, timer_bound};
+
+use crate::body::Body;
+use crate::kind::Kind;
+use crate::level::downgrade_number;
+
+/// The most energy, of a creep by its hits and its body.
+pub fn most_energy(kind: Kind, hits: u32, body: &Body) -> u64
+    ensures { result ≡ energy_bound kind hits body.now }
+{
+    match kind {
+        Kind::Source => 3_000,
+        Kind::Creep => body.capacity(hits) as u64,
+        Kind::Spawn => 300,
+        Kind::Extension => 200,
+        Kind::Storage => 1_000_000,
+        Kind::Container => 2_000,
+        Kind::Pile => 1_000_000_000,
+        _ => 0,
+    }
+}
+
+/// The greatest timer in ticks, of a controller by its level, of a creep and of a spawn by the body.
+pub fn most_timer(kind: Kind, level: u8, body: &Body) -> u32
+    ensures { result ≡ timer_bound kind level body.now }
+{
+    match kind {
+        Kind::Source => 300,
+        Kind::Controller => downgrade_number(level).unwrap_or(0),
+        Kind::Creep => body.lifetime(),
+        Kind::Spawn => 3 * body.parts().len() as u32,
+        Kind::Container => 500,
+        Kind::Road => 1_000,
+        _ => 0,
+    }
+}
+
+/// The greatest `extra`: a controller's level, a creep's fatigue, the number of a site's kind.
+pub fn most_extra(kind: Kind) -> u32
+    ensures { result ≡ extra_bound kind }
+{
+    match kind {
+        Kind::Controller | Kind::Site => 8,
+        Kind::Creep => 500,
+        _ => 0,
+    }
+}
+
+/// The greatest `other_ticks`: the ticks of a reservation of a controller.
+pub fn most_other_ticks(kind: Kind) -> u32
+    ensures { result ≡ other_ticks_bound kind }
+{
+    if kind == Kind::Controller { 5_000 } else { 0 }
+}

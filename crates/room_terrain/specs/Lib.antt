@@ -1,0 +1,3 @@
+pub mod Geometry
+pub mod Names
+pub mod Tiles

@@ -1,0 +1,12 @@
+// Rooms: their names, their tiles with the ground on each, and the ways between tiles.
+#![tactic(auto)]
+
+pub mod direction;
+pub mod geometry;
+pub mod name;
+pub mod terrain;
+
+pub use direction::Direction;
+pub use geometry::{mirror, range, step};
+pub use name::{NotAName, RoomName};
+pub use terrain::{Ground, Place, Terrain};
