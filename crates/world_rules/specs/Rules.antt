@@ -1,0 +1,117 @@
+-- The rules of a world, and where each is broken.
+use Rattle.std.specs.Prelude.{◌≡◌, ◌≢◌, ℕ, ◌/◌, ◌%◌, ◌^◌, ◌<◌, ◌≤◌, ◌==◌, ◌⊎◌, ◌&&◌, List, [], length, true, false, Some, slice_get}
+use Rattle.std.specs.List.{count_by}
+use Rattle.std.specs.FinMap.{get}
+use Rattle.game_tables.specs.declared.kind.Kind.{Kind}
+use Rattle.game_tables.specs.declared.kind.Kind.TheVariants.{Source, Pile}
+use Rattle.room_terrain.specs.declared.terrain.Ground.{Ground}
+use Rattle.room_terrain.specs.declared.terrain.Ground.TheVariants.{Wall}
+use Rattle.room_terrain.specs.Tiles.{tile, IsBorder}
+use Rattle.object_store.specs.declared.object.Object.{Object}
+use Rattle.object_store.specs.declared.account.Account.{Account}
+use Rattle.world_rules.specs.declared.rule.Rule.{Rule}
+use Rattle.world_rules.specs.declared.rule.Rule.TheVariants as rules
+use Rattle.world_rules.specs.Kinds.{is_source, is_controller, is_creep, is_pile, is_site, may_have_owner, clash}
+use Rattle.world_rules.specs.World.{Placed, Frame, World, Listing, placed, world_listed}
+
+-- This object stands in the world under this id.
+abbrev pub Stands : World → ℕ → Placed → Type 0
+Stands world id placed = get world.objects id ≡ Some placed
+
+-- The room has this index.
+abbrev pub IsRoom : World → ℕ → Frame → Type 0
+IsRoom world index frame = slice_get world.rooms index ≡ Some frame
+
+abbrev pub IsWall : List Ground → ℕ → ℕ → Type 0
+IsWall grounds x y = slice_get grounds (tile x y) ≡ Some Wall
+
+abbrev pub IsPlayer : World → ℕ → Type 0
+IsPlayer world player = (account : Account) × (get world.accounts player ≡ Some account)
+
+-- There are 1 to 400 rooms, at most 20,000 objects and at most 64 players.
+pub record IsWithinCounts (listing : Listing) : Type 0 where
+  pub some : 1 ≤ length listing.rooms
+  pub rooms : length listing.rooms ≤ 400
+  pub objects : length (placed listing) ≤ 20000
+  pub players : length listing.accounts ≤ 64
+
+-- An earlier room has the same name.
+abbrev pub HasEarlierName : World → ℕ → Type 0
+HasEarlierName world index = (earlier : ℕ) × (first : Frame) × (second : Frame) × (earlier < index) × IsRoom world earlier first × IsRoom world index second × (first.name ≡ second.name)
+
+-- A corner of the room is no wall.
+abbrev pub HasOpenCorner : List Ground → Type 0
+HasOpenCorner grounds = ¬ IsWall grounds 0 0 ⊎ ¬ IsWall grounds 49 0 ⊎ ¬ IsWall grounds 0 49 ⊎ ¬ IsWall grounds 49 49
+
+-- The id's room part is no room, or its serial is 0 or was not given yet.
+abbrev pub HasNoBirth : World → ℕ → Type 0
+HasNoBirth world id = ((frame : Frame) → IsRoom world (id / 2 ^ 32) frame → frame.next ≤ id % 2 ^ 32) ⊎ (id % 2 ^ 32 ≡ 0)
+
+-- Only sources and controllers stand on walls, and only creeps and piles on border tiles.
+abbrev pub IsOnWrongTile : List Ground → Object → Type 0
+IsOnWrongTile grounds object =
+    ((is_source object.kind ≡ false) × (is_controller object.kind ≡ false) × IsWall grounds object.x object.y)
+    ⊎ ((is_creep object.kind ≡ false) × (is_pile object.kind ≡ false) × IsBorder object.x object.y)
+
+-- The objects are on one tile, where their kinds may not be together.
+pub record IsInTheWay (one other : Placed) : Type 0 where
+  pub room : one.room ≡ other.room
+  pub column : one.object.x ≡ other.object.x
+  pub row : one.object.y ≡ other.object.y
+  pub clash : clash one.object.kind other.object.kind ≡ true
+
+-- An owner or reserver is no listed player, or the kind may not have one.
+abbrev pub HasWrongOwner : World → Object → Type 0
+HasWrongOwner world object =
+    ((object.owner ≢ 0) × (¬ IsPlayer world object.owner ⊎ (may_have_owner object.kind ≡ false)))
+    ⊎ ((object.other ≢ 0) × (¬ IsPlayer world object.other ⊎ (is_controller object.kind ≡ false)))
+
+-- A source has an energy and a timer alone, a pile an energy alone; a field that is not used is 0, and a body empty.
+pub record IsSource (object : Object) : Type 0 where
+  pub owner : object.owner ≡ 0
+  pub hits : object.hits ≡ 0
+  pub energy : object.energy ≤ 3000
+  pub timer : object.timer ≤ 300
+  pub extra : object.extra ≡ 0
+  pub progress : object.progress ≡ 0
+  pub other : object.other ≡ 0
+  pub other_ticks : object.other_ticks ≡ 0
+  pub body : object.body ≡ []
+
+pub record IsPile (object : Object) : Type 0 where
+  pub owner : object.owner ≡ 0
+  pub hits : object.hits ≡ 0
+  pub some : 1 ≤ object.energy
+  pub energy : object.energy ≤ 1000000000
+  pub timer : object.timer ≡ 0
+  pub extra : object.extra ≡ 0
+  pub progress : object.progress ≡ 0
+  pub other : object.other ≡ 0
+  pub other_ticks : object.other_ticks ≡ 0
+  pub body : object.body ≡ []
+
+-- The fields are in the kind's ranges. The kinds that are not built yet have none.
+abbrev pub IsInRangeAs : Kind → Object → Type 0
+IsInRangeAs Source object = IsSource object
+IsInRangeAs Pile object = IsPile object
+IsInRangeAs _ object = ⊥
+
+-- Where a rule is broken: the number is a room's index for rooms and controllers, an id for objects, a player for players, and 0 for counts.
+abbrev pub Broken : Rule → ℕ → Listing → Type 0
+Broken rules.Counts n listing = (n ≡ 0) × ¬ IsWithinCounts listing
+Broken rules.RoomTwice n listing = HasEarlierName (world_listed listing) n
+Broken rules.Corner n listing = (frame : Frame) × IsRoom (world_listed listing) n frame × HasOpenCorner frame.grounds
+Broken rules.Serial n listing = (object : Placed) × Stands (world_listed listing) n object × HasNoBirth (world_listed listing) n
+Broken rules.IdTwice n listing = 2 ≤ count_by (λ entry. entry.0 == n) (placed listing)
+Broken rules.Tile n listing = (object : Placed) × (frame : Frame) × Stands (world_listed listing) n object × IsRoom (world_listed listing) object.room frame × IsOnWrongTile frame.grounds object.object
+Broken rules.Shared n listing = (lesser : ℕ) × (one : Placed) × (other : Placed) × (lesser < n) × Stands (world_listed listing) lesser one × Stands (world_listed listing) n other × IsInTheWay one other
+Broken rules.Owner n listing = (object : Placed) × Stands (world_listed listing) n object × HasWrongOwner (world_listed listing) object.object
+Broken rules.Controllers n listing = (one : ℕ) × (other : ℕ) × (first : Placed) × (second : Placed) × (one < other) × Stands (world_listed listing) one first × Stands (world_listed listing) other second
+    × (first.room ≡ n) × (second.room ≡ n) × (is_controller first.object.kind ≡ true) × (is_controller second.object.kind ≡ true)
+Broken rules.Range n listing = (object : Placed) × Stands (world_listed listing) n object × ¬ IsInRangeAs object.object.kind object.object
+Broken rules.PlayerTwice n listing = 2 ≤ count_by (λ account. account.player == n) listing.accounts
+Broken rules.Sites n listing = IsPlayer (world_listed listing) n × (100 < count_by (λ entry. is_site entry.1.object.kind && (entry.1.object.owner == n)) (placed listing))
+
+-- No rule is broken anywhere.
+abbrev pub KeepsRules : Listing → Type 0
+KeepsRules listing = (rule : Rule) (n : ℕ) → Broken rule n listing → ⊥

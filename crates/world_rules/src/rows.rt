@@ -1,0 +1,18 @@
+// Worked examples of the definitions.
+ghost use Rattle.world_rules.specs.Rows.{Renews, Decays, Vanishes};
+
+/// Says what the definitions of upkeep give in worked examples. It does nothing when it runs: its
+/// contract is what the check has computed.
+pub fn worked_rows()
+    // A source is renewed as its timer comes to 0, up to its capacity and never down to it.
+    ensures timer_falls { Renews 0 300 0 299 }
+    ensures renewed { Renews 0 1 1500 0 }
+    ensures never_cut { Renews 3000 1 3000 0 }
+    ensures timer_starts { Renews 1499 0 1499 300 }
+    ensures full_rests { Renews 1500 0 1500 0 }
+
+    // A pile loses a thousandth, rounded up.
+    ensures loses_two { Decays 1001 999 }
+    ensures loses_one { Decays 1000 999 }
+    ensures vanishes { Vanishes 1 }
+{}
