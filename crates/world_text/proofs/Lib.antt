@@ -1,0 +1,11 @@
+pub mod Named
+pub mod Names
+pub mod Lists
+pub mod Firsts
+pub mod Standings
+pub mod Broken
+pub mod Built
+pub mod WrittenPlain
+pub mod WrittenBack
+pub mod WrittenRules
+pub mod Faults
