@@ -1,0 +1,10 @@
+pub mod Objects
+pub mod Rising
+pub mod Entries
+pub mod Placed
+pub mod Kept
+pub mod Follows
+pub mod LinesSums
+pub mod LinesTexts
+pub mod WordsOrder
+pub mod RunsLists

@@ -1,0 +1,110 @@
+// One tick of the whole world.
+ghost use Rattle.std.specs.Prelude.{◌≡◌, ◌<◌, ◌-◌, ◌+◌, ◌^◌, [], map, length, IfOk, OnOk};
+ghost use Rattle.world_rules.specs.World.{world_of};
+ghost use Rattle.world_rules.specs.Tick.{ruled};
+ghost use Rattle.world_rules.specs.Sound.{IsSound};
+ghost use Rattle.ruled_tick.specs.Ticked.{ticked, ticked_room, AreInPlace};
+
+use crate::upkeep::tick_table;
+use object_store::World;
+use std::alloc::{AllocError, Global};
+
+/// The world after one tick without intents.
+pub fn tick_plain(alloc: Global, world: &World) -> Result<World, AllocError>
+    requires tick { world.now.tick < 2 ^ 64 - 1 }
+    requires sound { IsSound world.now }
+    ensures ruled { IfOk result (λ next. world_of next ≡ ruled (world_of world.now)) }
+    ensures sound { IfOk result IsSound }
+{
+    tick_stored(alloc, world)
+}
+
+// The same, of what is stored.
+fn tick_stored(alloc: Global, world: &World) -> Result<World, AllocError>
+    requires tick { world.now.tick < 2 ^ 64 - 1 }
+    requires places { AreInPlace world.now.rooms }
+    ensures { IfOk result (λ next. next ≡ ticked world.now) }
+{
+    let mut next = World::empty(alloc, world.tick() + 1);
+    push_rooms(alloc, world, &mut next)?;
+    push_accounts(alloc, world, &mut next)?;
+    Ok(next)
+}
+
+// The rooms after a tick.
+fn push_rooms(alloc: Global, world: &World, next: &mut World) -> Result<(), AllocError>
+    requires none { next.old.rooms ≡ [] }
+    requires places { AreInPlace world.now.rooms }
+    ensures { OnOk result (next.new ≡ record next.old { rooms = map ticked_room world.now.rooms }) }
+{
+    for room in world.room_list() {
+        let terrain = room.terrain.copy(alloc)?;
+        let table = tick_table(alloc, &room.table)?;
+        next.push_room(room.name, terrain, table)?;
+    }
+    Ok(())
+}
+
+// The accounts, which a tick without intents leaves as they are.
+fn push_accounts(alloc: Global, world: &World, next: &mut World) -> Result<(), AllocError>
+    requires none { next.old.accounts ≡ [] }
+    ensures { OnOk result (next.new ≡ record next.old { accounts = world.now.accounts }) }
+{
+    for account in world.account_list() {
+        next.push_account(account.copy(alloc)?)?;
+    }
+    Ok(())
+}
+
+#[cfg(test)]
+mod tests {
+    use super::*;
+    use crate::upkeep::tests::object;
+    use object_store::{Account, Bytes, Ground, Kind, RoomName, RoomTable, Terrain};
+    use std::test::Fail;
+
+    #[test]
+    fn a_room_is_ticked(rt: HostRuntime) -> Result<(), Fail> {
+        let mut grounds = [Ground::Plain; 2500];
+        grounds[49] = Ground::Wall;
+        let mut objects = Vec::new(rt.alloc());
+        objects.push(object(1, Kind::Source, 0, 1))?;
+        objects.push(object(2, Kind::Pile, 1001, 0))?;
+        let mut world = World::empty(rt.alloc(), 7);
+        world.push_room(
+            RoomName { column: 0, row: 0 },
+            Terrain::of(rt.alloc(), &grounds)?,
+            RoomTable::of(0, 3, objects),
+        )?;
+        world.push_account(Account {
+            player: 1,
+            limit: 20,
+            bucket: 30,
+            points: 40,
+            memory: Bytes::of(rt.alloc(), b"memory")?,
+        })?;
+        let next = tick_stored(rt.alloc(), &world)?;
+        assert_eq!(rt; (next.tick(), next.rooms(), next.accounts()), (8, 1, 1));
+        let room = &next.room_list()[0];
+        assert_eq!(rt; room.name, RoomName { column: 0, row: 0 });
+        assert_eq!(rt; room.terrain.at(49, 0), Ground::Wall);
+        assert_eq!(rt; (room.table.index(), room.table.next()), (0, 3));
+        let listed = room.table.objects();
+        assert_eq!(rt; listed.len(), 2);
+        assert_eq!(rt; (listed[0].energy, listed[0].timer), (1500, 0));
+        assert_eq!(rt; (listed[1].energy, listed[1].timer), (999, 0));
+        assert_eq!(rt; next.account_list()[0].bucket, 30);
+        assert_eq!(rt;
+            next.account_list()[0].memory.as_slice(),
+            b"memory".as_slice()
+        );
+        Ok(())
+    }
+
+    #[test]
+    fn an_empty_world_is_ticked(rt: HostRuntime) -> Result<(), Fail> {
+        let next = tick_plain(rt.alloc(), &World::empty(rt.alloc(), 7))?;
+        assert_eq!(rt; (next.tick(), next.rooms(), next.accounts()), (8, 0, 0));
+        Ok(())
+    }
+}

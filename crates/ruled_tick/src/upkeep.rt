@@ -1,0 +1,168 @@
+// What a tick makes of the objects of a room.
+ghost use Rattle.std.specs.Prelude.{◌≡◌, ◌<◌, ◌^◌, length, filter_map, Some, IfOk};
+ghost use Rattle.world_rules.specs.Upkeep.{source_renewed, pile_loss, pile_decayed as decayed};
+ghost use Rattle.object_store.specs.Tables.{IsRising};
+ghost use Rattle.ruled_tick.specs.Ticked.{upkept, ticked_table};
+
+use object_store::{Kind, Object, RoomTable};
+use std::alloc::{AllocError, Global};
+
+const SOURCE_CAPACITY: u64 = 1500;
+
+const SOURCE_TICKS: u32 = 300;
+
+/// The objects of a room after a tick. The table is made anew in one pass.
+pub fn tick_table(alloc: Global, table: &RoomTable) -> Result<RoomTable, AllocError>
+    ensures { IfOk result (λ next. next ≡ ticked_table table.now) }
+{
+    let objects = tick_objects(alloc, table.objects())?;
+    Ok(RoomTable::of(table.index(), table.next(), objects))
+}
+
+fn tick_objects(alloc: Global, objects: &[Object]) -> Result<Vec<Object>, AllocError>
+    ensures { IfOk result (λ next. next.items ≡ filter_map upkept objects.now) }
+{
+    let mut next = Vec::with_capacity(alloc, objects.len())?;
+    for object in objects {
+        if let Some(left) = keep_up(object) {
+            next.push(left)?;
+        }
+    }
+    Ok(next)
+}
+
+// An object after upkeep, or nothing where it goes.
+#[tactic(auto, using(crate::proofs::Objects::by_kind))]
+fn keep_up(object: &Object) -> Option<Object>
+    ensures { result ≡ upkept object.now }
+{
+    match object.kind {
+        Kind::Source => Some(renew_source(object)),
+        Kind::Pile => decay_pile(object),
+        _ => Some(*object),
+    }
+}
+
+fn renew_source(source: &Object) -> Object
+    ensures { result ≡ source_renewed source.now }
+{
+    if source.timer > 1 {
+        Object {
+            timer: source.timer - 1,
+            ..*source
+        }
+    } else if source.timer == 1 {
+        Object {
+            timer: 0,
+            energy: source.energy.max(SOURCE_CAPACITY),
+            ..*source
+        }
+    } else if source.energy < SOURCE_CAPACITY {
+        Object {
+            timer: SOURCE_TICKS,
+            ..*source
+        }
+    } else {
+        *source
+    }
+}
+
+fn decay_pile(pile: &Object) -> Option<Object>
+    ensures { result ≡ decayed pile.now }
+{
+    let energy = pile.energy - loss(pile.energy);
+    if energy == 0 {
+        None
+    } else {
+        Some(Object { energy, ..*pile })
+    }
+}
+
+// A thousandth of a pile's energy, rounded up.
+fn loss(energy: u64) -> u64
+    ensures { result ≡ pile_loss energy }
+{
+    energy.div_ceil(1000)
+}
+
+#[cfg(test)]
+pub mod tests {
+    use super::*;
+    use object_store::Body;
+    use std::test::Fail;
+
+    /// An object with these fields, and 0 in those that sources and piles do not use.
+    pub fn object(id: u64, kind: Kind, energy: u64, timer: u32) -> Object
+        ensures { result.id ≡ id }
+    {
+        Object {
+            id,
+            kind,
+            x: 10,
+            y: 20,
+            owner: 0,
+            hits: 0,
+            energy,
+            timer,
+            extra: 0,
+            progress: 0,
+            other: 0,
+            other_ticks: 0,
+            body: Body::new(),
+        }
+    }
+
+    #[test]
+    fn sources_are_renewed(rt: HostRuntime) {
+        for (energy, timer, energy_after, timer_after) in [
+            (0, 1, 1500, 0),
+            (0, 2, 0, 1),
+            (1499, 0, 1499, 300),
+            (1500, 0, 1500, 0),
+            (3000, 1, 3000, 0),
+            (3000, 300, 3000, 299),
+        ] {
+            let source = renew_source(&object(1, Kind::Source, energy, timer));
+            assert_eq!(rt; source.energy, energy_after, "at {energy}, {timer}");
+            assert_eq!(rt; source.timer, timer_after, "at {energy}, {timer}");
+        }
+    }
+
+    #[test]
+    fn piles_decay(rt: HostRuntime) {
+        for (energy, lost) in [
+            (0, 0),
+            (1, 1),
+            (999, 1),
+            (1000, 1),
+            (1001, 2),
+            (1_000_000_000, 1_000_000),
+            (0xffff_ffff_ffff_ffff, 18_446_744_073_709_552),
+        ] {
+            assert_eq!(rt; loss(energy), lost, "at {energy}");
+        }
+    }
+
+    #[test]
+    fn a_table_keeps_its_order(rt: HostRuntime) -> Result<(), Fail> {
+        let mut objects = Vec::new(rt.alloc());
+        objects.push(object(1, Kind::Pile, 1001, 0))?;
+        objects.push(object(2, Kind::Pile, 1, 0))?;
+        objects.push(object(3, Kind::Source, 0, 1))?;
+        let table = tick_table(rt.alloc(), &RoomTable::of(4, 9, objects))?;
+        assert_eq!(rt; (table.index(), table.next(), table.len()), (4, 9, 2));
+        assert_eq!(rt;
+            table.nth(0).map(|pile| (pile.id, pile.energy)),
+            Some((1, 999))
+        );
+        assert_eq!(rt;
+            table.nth(1).map(|source| (source.id, source.energy)),
+            Some((3, 1500))
+        );
+        assert_eq!(rt;
+            table.nth(1).map(|source| (source.x, source.y)),
+            Some((10, 20))
+        );
+        Ok(())
+    }
+}
