@@ -10,6 +10,7 @@ use Rattle.world_io.specs.Told.{Gave, AppendsPrefix}
 use Rattle.world_io.proofs.Known.{appends_more}
 use Rattle.world_rules.specs.World.{world_of}
 use Rattle.world_rules.specs.Tick.{ruled}
+use Rattle.world_rules.specs.Sound.{IsSound}
 use Rattle.ruled_tick.specs.Lines.{start_line, tick_line}
 use Rattle.ruled_tick.specs.Runs.{Follow, frame, Fills, IsEmpty, Leaves, LeavesPart}
 use Rattle.ruled_tick.specs.Stages.{Grows, GrowsPart}
@@ -64,9 +65,9 @@ pub last_more : (first : Stored) (later : List Stored) (next : Stored) → last_
 last_more first [] next = refl
 last_more first (x ∷ later) next = last_more x later next
 
-pub follow_more : (first : Stored) (later : List Stored) (next : Stored) → Follow first later → world_of next ≡ ruled (world_of (last_of first later)) → Follow first (later ++ next ∷ [])
-follow_more first [] next h e = (e, tt)
-follow_more first (x ∷ later) next h e = (h.0, follow_more x later next h.1 e)
+pub follow_more : (first : Stored) (later : List Stored) (next : Stored) → Follow first later → world_of next ≡ ruled (world_of (last_of first later)) → IsSound next → Follow first (later ++ next ∷ [])
+follow_more first [] next h e sound = (h, e, sound)
+follow_more first (x ∷ later) next h e sound = (h.0, h.1, follow_more x later next h.2 e sound)
 
 pub flat_more : (f : Stored → List ℕ) (later : List Stored) (next : Stored) → flat_map f later ++ f next ≡ flat_map f (later ++ next ∷ [])
 flat_more f later next = ap (λ z. flat_map f later ++ z) (sym (append-nil (f next))) ∙ sym (flat_map-append f later (next ∷ []))
@@ -78,11 +79,11 @@ pub record Along (disk_old disk_new sink_old sink_new : Option (List ℕ)) (firs
   pub grows : Grows disk_old disk_new sink_old sink_new first later
   pub ended : last_of first later ≡ last
 
-pub along_none : (disk sink : Option (List ℕ)) (first : Stored) → Along disk disk sink sink first 0 first
-along_none disk sink first = record {
+pub along_none : (disk sink : Option (List ℕ)) (first : Stored) → IsSound first → Along disk disk sink sink first 0 first
+along_none disk sink first sound = record {
   later = [];
   counted = refl;
-  grows = record { follow = tt; frames = appends_nothing disk; lines = appends_nothing sink };
+  grows = record { follow = sound; frames = appends_nothing disk; lines = appends_nothing sink };
   ended = refl;
 }
 
@@ -90,23 +91,24 @@ along_none disk sink first = record {
 follow_last : (first : Stored) (later : List Stored) (last next : Stored) → last_of first later ≡ last → world_of next ≡ ruled (world_of last) → world_of next ≡ ruled (world_of (last_of first later))
 follow_last first later last next e h = h ∙ ap (λ w. ruled (world_of w)) (sym e)
 
-pub along_more : (disk_old disk disk_new sink_old sink sink_new : Option (List ℕ)) (first : Stored) (count : ℕ) (last next : Stored) → Along disk_old disk sink_old sink first count last → world_of next ≡ ruled (world_of last) → Appends disk disk_new (frame next) → Appends sink sink_new (tick_line next) → Along disk_old disk_new sink_old sink_new first (count + 1) next
-along_more disk_old disk disk_new sink_old sink sink_new first count last next so_far rule bytes line = record {
+pub along_more : (disk_old disk disk_new sink_old sink sink_new : Option (List ℕ)) (first : Stored) (count : ℕ) (last next : Stored) → Along disk_old disk sink_old sink first count last → world_of next ≡ ruled (world_of last) → IsSound next → Appends disk disk_new (frame next) → Appends sink sink_new (tick_line next) → Along disk_old disk_new sink_old sink_new first (count + 1) next
+along_more disk_old disk disk_new sink_old sink sink_new first count last next so_far rule sound bytes line = record {
   later = so_far.later ++ next ∷ [];
   counted = length_push so_far.later next ∙ ap (λ n. n + 1) so_far.counted;
   grows = record {
-    follow = follow_more first so_far.later next so_far.grows.follow (follow_last first so_far.later last next so_far.ended rule);
+    follow = follow_more first so_far.later next so_far.grows.follow (follow_last first so_far.later last next so_far.ended rule) sound;
     frames = rw (← flat_more frame so_far.later next) (appends_more disk_old disk disk_new (flat_map frame so_far.later) (frame next) so_far.grows.frames bytes);
     lines = rw (← flat_more tick_line so_far.later next) (appends_more sink_old sink sink_new (flat_map tick_line so_far.later) (tick_line next) so_far.grows.lines line);
   };
   ended = last_more first so_far.later next;
 }
 
-pub along_part : (disk_old disk disk_new sink_old sink sink_new : Option (List ℕ)) (first : Stored) (count : ℕ) (last next : Stored) → Along disk_old disk sink_old sink first count last → world_of next ≡ ruled (world_of last) → Appends disk disk_new (frame next) → AppendsPrefix sink sink_new (tick_line next) → (later : List Stored) × GrowsPart disk_old disk_new sink_old sink_new first later
-along_part disk_old disk disk_new sink_old sink sink_new first count last next so_far rule bytes line = (
+pub along_part : (disk_old disk disk_new sink_old sink sink_new : Option (List ℕ)) (first : Stored) (count : ℕ) (last next : Stored) → Along disk_old disk sink_old sink first count last → world_of next ≡ ruled (world_of last) → IsSound next → Appends disk disk_new (frame next) → AppendsPrefix sink sink_new (tick_line next) → (later : List Stored) × (length later ≡ count + 1) × GrowsPart disk_old disk_new sink_old sink_new first later
+along_part disk_old disk disk_new sink_old sink sink_new first count last next so_far rule sound bytes line = (
   so_far.later ++ next ∷ [],
+  length_push so_far.later next ∙ ap (λ n. n + 1) so_far.counted,
   record {
-    follow = follow_more first so_far.later next so_far.grows.follow (follow_last first so_far.later last next so_far.ended rule);
+    follow = follow_more first so_far.later next so_far.grows.follow (follow_last first so_far.later last next so_far.ended rule) sound;
     frames = rw (← flat_more frame so_far.later next) (appends_more disk_old disk disk_new (flat_map frame so_far.later) (frame next) so_far.grows.frames bytes);
     lines = rw (← flat_more tick_line so_far.later next) (appends_part sink_old sink sink_new (flat_map tick_line so_far.later) (tick_line next) so_far.grows.lines line);
   },
@@ -132,9 +134,9 @@ leaves_part disk_old disk disk_new sink_old sink sink_new first later empty byte
 }
 
 -- The opening line was cut off.
-pub leaves_start : (disk_old disk_new sink_old sink_new : Option (List ℕ)) (first : Stored) → IsEmpty disk_old → Appends disk_old disk_new (frame first) → AppendsPrefix sink_old sink_new (start_line first) → LeavesPart disk_old disk_new sink_old sink_new first []
-leaves_start disk_old disk_new sink_old sink_new first empty bytes line = record {
-  follow = tt;
+pub leaves_start : (disk_old disk_new sink_old sink_new : Option (List ℕ)) (first : Stored) → IsSound first → IsEmpty disk_old → Appends disk_old disk_new (frame first) → AppendsPrefix sink_old sink_new (start_line first) → LeavesPart disk_old disk_new sink_old sink_new first []
+leaves_start disk_old disk_new sink_old sink_new first sound empty bytes line = record {
+  follow = sound;
   journal_is = rw append-nil (fills disk_old disk_new (frame first) empty bytes);
   output_is = rw append-nil line;
 }

@@ -6,6 +6,7 @@ use Rattle.std.specs.Io.KnownBytes.{Appends}
 use Rattle.object_store.specs.Stored.{Stored}
 use Rattle.world_rules.specs.World.{World, world_of}
 use Rattle.world_rules.specs.Tick.{ruled}
+use Rattle.world_rules.specs.Sound.{IsSound}
 use Rattle.world_text.specs.Written.{written}
 use Rattle.world_text.specs.Files.{WorldForm, HasFault}
 use Rattle.world_text.specs.declared.fault.WorldFault.{WorldFault}
@@ -17,10 +18,10 @@ use Rattle.ruled_tick.specs.declared.status.Status.TheVariants as statuses
 
 -- ---- worlds and what is kept of them
 
--- Each world is the ruled tick of the one before, without intents.
+-- Each world is sound, and each further one is the ruled tick of the one before, without intents.
 abbrev pub Follow : Stored → List Stored → Type 0
-Follow world [] = Unit {0}
-Follow world (next ∷ later) = (world_of next ≡ ruled (world_of world)) × Follow next later
+Follow world [] = IsSound world
+Follow world (next ∷ later) = IsSound world × (world_of next ≡ ruled (world_of world)) × Follow next later
 
 -- a frame of the plain journal: a length in 8 bytes, little endian, and that many bytes of a world's text
 abbrev pub frame : Stored → List ℕ

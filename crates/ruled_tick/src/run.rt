@@ -12,7 +12,7 @@ ghost use Rattle.world_text.specs.Files.{WorldForm};
 ghost use Rattle.world_text.specs.declared.fault.WorldFault.{WorldFault};
 ghost use Rattle.ruled_tick.specs.Lines.{start_line as start_line_of, tick_line as tick_line_of};
 ghost use Rattle.ruled_tick.specs.Stages.{IsOfWords, IsOfWorld, IsOfUploads, IsOfInputs, IsOfRecord, IsOfTick, IsOfTicks, IsOfJournal, Grows, GrowsPart, GrowsLines};
-ghost use Rattle.ruled_tick.specs.Words.{AreRun, IsRun};
+ghost use Rattle.ruled_tick.specs.Words.{AreRun, Asks, AsksAtLeast};
 ghost use Rattle.ruled_tick.specs.Runs.{ReadsWorld, ReadsFault, IsEmpty, IsFilled, IsPastWords, IsPastWorld, IsPastUploads, IsPastJournal, IsBeforeJournal, Leaves, LeavesPart, Follow, frame as frame_bytes, output};
 
 use crate::journal::{append, frame_of};
@@ -40,7 +40,7 @@ pub fn run_alone<W: Source, U: Source, O: Sink, D: Disk>(
 ) -> Status
     // All was done: the journal has the file's world and each tick after it, and the lines were printed.
     ensures done { result ≡ Status.Done → (first : Stored) × (later : List Stored)
-        × ((w : List ℕ) × (u : List ℕ) × (j : List ℕ) × IsRun (map string_bytes words.now) w u j (length later))
+        × Asks (map string_bytes words.now) (length later)
         × ReadsWorld (W.left world.old) (W.left world.new) (world_of first)
         × GaveAll (U.left uploads.old) (U.left uploads.new) []
         × Leaves (D.seen disk.old) (D.seen disk.new) (O.written out.old) (O.written out.new) first later }
@@ -72,13 +72,22 @@ pub fn run_alone<W: Source, U: Source, O: Sink, D: Disk>(
     ensures untouched { IsBeforeJournal result → (D.seen disk.new ≡ D.seen disk.old) × (O.written out.new ≡ O.written out.old) }
     ensures disk_kept { (at : ℕ) → result ≡ Status.NotAJournal at → (D.seen disk.new ≡ D.seen disk.old) × (O.written out.new ≡ O.written out.old) }
     ensures write_stopped { result ≡ Status.WriteFault → (first : Stored) × (later : List Stored)
+        × AsksAtLeast (map string_bytes words.now) (length later)
         × ReadsWorld (W.left world.old) (W.left world.new) (world_of first)
         × LeavesPart (D.seen disk.old) (D.seen disk.new) (O.written out.old) (O.written out.new) first later }
     ensures disk_stopped { result ≡ Status.DiskFault → (O.written out.new ≡ O.written out.old)
-        ⊎ ((first : Stored) × (later : List Stored) × ReadsWorld (W.left world.old) (W.left world.new) (world_of first) × Follow first later × Appends (O.written out.old) (O.written out.new) (output first later)) }
+        ⊎ ((first : Stored) × (later : List Stored)
+        × AsksAtLeast (map string_bytes words.now) (length later)
+        × ReadsWorld (W.left world.old) (W.left world.new) (world_of first)
+        × Follow first later × Appends (O.written out.old) (O.written out.new) (output first later)) }
     ensures memory_stopped { result ≡ Status.Memory → ((D.seen disk.new ≡ D.seen disk.old) × (O.written out.new ≡ O.written out.old))
-        ⊎ ((first : Stored) × (later : List Stored) × ReadsWorld (W.left world.old) (W.left world.new) (world_of first)
+        ⊎ ((first : Stored) × (later : List Stored)
+        × AsksAtLeast (map string_bytes words.now) (length later)
+        × ReadsWorld (W.left world.old) (W.left world.new) (world_of first)
+        × GaveAll (U.left uploads.old) (U.left uploads.new) []
         × Leaves (D.seen disk.old) (D.seen disk.new) (O.written out.old) (O.written out.new) first later) }
+
+    ensures overwrites_nothing { IsEmpty (D.seen disk.old) ⊎ (D.seen disk.new ≡ D.seen disk.old) }
 
     // The counts never fall.
     ensures world_later { W.faults world.old ≤ W.faults world.new }
@@ -106,7 +115,7 @@ fn open_inputs<W: Source, U: Source>(
     world: &mut W,
     uploads: &mut U,
 ) -> Result<Opened, Status>
-    ensures run { IfOk result (λ opened. (w : List ℕ) × (u : List ℕ) × (j : List ℕ) × IsRun (map string_bytes words.now) w u j opened.ticks) }
+    ensures run { IfOk result (λ opened. Asks (map string_bytes words.now) opened.ticks) }
     ensures found { IfOk result (λ opened. ReadsWorld (W.left world.old) (W.left world.new) (world_of opened.world)) }
     ensures sound { IfOk result (λ opened. IsSound opened.world) }
     ensures tick { IfOk result (λ opened. opened.world.tick ≤ 2 ^ 53) }
@@ -133,7 +142,7 @@ fn open_inputs<W: Source, U: Source>(
 
 // The number of ticks that the words ask for.
 fn asked_ticks(alloc: Global, words: &[String]) -> Result<u64, Status>
-    ensures run { IfOk result (λ ticks. (w : List ℕ) × (u : List ℕ) × (j : List ℕ) × IsRun (map string_bytes words.now) w u j ticks) }
+    ensures run { IfOk result (Asks (map string_bytes words.now)) }
     ensures usage { IfErr result (λ status. status ≡ Status.Usage → AreRun (map string_bytes words.now) → ⊥) }
     ensures only { IfErr result IsOfWords }
 {
@@ -206,12 +215,13 @@ fn keep_journal<O: Sink, D: Disk>(
         → (Rose (O.faults out.old) (O.faults out.new) → ⊥) → (Rose (D.faults disk.old) (D.faults disk.new) → ⊥)
         → (result ≡ Status.Done) ⊎ (result ≡ Status.Memory) }
     ensures disk_kept { (at : ℕ) → result ≡ Status.NotAJournal at → (D.seen disk.new ≡ D.seen disk.old) × (O.written out.new ≡ O.written out.old) }
-    ensures write_stopped { result ≡ Status.WriteFault → (later : List Stored)
+    ensures write_stopped { result ≡ Status.WriteFault → (later : List Stored) × (length later ≤ opened.ticks)
         × LeavesPart (D.seen disk.old) (D.seen disk.new) (O.written out.old) (O.written out.new) opened.world later }
     ensures disk_stopped { result ≡ Status.DiskFault → (O.written out.new ≡ O.written out.old)
-        ⊎ ((later : List Stored) × Follow opened.world later × Appends (O.written out.old) (O.written out.new) (output opened.world later)) }
+        ⊎ ((later : List Stored) × (length later ≤ opened.ticks) × Follow opened.world later × Appends (O.written out.old) (O.written out.new) (output opened.world later)) }
     ensures memory_stopped { result ≡ Status.Memory → ((D.seen disk.new ≡ D.seen disk.old) × (O.written out.new ≡ O.written out.old))
-        ⊎ ((later : List Stored) × Leaves (D.seen disk.old) (D.seen disk.new) (O.written out.old) (O.written out.new) opened.world later) }
+        ⊎ ((later : List Stored) × (length later ≤ opened.ticks) × Leaves (D.seen disk.old) (D.seen disk.new) (O.written out.old) (O.written out.new) opened.world later) }
+    ensures overwrites_nothing { IsEmpty (D.seen disk.old) ⊎ (D.seen disk.new ≡ D.seen disk.old) }
     ensures out_later { O.faults out.old ≤ O.faults out.new }
     ensures disk_later { D.faults disk.old ≤ D.faults disk.new }
 {
@@ -279,11 +289,11 @@ fn run_ticks<O: Sink, D: Disk>(
     ensures only { IsOfTicks result }
     ensures done { result ≡ Status.Done → (later : List Stored) × (length later ≡ ticks)
         × Grows (D.seen disk.old) (D.seen disk.new) (O.written out.old) (O.written out.new) first.world later }
-    ensures memory { result ≡ Status.Memory → (later : List Stored)
+    ensures memory { result ≡ Status.Memory → (later : List Stored) × (length later ≤ ticks)
         × Grows (D.seen disk.old) (D.seen disk.new) (O.written out.old) (O.written out.new) first.world later }
-    ensures write_stopped { result ≡ Status.WriteFault → (later : List Stored)
+    ensures write_stopped { result ≡ Status.WriteFault → (later : List Stored) × (length later ≤ ticks)
         × GrowsPart (D.seen disk.old) (D.seen disk.new) (O.written out.old) (O.written out.new) first.world later }
-    ensures disk_stopped { result ≡ Status.DiskFault → (later : List Stored)
+    ensures disk_stopped { result ≡ Status.DiskFault → (later : List Stored) × (length later ≤ ticks)
         × GrowsLines (O.written out.old) (O.written out.new) first.world later }
     ensures write_fault { result ≡ Status.WriteFault → Rose (O.faults out.old) (O.faults out.new) }
     ensures disk_fault { result ≡ Status.DiskFault → Rose (D.faults disk.old) (D.faults disk.new) }
@@ -319,7 +329,7 @@ fn one_tick<O: Sink, D: Disk>(
     ensures memory { IfErr result (λ status. status ≡ Status.Memory → (D.seen disk.new ≡ D.seen disk.old) × (O.written out.new ≡ O.written out.old)) }
     ensures disk_stopped { IfErr result (λ status. status ≡ Status.DiskFault → O.written out.new ≡ O.written out.old) }
     ensures disk_fault { IfErr result (λ status. status ≡ Status.DiskFault → Rose (D.faults disk.old) (D.faults disk.new)) }
-    ensures write_stopped { IfErr result (λ status. status ≡ Status.WriteFault → (next : Stored) × (world_of next ≡ ruled (world_of kept.now.world))
+    ensures write_stopped { IfErr result (λ status. status ≡ Status.WriteFault → (next : Stored) × (world_of next ≡ ruled (world_of kept.now.world)) × IsSound next
         × Appends (D.seen disk.old) (D.seen disk.new) (frame_bytes next) × AppendsPrefix (O.written out.old) (O.written out.new) (tick_line_of next)) }
     ensures write_fault { IfErr result (λ status. status ≡ Status.WriteFault → Rose (O.faults out.old) (O.faults out.new)) }
     ensures out_later { O.faults out.old ≤ O.faults out.new }

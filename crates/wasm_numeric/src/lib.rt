@@ -1,4 +1,4 @@
-// The integer arithmetic of WebAssembly Core 1.0, chapter 4.3.2.
+// The integer arithmetic of WebAssembly Core 1.0, chapters 4.3.2 and 4.3.4.
 #![tactic(auto)]
 
 ghost use Rattle.std.specs.Prelude.{◌≡◌, ◌<◌, ◌≤◌, ◌^◌, IfOk, IfErr, IsErrOf};
