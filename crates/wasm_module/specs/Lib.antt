@@ -1,0 +1,13 @@
+pub mod Spelling
+pub mod Syntax
+pub mod View
+pub mod Values
+pub mod Instructions
+pub mod Entries
+pub mod Sections
+pub mod Limits
+pub mod Nested
+pub mod Skimmed
+pub mod Parts
+pub mod Faults
+pub mod Opens

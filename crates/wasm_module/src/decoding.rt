@@ -1,0 +1,171 @@
+// The reader of modules.
+ghost use Rattle.std.specs.Prelude.{◌≡◌, ◌++◌, ◌⊎◌, List, ℕ, length, map, IfOk, IfErr, MatchOption};
+ghost use Rattle.wasm_module.specs.Syntax.{Ops};
+ghost use Rattle.wasm_module.specs.Instructions.{SpellsExpression};
+ghost use Rattle.wasm_module.specs.Nested.{SpellsLimited};
+ghost use Rattle.wasm_module.specs.Skimmed.{SpellsSome};
+ghost use Rattle.wasm_module.specs.Sections.{AreOf, AreSections, Section as SectionView, Spells, Syntax, module_view, opening};
+ghost use Rattle.wasm_module.specs.Limits.{IsTooLarge, IsWithin, PassesFirst, WithinBytes};
+ghost use Rattle.wasm_module.specs.Parts.{section_view};
+ghost use Rattle.wasm_module.specs.declared.module.Limit.{Limit};
+
+use crate::entry_lists::Entries;
+use crate::forms::{
+    CodeEntry, ElementEntry, ExportEntry, FunctionType, GlobalEntry, ImportEntry, MemoryType,
+    SegmentEntry, TableType,
+};
+use crate::held::{held, start_of};
+use crate::limits::passed_limit;
+use crate::module::{DecodeFault, Limit, Module};
+use crate::read::{Index, ReadFault};
+use crate::sections::{Section, are_ordered, split};
+use crate::skimmed::{SkimmedCode, SkimmedElement, SkimmedGlobal, SkimmedSegment};
+use std::alloc::Global;
+
+// 1 MiB.
+const MOST_BYTES: usize = 1_048_576;
+
+const MOST_FUNCTIONS: usize = 10_000;
+
+const OPENING: [u8; 8] = [0x00, 0x61, 0x73, 0x6d, 0x01, 0x00, 0x00, 0x00];
+
+impl From<ReadFault> for DecodeFault {
+    ghost use Rattle.std.specs.Prelude.{◌≡◌};
+    ghost use Rattle.wasm_module.specs.Faults.{decode_fault};
+
+    ghost from_gives = { λ fault e. e ≡ decode_fault fault };
+
+    fn from(fault: ReadFault) -> Self {
+        match fault {
+            ReadFault::Malformed => DecodeFault::Malformed,
+            ReadFault::Memory => DecodeFault::Memory,
+        }
+    }
+}
+
+/// Reads the module that the bytes spell: WebAssembly Core 1.0, chapter 5, without the validation of
+/// chapter 3. Custom sections are checked and not kept.
+///
+/// More than 1 MiB is refused before anything is read. A module that nests however deep is refused
+/// without a deep machine stack.
+pub fn decode(alloc: Global, bytes: &[u8]) -> Result<Module, DecodeFault>
+    ensures found { IfOk result (λ found. Spells bytes.now (module_view found)) }
+    ensures within { IfOk result (λ found. WithinBytes bytes.now × IsWithin (module_view found)) }
+    ensures malformed { IfErr result (λ e. e ≡ DecodeFault.Malformed → WithinBytes bytes.now × ((m : Syntax Ops) → Spells bytes.now m → ⊥)) }
+    ensures too_large { IfErr result (λ e. (limit : Limit) → e ≡ DecodeFault.TooLarge limit → IsTooLarge bytes.now limit) }
+    ensures complete { (m : Syntax Ops) → Spells bytes.now m → WithinBytes bytes.now → IsWithin m → IfErr result (λ e. e ≡ DecodeFault.Memory) }
+    ensures once { (m n : Syntax Ops) → Spells bytes.now m → Spells bytes.now n → m ≡ n }
+{
+    if bytes.len() > MOST_BYTES {
+        return Err(DecodeFault::TooLarge(Limit::Bytes));
+    }
+    let list = sections_of(alloc, bytes)?;
+    let sections = list.as_slice();
+    match module_of(alloc, sections) {
+        Ok(module) => match passed_limit(&module) {
+            Some(limit) => Err(DecodeFault::TooLarge(limit)),
+            None => Ok(module),
+        },
+        Err(ReadFault::Malformed) => Err(refusal(alloc, sections)),
+        Err(ReadFault::Memory) => Err(DecodeFault::Memory),
+    }
+}
+
+// The bytes behind the opening.
+fn behind_opening(bytes: &[u8]) -> Option<&[u8]>
+    ensures { MatchOption result ((text : List ℕ) → bytes.now ≡ opening ++ text → ⊥) (λ text. bytes.now ≡ opening ++ text.now) }
+{
+    if bytes.len() >= OPENING.len() && &bytes[..OPENING.len()] == OPENING.as_slice() {
+        Some(&bytes[OPENING.len()..])
+    } else {
+        None
+    }
+}
+
+// The sections that the bytes are, in their order.
+fn sections_of<'a>(alloc: Global, bytes: &'a [u8]) -> Result<Vec<Section<'a>>, ReadFault>
+    ensures found { IfOk result (λ list. AreSections bytes.entry.now (map section_view list.items)) }
+    ensures only { IfOk result (λ list. (other : List SectionView) → AreSections bytes.entry.now other → other ≡ map section_view list.items) }
+    ensures malformed { IfErr result (λ e. e ≡ ReadFault.Malformed → (other : List SectionView) → AreSections bytes.entry.now other → ⊥) }
+{
+    let Some(text) = behind_opening(bytes) else {
+        return Err(ReadFault::Malformed);
+    };
+    let sections = split(alloc, text)?;
+    if are_ordered(&sections) {
+        Ok(sections)
+    } else {
+        Err(ReadFault::Malformed)
+    }
+}
+
+// Reads what the sections hold, with blocks within the limit of nesting.
+fn module_of(alloc: Global, sections: &[Section]) -> Result<Module, ReadFault>
+    ensures found { IfOk result (λ found. AreOf SpellsLimited (map section_view sections.now) (module_view found)) }
+    ensures malformed { IfErr result (λ e. e ≡ ReadFault.Malformed → (m : Syntax Ops) → AreOf SpellsLimited (map section_view sections.now) m → ⊥) }
+{
+    let types = held::<FunctionType>(alloc, sections, 1)?;
+    let imports = held::<ImportEntry>(alloc, sections, 2)?;
+    let funcs = held::<Index>(alloc, sections, 3)?;
+    let tables = held::<TableType>(alloc, sections, 4)?;
+    let memories = held::<MemoryType>(alloc, sections, 5)?;
+    let globals = held::<GlobalEntry>(alloc, sections, 6)?;
+    let exports = held::<ExportEntry>(alloc, sections, 7)?;
+    let start = start_of(sections)?;
+    let elements = held::<ElementEntry>(alloc, sections, 9)?;
+    let codes = held::<CodeEntry>(alloc, sections, 10)?;
+    let segments = held::<SegmentEntry>(alloc, sections, 11)?;
+    if funcs.len() != codes.len() {
+        return Err(ReadFault::Malformed);
+    }
+    Ok(Module {
+        types: Entries::of(types),
+        imports: Entries::of(imports),
+        funcs: Entries::of(funcs),
+        tables: Entries::of(tables),
+        memories: Entries::of(memories),
+        globals: Entries::of(globals),
+        exports: Entries::of(exports),
+        start,
+        elements: Entries::of(elements),
+        codes: Entries::of(codes),
+        segments: Entries::of(segments),
+    })
+}
+
+// Passes over what the sections hold, and counts the codes.
+fn skim_module(alloc: Global, sections: &[Section]) -> Result<usize, ReadFault>
+    ensures found { IfOk result (λ count. (m : Syntax (Unit {0})) × AreOf SpellsSome (map section_view sections.now) m × (length m.codes ≡ count)) }
+    ensures malformed { IfErr result (λ e. e ≡ ReadFault.Malformed → (m : Syntax (Unit {0})) → AreOf SpellsSome (map section_view sections.now) m → ⊥) }
+{
+    let _types = held::<FunctionType>(alloc, sections, 1)?;
+    let _imports = held::<ImportEntry>(alloc, sections, 2)?;
+    let funcs = held::<Index>(alloc, sections, 3)?;
+    let _tables = held::<TableType>(alloc, sections, 4)?;
+    let _memories = held::<MemoryType>(alloc, sections, 5)?;
+    let _globals = held::<SkimmedGlobal>(alloc, sections, 6)?;
+    let _exports = held::<ExportEntry>(alloc, sections, 7)?;
+    let _start = start_of(sections)?;
+    let _elements = held::<SkimmedElement>(alloc, sections, 9)?;
+    let codes = held::<SkimmedCode>(alloc, sections, 10)?;
+    let _segments = held::<SkimmedSegment>(alloc, sections, 11)?;
+    if funcs.len() == codes.len() {
+        Ok(codes.len())
+    } else {
+        Err(ReadFault::Malformed)
+    }
+}
+
+// Why sections are refused that hold no module within the limit of nesting.
+fn refusal(alloc: Global, sections: &[Section]) -> DecodeFault
+    requires { (m : Syntax Ops) → AreOf SpellsLimited (map section_view sections.now) m → ⊥ }
+    ensures malformed { result ≡ DecodeFault.Malformed → (m : Syntax Ops) → AreOf SpellsExpression (map section_view sections.now) m → ⊥ }
+    ensures too_large { (limit : Limit) → result ≡ DecodeFault.TooLarge limit → (m : Syntax Ops) × AreOf SpellsExpression (map section_view sections.now) m × PassesFirst limit m }
+    ensures not_bytes { result ≡ DecodeFault.TooLarge Limit.Bytes → ⊥ }
+{
+    match skim_module(alloc, sections) {
+        Ok(count) if count > MOST_FUNCTIONS => DecodeFault::TooLarge(Limit::Functions),
+        Ok(_) => DecodeFault::TooLarge(Limit::Nesting),
+        Err(fault) => DecodeFault::from(fault),
+    }
+}

@@ -1,0 +1,43 @@
+// WebAssembly modules: their tree, the grammar of their binary form, and the reader of it.
+#![tactic(auto)]
+
+pub mod codes;
+mod decoding;
+pub mod elements;
+pub mod entry_lists;
+pub mod exports;
+mod forms;
+pub mod globals;
+mod held;
+pub mod imports;
+pub mod instr;
+mod leaves;
+mod limits;
+pub mod module;
+#[cfg(test)]
+mod module_tests;
+mod nested;
+mod read;
+mod sections;
+pub mod segments;
+mod skim;
+mod skimmed;
+#[cfg(test)]
+mod tests;
+pub mod types;
+mod values;
+
+pub use codes::{Code, Codes, LocalRun, LocalRuns};
+pub use decoding::decode;
+pub use elements::{Element, Elements};
+pub use entry_lists::{Blob, Entries, Indices, Name};
+pub use exports::{Export, ExportDesc, Exports};
+pub use globals::{GlobalDef, Globals};
+pub use imports::{Import, ImportDesc, Imports};
+pub use instr::{FloatBytes, Instr, Instrs};
+pub use module::{DecodeFault, Limit, Module};
+pub use segments::{Segment, Segments};
+pub use std::alloc::AllocError as NoMemory;
+pub use types::{
+    Bounds, FuncType, FuncTypes, GlobalType, MemoryTypes, TableTypes, ValType, ValTypes,
+};
