@@ -4,7 +4,3 @@ pub mod Entries
 pub mod Placed
 pub mod Kept
 pub mod Follows
-pub mod LinesSums
-pub mod LinesTexts
-pub mod WordsOrder
-pub mod RunsLists

@@ -1,7 +1,1 @@
-pub mod Words
-pub mod Commands
-pub mod Lines
-pub mod Faults
-pub mod Runs
-pub mod Stages
 pub mod Ticked

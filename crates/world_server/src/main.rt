@@ -1,17 +1,20 @@
 // The program of the world server.
 #![tactic(auto)]
 
-use ruled_tick::{Command, Status, WordsFault, read_words, run_alone};
+ghost use Rattle.std.specs.Prelude.{◌≡◌, ◌⊎◌, map, string_bytes};
+ghost use Rattle.world_run.specs.Words.{AreCheck, AreRun};
+ghost use Rattle.world_run.specs.Runs.{IsPastWords};
+
 use std::env;
 use std::io::ErrorKind;
 use std::process::ExitCode;
-use world_io::{FileDisk, FileSource, StreamSink, write_all};
+use world_io::{FileDisk, FileSource, MemoryDisk, StreamSink, write_all};
+use world_run::{Command, Status, WordsFault, read_words, run_alone, tool_main};
 
 fn main(rt: HostRuntime) -> ExitCode {
     let status = match words_after_the_name(&rt) {
         Ok(words) => run(&rt, &words),
-        Err(WordsFault::Usage) => Status::Usage,
-        Err(WordsFault::Memory) => Status::Memory,
+        Err(fault) => refused_words(fault),
     };
     if status != Status::Done {
         say(&rt, status);
@@ -37,9 +40,22 @@ fn words_after_the_name(rt: &HostRuntime) -> Result<Vec<String>, WordsFault> {
     }
 }
 
-// Runs the command over the files that the words name. A journal that is not there is made, and a
-// file that cannot be opened fails at its first call.
-fn run(rt: &HostRuntime, words: &[String]) -> Status {
+// How a call ends whose words could not be read.
+fn refused_words(fault: WordsFault) -> Status
+    ensures usage { fault ≡ WordsFault.Usage → result ≡ Status.Usage }
+    ensures memory { fault ≡ WordsFault.Memory → result ≡ Status.Memory }
+{
+    match fault {
+        WordsFault::Usage => Status::Usage,
+        WordsFault::Memory => Status::Memory,
+    }
+}
+
+// Runs the command that the words say.
+fn run(rt: &HostRuntime, words: &[String]) -> Status
+    ensures usage { result ≡ Status.Usage → (AreRun (map string_bytes words.now) → ⊥) × (AreCheck (map string_bytes words.now) → ⊥) }
+    ensures words { IsPastWords result → AreRun (map string_bytes words.now) ⊎ AreCheck (map string_bytes words.now) }
+{
     match read_words(rt.alloc(), words) {
         Ok(
             Command::Run {
@@ -48,17 +64,52 @@ fn run(rt: &HostRuntime, words: &[String]) -> Status {
                 journal,
                 ticks: _,
             },
-        ) => run_alone(
-            rt.alloc(),
+        ) => run_files(
+            rt,
             words,
-            &mut FileSource::open(rt, world.as_str()),
-            &mut FileSource::open(rt, uploads.as_str()),
-            &mut StreamSink::over(rt.stdout()),
-            &mut FileDisk::open_or_make(rt, journal.as_str()),
+            world.as_str(),
+            uploads.as_str(),
+            journal.as_str(),
         ),
-        Err(WordsFault::Usage) => Status::Usage,
-        Err(WordsFault::Memory) => Status::Memory,
+        Ok(Command::Check { module }) => check_file(rt, words, module.as_str()),
+        Err(fault) => refused_words(fault),
     }
+}
+
+// Runs ticks over the files of a world, of an upload stream and of a journal. A journal that is not
+// there is made, and a file that cannot be opened fails at its first call.
+fn run_files(
+    rt: &HostRuntime,
+    words: &[String],
+    world: &str,
+    uploads: &str,
+    journal: &str,
+) -> Status
+    ensures usage { result ≡ Status.Usage → AreRun (map string_bytes words.now) → ⊥ }
+    ensures words { IsPastWords result → AreRun (map string_bytes words.now) }
+{
+    run_alone(
+        rt.alloc(),
+        words,
+        &mut FileSource::open(rt, world),
+        &mut FileSource::open(rt, uploads),
+        &mut StreamSink::over(rt.stdout()),
+        &mut FileDisk::open_or_make(rt, journal),
+    )
+}
+
+// Checks the module of a file, with no disk. A file that cannot be opened fails at its first call.
+fn check_file(rt: &HostRuntime, words: &[String], path: &str) -> Status
+    ensures usage { result ≡ Status.Usage → AreCheck (map string_bytes words.now) → ⊥ }
+    ensures words { IsPastWords result → AreCheck (map string_bytes words.now) }
+{
+    tool_main(
+        rt.alloc(),
+        words,
+        &mut FileSource::open(rt, path),
+        &mut StreamSink::over(rt.stdout()),
+        &mut MemoryDisk::new(Vec::new(rt.alloc()), Vec::new(rt.alloc()), None),
+    )
 }
 
 // Prints the fault line to standard error, or nothing where there is no memory for it.

@@ -1,0 +1,11 @@
+pub mod Shortest
+pub mod Numbers
+pub mod Tagged
+pub mod Ops
+pub mod Types
+pub mod Blocks
+pub mod Heights
+pub mod Assembled
+pub mod Present
+pub mod Whole
+pub mod Examples

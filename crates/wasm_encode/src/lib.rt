@@ -1,0 +1,13 @@
+// The binary form of WebAssembly modules, written as short as it can be.
+#![tactic(auto)]
+
+mod entries;
+mod instrs;
+mod sections;
+#[cfg(test)]
+mod tests;
+mod values;
+mod written;
+
+pub use sections::encode;
+pub use wasm_module::NoMemory;

@@ -1,0 +1,7 @@
+pub mod Words
+pub mod Commands
+pub mod Lines
+pub mod Faults
+pub mod Runs
+pub mod Stages
+pub mod Checks

@@ -1,0 +1,79 @@
+-- With which statuses each stage can end a run, and what the ticks leave.
+use Rattle.std.specs.Prelude.{ℕ, List, Option}
+use Rattle.std.specs.List.{flat_map}
+use Rattle.std.specs.Io.KnownBytes.{Appends}
+use Rattle.object_store.specs.Stored.{Stored}
+use Rattle.world_io.specs.Told.{AppendsPrefix}
+use Rattle.world_run.specs.Lines.{tick_line}
+use Rattle.world_run.specs.Runs.{Follow, frame}
+use Rattle.world_run.specs.declared.status.Status.{Status}
+use Rattle.world_run.specs.declared.status.Status.TheVariants as statuses
+
+-- The reading of the words can end a run so.
+abbrev pub IsOfWords : Status → Type 0
+IsOfWords statuses.Usage = Unit {0}
+IsOfWords statuses.Memory = Unit {0}
+IsOfWords status = ⊥
+
+-- The reading of the world file can end a run so.
+abbrev pub IsOfWorld : Status → Type 0
+IsOfWorld (statuses.World fault) = Unit {0}
+IsOfWorld statuses.ReadFault = Unit {0}
+IsOfWorld statuses.Memory = Unit {0}
+IsOfWorld status = ⊥
+
+-- The reading of the upload stream can end a run so.
+abbrev pub IsOfUploads : Status → Type 0
+IsOfUploads (statuses.Uploads at) = Unit {0}
+IsOfUploads statuses.ReadFault = Unit {0}
+IsOfUploads statuses.Memory = Unit {0}
+IsOfUploads status = ⊥
+
+-- The reading of the inputs can end a run so.
+abbrev pub IsOfInputs : Status → Type 0
+IsOfInputs statuses.Usage = Unit {0}
+IsOfInputs (statuses.World fault) = Unit {0}
+IsOfInputs (statuses.Uploads at) = Unit {0}
+IsOfInputs statuses.ReadFault = Unit {0}
+IsOfInputs statuses.Memory = Unit {0}
+IsOfInputs status = ⊥
+
+-- The recording of a world can end a run so.
+abbrev pub IsOfRecord : Status → Type 0
+IsOfRecord statuses.DiskFault = Unit {0}
+IsOfRecord statuses.WriteFault = Unit {0}
+IsOfRecord status = ⊥
+
+-- A tick can end a run so.
+abbrev pub IsOfTick : Status → Type 0
+IsOfTick statuses.DiskFault = Unit {0}
+IsOfTick statuses.WriteFault = Unit {0}
+IsOfTick statuses.Memory = Unit {0}
+IsOfTick status = ⊥
+
+-- The ticks can end a run so.
+abbrev pub IsOfTicks : Status → Type 0
+IsOfTicks statuses.Done = Unit {0}
+IsOfTicks status = IsOfTick status
+
+-- What comes after the inputs can end a run so.
+abbrev pub IsOfJournal : Status → Type 0
+IsOfJournal (statuses.NotAJournal at) = Unit {0}
+IsOfJournal status = IsOfTicks status
+
+-- Each world is the ruled tick of the one before; their frames came to the disk, and their lines to the sink.
+pub record Grows (disk_old disk_new sink_old sink_new : Option (List ℕ)) (first : Stored) (later : List Stored) : Type 0 where
+  pub follow : Follow first later
+  pub frames : Appends disk_old disk_new (flat_map frame later)
+  pub lines : Appends sink_old sink_new (flat_map tick_line later)
+
+-- The same, but that only a part of the lines came to the sink.
+pub record GrowsPart (disk_old disk_new sink_old sink_new : Option (List ℕ)) (first : Stored) (later : List Stored) : Type 0 where
+  pub follow : Follow first later
+  pub frames : Appends disk_old disk_new (flat_map frame later)
+  pub lines : AppendsPrefix sink_old sink_new (flat_map tick_line later)
+
+-- The same, but that nothing is said of the disk.
+pub record GrowsLines (sink_old sink_new : Option (List ℕ)) (first : Stored) (later : List Stored) : Type 0 where
+  pub follow : Follow first later
+  pub lines : Appends sink_old sink_new (flat_map tick_line later)

@@ -1,0 +1,33 @@
+// The plain journal: a frame for each world.
+ghost use Rattle.std.specs.Prelude.{◌≡◌, ◌≤◌, ℕ, IfOk, OnOk};
+ghost use Rattle.std.specs.Io.KnownBytes.{Appends};
+ghost use Rattle.world_io.specs.Causes.{HasCause};
+ghost use Rattle.world_io.specs.Disk.{LengthIs};
+ghost use Rattle.world_run.specs.Runs.{frame};
+
+use object_store::World;
+use std::alloc::{AllocError, Global};
+use world_io::{Disk, Failed};
+use world_text::write_world;
+
+/// The frame of a world: its text behind the text's length.
+pub fn frame_of(alloc: Global, world: &World) -> Result<Vec<u8>, AllocError>
+    ensures { IfOk result (λ bytes. bytes.items ≡ frame world.now) }
+{
+    let text = write_world(alloc, world)?;
+    let mut bytes = Vec::from_slice(alloc, &(text.len() as u64).to_le_bytes())?;
+    bytes.extend_from_slice(&text)?;
+    Ok(bytes)
+}
+
+/// Writes a frame at the disk's end, and says where the disk then ends.
+pub fn append<D: Disk>(disk: &mut D, end: u64, frame: &[u8]) -> Result<u64, Failed>
+    requires { LengthIs (D.seen disk.old) end }
+    ensures grown { OnOk result (Appends (D.seen disk.old) (D.seen disk.new) frame.now) }
+    ensures end { IfOk result (λ end. LengthIs (D.seen disk.new) end) }
+    ensures cause { HasCause (D.faults disk.old) (D.faults disk.new) result }
+{
+    disk.write_at(end, frame)?;
+    disk.sync()?;
+    Ok(end + frame.len() as u64)
+}

@@ -1,0 +1,258 @@
+// How a run ends.
+ghost use Rattle.std.specs.Prelude.{◌≡◌, string_bytes, IfOk};
+ghost use Rattle.world_run.specs.Faults.{field_name, kind_name, rule_name, refusal_name, world_fault_text, status_number, status_text, fault_text};
+
+use game_tables::Kind;
+use std::alloc::{AllocError, Global};
+use world_rules::Rule;
+use world_text::{Field, WorldFault};
+
+/// Why a module is refused.
+#[derive(Clone, Copy, Debug, PartialEq, Eq)]
+pub enum Refusal {
+    /// The bytes spell no module.
+    Malformed,
+    /// They pass a limit.
+    TooLarge,
+}
+
+/// How a call of the program ends, with its exit status.
+#[derive(Clone, Copy, Debug, PartialEq, Eq)]
+pub enum Status {
+    /// 0: all was done.
+    Done,
+    /// 2: the words are none of the program's.
+    Usage,
+    /// 3: the world file is refused.
+    World(WorldFault),
+    /// 4: the upload stream is refused, at this place.
+    Uploads(u64),
+    /// 5: a source failed.
+    ReadFault,
+    /// 6: the sink failed.
+    WriteFault,
+    /// 7: the disk failed.
+    DiskFault,
+    /// 8: the journal is refused, at this place.
+    NotAJournal(u64),
+    /// 11: there is not enough memory.
+    Memory,
+    /// 12: the module is refused.
+    Refused(Refusal),
+}
+
+impl Status {
+    /// Its exit status.
+    pub fn number(self) -> u8
+        ensures { result ≡ status_number self }
+    {
+        match self {
+            Status::Done => 0,
+            Status::Usage => 2,
+            Status::World(_) => 3,
+            Status::Uploads(_) => 4,
+            Status::ReadFault => 5,
+            Status::WriteFault => 6,
+            Status::DiskFault => 7,
+            Status::NotAJournal(_) => 8,
+            Status::Memory => 11,
+            Status::Refused(_) => 12,
+        }
+    }
+
+    /// The line that the program prints for it, with its line feed: `fault N TEXT`.
+    pub fn fault_line(self, alloc: Global) -> Result<Vec<u8>, AllocError>
+        ensures { IfOk result (λ line. line.items ≡ fault_text self) }
+    {
+        let number = self.number();
+        let text = self.text(alloc)?;
+        let line = format!(in alloc; "fault {number} {text}\n")?;
+        Ok(line.into_bytes())
+    }
+
+    // Its name, and its values each after a space.
+    fn text(self, alloc: Global) -> Result<String, AllocError>
+        ensures { IfOk result (λ text. string_bytes text ≡ status_text self) }
+    {
+        match self {
+            Status::Done => String::from_str(alloc, "Done"),
+            Status::Usage => String::from_str(alloc, "Usage"),
+            Status::World(fault) => {
+                let text = world_fault(alloc, fault)?;
+                format!(in alloc; "World {text}")
+            }
+            Status::Uploads(place) => format!(in alloc; "Uploads {place}"),
+            Status::ReadFault => String::from_str(alloc, "ReadFault"),
+            Status::WriteFault => String::from_str(alloc, "WriteFault"),
+            Status::DiskFault => String::from_str(alloc, "DiskFault"),
+            Status::NotAJournal(place) => format!(in alloc; "NotAJournal {place}"),
+            Status::Memory => String::from_str(alloc, "Memory"),
+            Status::Refused(refusal) => {
+                let name = name_of_refusal(refusal);
+                format!(in alloc; "Refused {name}")
+            }
+        }
+    }
+}
+
+// A fault of a world file: its name, and its values each after a space.
+fn world_fault(alloc: Global, fault: WorldFault) -> Result<String, AllocError>
+    ensures { IfOk result (λ text. string_bytes text ≡ world_fault_text fault) }
+{
+    match fault {
+        WorldFault::TooLong => String::from_str(alloc, "TooLong"),
+        WorldFault::NotJson => String::from_str(alloc, "NotJson"),
+        WorldFault::Missing(field) => {
+            let name = name_of_field(field);
+            format!(in alloc; "Missing {name}")
+        }
+        WorldFault::BadValue(field, place) => {
+            let name = name_of_field(field);
+            format!(in alloc; "BadValue {name} {place}")
+        }
+        WorldFault::NotBuilt(kind) => {
+            let name = name_of_kind(kind);
+            format!(in alloc; "NotBuilt {name}")
+        }
+        WorldFault::Rule(rule, number) => {
+            let name = name_of_rule(rule);
+            format!(in alloc; "Rule {name} {number}")
+        }
+        WorldFault::Memory => String::from_str(alloc, "Memory"),
+    }
+}
+
+// The name of a field in a fault line.
+fn name_of_field(field: Field) -> &'static str
+    ensures { result.now ≡ field_name field }
+{
+    match field {
+        Field::Version => "Version",
+        Field::Tick => "Tick",
+        Field::Rooms => "Rooms",
+        Field::Players => "Players",
+        Field::Name => "Name",
+        Field::Terrain => "Terrain",
+        Field::Next => "Next",
+        Field::Objects => "Objects",
+        Field::Id => "Id",
+        Field::Kind => "Kind",
+        Field::X => "X",
+        Field::Y => "Y",
+        Field::Owner => "Owner",
+        Field::Body => "Body",
+        Field::Hits => "Hits",
+        Field::Energy => "Energy",
+        Field::Timer => "Timer",
+        Field::Extra => "Extra",
+        Field::Progress => "Progress",
+        Field::Other => "Other",
+        Field::OtherTicks => "OtherTicks",
+        Field::Player => "Player",
+        Field::Token => "Token",
+        Field::Limit => "Limit",
+        Field::Bucket => "Bucket",
+        Field::Points => "Points",
+        Field::Memory => "Memory",
+    }
+}
+
+// The name of a kind in a fault line.
+fn name_of_kind(kind: Kind) -> &'static str
+    ensures { result.now ≡ kind_name kind }
+{
+    match kind {
+        Kind::Source => "Source",
+        Kind::Controller => "Controller",
+        Kind::Creep => "Creep",
+        Kind::Spawn => "Spawn",
+        Kind::Extension => "Extension",
+        Kind::Storage => "Storage",
+        Kind::Container => "Container",
+        Kind::Road => "Road",
+        Kind::Pile => "Pile",
+        Kind::Site => "Site",
+        Kind::Tower => "Tower",
+        Kind::Rampart => "Rampart",
+        Kind::Wall => "Wall",
+        Kind::Tombstone => "Tombstone",
+    }
+}
+
+// The name of a rule in a fault line.
+fn name_of_rule(rule: Rule) -> &'static str
+    ensures { result.now ≡ rule_name rule }
+{
+    match rule {
+        Rule::Counts => "Counts",
+        Rule::RoomTwice => "RoomTwice",
+        Rule::Corner => "Corner",
+        Rule::Serial => "Serial",
+        Rule::IdTwice => "IdTwice",
+        Rule::Tile => "Tile",
+        Rule::Shared => "Shared",
+        Rule::Owner => "Owner",
+        Rule::Controllers => "Controllers",
+        Rule::Range => "Range",
+        Rule::PlayerTwice => "PlayerTwice",
+        Rule::Sites => "Sites",
+    }
+}
+
+// The name of a refusal in a fault line.
+fn name_of_refusal(refusal: Refusal) -> &'static str
+    ensures { result.now ≡ refusal_name refusal }
+{
+    match refusal {
+        Refusal::Malformed => "Malformed",
+        Refusal::TooLarge => "TooLarge",
+    }
+}
+
+#[cfg(test)]
+mod tests {
+    use super::{Field, Kind, Refusal, Rule, Status, WorldFault};
+
+    #[test]
+    fn faults_are_printed(rt: HostRuntime) {
+        for (status, want) in [
+            (Status::Usage, "fault 2 Usage\n"),
+            (
+                Status::World(WorldFault::NotJson),
+                "fault 3 World NotJson\n",
+            ),
+            (
+                Status::World(WorldFault::Missing(Field::OtherTicks)),
+                "fault 3 World Missing OtherTicks\n",
+            ),
+            (
+                Status::World(WorldFault::BadValue(Field::Players, 0)),
+                "fault 3 World BadValue Players 0\n",
+            ),
+            (
+                Status::World(WorldFault::NotBuilt(Kind::Tower)),
+                "fault 3 World NotBuilt Tower\n",
+            ),
+            (
+                Status::World(WorldFault::Rule(Rule::Range, 1)),
+                "fault 3 World Rule Range 1\n",
+            ),
+            (Status::Uploads(0), "fault 4 Uploads 0\n"),
+            (Status::NotAJournal(0), "fault 8 NotAJournal 0\n"),
+            (Status::Memory, "fault 11 Memory\n"),
+            (
+                Status::Refused(Refusal::Malformed),
+                "fault 12 Refused Malformed\n",
+            ),
+            (
+                Status::Refused(Refusal::TooLarge),
+                "fault 12 Refused TooLarge\n",
+            ),
+        ] {
+            let Ok(line) = status.fault_line(rt.alloc()) else {
+                panic!(rt; "no memory");
+            };
+            assert_eq!(rt; line.as_slice(), want.as_bytes());
+        }
+    }
+}

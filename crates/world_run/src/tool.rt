@@ -1,0 +1,142 @@
+// Commands that only read, and keep nothing.
+ghost use Rattle.std.specs.Prelude.{◌≡◌, ◌⊎◌, ℕ, ◌≤◌, List, map, string_bytes, Some, IfErr, OnOk};
+ghost use Rattle.std.specs.Io.KnownBytes.{Appends};
+ghost use Rattle.world_io.specs.Causes.{Rose};
+ghost use Rattle.world_io.specs.Told.{AppendsPrefix};
+ghost use Rattle.world_run.specs.Checks.{Checks, answer_line, ReadsAnswer, IsAnswer, IsBeforeLine, IsOfCheck, IsOfReading};
+ghost use Rattle.world_run.specs.Runs.{IsPastWords};
+ghost use Rattle.world_run.specs.Stages.{IsOfWords};
+ghost use Rattle.world_run.specs.Words.{AreCheck};
+ghost use Rattle.world_run.specs.declared.status.Status.{Status as StatusView};
+
+use crate::status::{Refusal, Status};
+use crate::words::{Command, WordsFault, read_words};
+use std::alloc::Global;
+use wasm_module::{DecodeFault, decode};
+use world_io::{Disk, ReadStop, Sink, Source, read_all, write_all};
+
+/// The most bytes of a module, 1 MiB.
+const MOST_BYTES: u64 = 1_048_576;
+
+/// Runs a command that only reads: so far `check MODULE`.
+///
+/// The module is read to its end, or to one byte past 1 MiB. What is printed is one line: `decoded`
+/// where the bytes spell a module within the limits, and else `refused` and why. The disk is left
+/// as it is.
+pub fn tool_main<S: Source, O: Sink, D: Disk>(
+    alloc: Global,
+    words: &[String],
+    input: &mut S,
+    out: &mut O,
+    _disk: &mut D,
+) -> Status
+    // Each answer is the one that the bytes call for, and its line was printed.
+    ensures checked { IsAnswer result → AreCheck (map string_bytes words.now)
+        × ReadsAnswer (S.left input.old) (S.left input.new) result
+        × Appends (O.written out.old) (O.written out.new) (answer_line result) }
+    ensures only { IsOfCheck result }
+
+    // The words are refused exactly where they are none of a check.
+    ensures usage { result ≡ Status.Usage → AreCheck (map string_bytes words.now) → ⊥ }
+    ensures words { IsPastWords result → AreCheck (map string_bytes words.now) }
+
+    // A fault comes only where that object's count rose.
+    ensures read_fault { result ≡ Status.ReadFault → Rose (S.faults input.old) (S.faults input.new) }
+    ensures write_fault { result ≡ Status.WriteFault → Rose (O.faults out.old) (O.faults out.new) }
+
+    // With the words of a check and no fault the bytes are answered, or memory is wanted.
+    ensures complete { (bytes : List ℕ) → AreCheck (map string_bytes words.now) → S.left input.old ≡ Some bytes
+        → (Rose (S.faults input.old) (S.faults input.new) → ⊥) → (Rose (O.faults out.old) (O.faults out.new) → ⊥)
+        → (result ≡ Status.Memory) ⊎ Checks bytes result }
+
+    // What is left in the sink and on the disk.
+    ensures untouched { IsBeforeLine result → O.written out.new ≡ O.written out.old }
+    ensures write_stopped { result ≡ Status.WriteFault → (answer : StatusView) × IsAnswer answer
+        × ReadsAnswer (S.left input.old) (S.left input.new) answer
+        × AppendsPrefix (O.written out.old) (O.written out.new) (answer_line answer) }
+    ensures disk { (D.seen _disk.new ≡ D.seen _disk.old) × (D.faults _disk.new ≡ D.faults _disk.old) }
+
+    // The counts never fall.
+    ensures input_later { S.faults input.old ≤ S.faults input.new }
+    ensures out_later { O.faults out.old ≤ O.faults out.new }
+{
+    if let Err(status) = ask_check(alloc, words) {
+        return status;
+    }
+    match answer(alloc, input) {
+        answer @ (Status::Done | Status::Refused(_)) => print(out, answer),
+        status => status,
+    }
+}
+
+// Whether the words ask for a check.
+fn ask_check(alloc: Global, words: &[String]) -> Result<(), Status>
+    ensures check { OnOk result (AreCheck (map string_bytes words.now)) }
+    ensures usage { IfErr result (λ status. status ≡ Status.Usage → AreCheck (map string_bytes words.now) → ⊥) }
+    ensures only { IfErr result IsOfWords }
+{
+    match read_words(alloc, words) {
+        Ok(Command::Check { .. }) => Ok(()),
+        Ok(Command::Run { .. }) | Err(WordsFault::Usage) => Err(Status::Usage),
+        Err(WordsFault::Memory) => Err(Status::Memory),
+    }
+}
+
+// Reads a module, and answers what its bytes call for.
+fn answer<S: Source>(alloc: Global, input: &mut S) -> Status
+    ensures only { IsOfReading result }
+    ensures read { IsAnswer result → ReadsAnswer (S.left input.old) (S.left input.new) result }
+    ensures fault { result ≡ Status.ReadFault → Rose (S.faults input.old) (S.faults input.new) }
+    ensures complete { (bytes : List ℕ) → S.left input.old ≡ Some bytes → (Rose (S.faults input.old) (S.faults input.new) → ⊥)
+        → (result ≡ Status.Memory) ⊎ Checks bytes result }
+    ensures later { S.faults input.old ≤ S.faults input.new }
+{
+    match read_all(alloc, input, MOST_BYTES) {
+        Ok(bytes) => verdict(alloc, &bytes),
+        Err(ReadStop::Fault) => Status::ReadFault,
+        Err(ReadStop::TooLong) => Status::Refused(Refusal::TooLarge),
+        Err(ReadStop::Memory) => Status::Memory,
+    }
+}
+
+// What these bytes call for.
+fn verdict(alloc: Global, bytes: &[u8]) -> Status
+    ensures { (result ≡ Status.Memory) ⊎ Checks bytes.now result }
+{
+    match decode(alloc, bytes) {
+        Ok(_) => Status::Done,
+        Err(DecodeFault::Malformed) => Status::Refused(Refusal::Malformed),
+        Err(DecodeFault::TooLarge(_)) => Status::Refused(Refusal::TooLarge),
+        Err(DecodeFault::Memory) => Status::Memory,
+    }
+}
+
+// Prints the line of an answer.
+fn print<O: Sink>(out: &mut O, answer: Status) -> Status
+    requires { IsAnswer answer }
+    ensures only { (result ≡ answer) ⊎ (result ≡ Status.WriteFault) }
+    ensures line { IsAnswer result → Appends (O.written out.old) (O.written out.new) (answer_line answer) }
+    ensures line_cut { result ≡ Status.WriteFault → AppendsPrefix (O.written out.old) (O.written out.new) (answer_line answer) }
+    ensures fault { result ≡ Status.WriteFault → Rose (O.faults out.old) (O.faults out.new) }
+    ensures later { O.faults out.old ≤ O.faults out.new }
+{
+    match write_all(out, line_of(answer).as_bytes()) {
+        Ok(()) => answer,
+        Err(_) => Status::WriteFault,
+    }
+}
+
+// The line of an answer, with its line feed.
+fn line_of(answer: Status) -> &'static str
+    ensures { result.now ≡ answer_line answer }
+{
+    match answer {
+        Status::Done => "decoded\n",
+        Status::Refused(Refusal::Malformed) => "refused Malformed\n",
+        Status::Refused(Refusal::TooLarge) => "refused TooLarge\n",
+        _ => "",
+    }
+}
+
+#[cfg(test)]
+mod tests;

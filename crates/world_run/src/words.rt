@@ -1,0 +1,204 @@
+// The words of a call.
+ghost use Rattle.std.specs.Prelude.{◌≡◌, ℕ, ◌≤◌, map, string_bytes, IfOk, IfErr, IfSome, IfNone};
+ghost use Rattle.world_run.specs.Commands.{Says};
+ghost use Rattle.world_run.specs.Words.{AreRun, AreCheck, IsNumber};
+ghost use Rattle.world_run.specs.declared.words.WordsFault.TheVariants.{Memory};
+
+use std::alloc::{AllocError, AllocFailed, Global};
+use world_text::Text;
+
+/// The most ticks of a run.
+const MOST_TICKS: u64 = 1_000_000;
+
+/// What the program is asked to do.
+#[derive(Drop)]
+pub enum Command {
+    /// Runs this many ticks on a world file and an upload file, and keeps a journal at a path.
+    Run {
+        world: Text,
+        uploads: Text,
+        journal: Text,
+        ticks: u64,
+    },
+    /// Says whether the file at a path is a module that is taken.
+    Check {
+        module: Text,
+    },
+}
+
+/// Why words are no command.
+#[derive(Clone, Copy, Debug, PartialEq, Eq)]
+pub enum WordsFault {
+    /// The words are none of the program's.
+    Usage,
+    /// There is not enough memory.
+    Memory,
+}
+
+impl From<AllocError> for WordsFault {
+    ghost from_gives = { λ _ e. e ≡ Memory };
+
+    fn from(_: AllocError) -> Self {
+        WordsFault::Memory
+    }
+}
+
+impl<T: Drop> From<AllocFailed<T>> for WordsFault {
+    ghost from_gives = { λ _ e. e ≡ Memory };
+
+    fn from(_: AllocFailed<T>) -> Self {
+        WordsFault::Memory
+    }
+}
+
+/// The command that words after the program's name say.
+pub fn read_words(alloc: Global, words: &[String]) -> Result<Command, WordsFault>
+    ensures ok { IfOk result (λ command. Says command (map string_bytes words.now)) }
+    ensures usage { IfErr result (λ e. e ≡ WordsFault.Usage → (AreRun (map string_bytes words.now) → ⊥) × (AreCheck (map string_bytes words.now) → ⊥)) }
+{
+    if words.len() == 2 {
+        read_check(alloc, words)
+    } else {
+        read_run(alloc, words)
+    }
+}
+
+// The words of a run.
+fn read_run(alloc: Global, words: &[String]) -> Result<Command, WordsFault>
+    ensures ok { IfOk result (λ command. Says command (map string_bytes words.now)) }
+    ensures usage { IfErr result (λ e. e ≡ WordsFault.Usage → AreRun (map string_bytes words.now) → ⊥) }
+{
+    let [run, world, uploads, journal, option, number] = words else {
+        return Err(WordsFault::Usage);
+    };
+    if run.as_str() != "run" || option.as_str() != "--ticks" {
+        return Err(WordsFault::Usage);
+    }
+    let Some(ticks) = ticks_of(number.as_str()) else {
+        return Err(WordsFault::Usage);
+    };
+    Ok(Command::Run {
+        world: Text::of(alloc, world.as_str())?,
+        uploads: Text::of(alloc, uploads.as_str())?,
+        journal: Text::of(alloc, journal.as_str())?,
+        ticks,
+    })
+}
+
+// The words of a check.
+fn read_check(alloc: Global, words: &[String]) -> Result<Command, WordsFault>
+    ensures ok { IfOk result (λ command. Says command (map string_bytes words.now)) }
+    ensures usage { IfErr result (λ e. e ≡ WordsFault.Usage → AreCheck (map string_bytes words.now) → ⊥) }
+{
+    let [check, path] = words else {
+        return Err(WordsFault::Usage);
+    };
+    if check.as_str() != "check" {
+        return Err(WordsFault::Usage);
+    }
+    Ok(Command::Check {
+        module: Text::of(alloc, path.as_str())?,
+    })
+}
+
+// The number of ticks that a word says: digits alone, with no sign.
+fn ticks_of(text: &str) -> Option<u64>
+    ensures some { IfSome result (λ n. IsNumber text.now n × (n ≤ 1000000)) }
+    ensures none { IfNone result ((n : ℕ) → IsNumber text.now n → n ≤ 1000000 → ⊥) }
+{
+    if text.as_bytes().first() == Some(&b'+') {
+        return None;
+    }
+    match text.parse::<u64>() {
+        Ok(ticks) if ticks <= MOST_TICKS => Some(ticks),
+        _ => None,
+    }
+}
+
+#[cfg(test)]
+mod tests {
+    use super::{Command, WordsFault, read_words};
+    use std::alloc::Global;
+
+    // Reads words that are written with bars between them.
+    fn read(alloc: Global, text: &str) -> Result<Command, WordsFault> {
+        let mut words = Vec::new(alloc);
+        for word in text.split('|') {
+            words.push(String::from_str(alloc, word)?)?;
+        }
+        read_words(alloc, &words)
+    }
+
+    #[test]
+    fn words_of_a_run_are_read(rt: HostRuntime) {
+        for (text, want) in [
+            ("run|w|u|j|--ticks|0", 0),
+            ("run||-u|--ticks|--ticks|007", 7),
+            ("run|a b|w|w|--ticks|1000000", 1_000_000),
+        ] {
+            let Ok(Command::Run { ticks, .. }) = read(rt.alloc(), text) else {
+                panic!(rt; "{text}");
+            };
+            assert_eq!(rt; ticks, want, "{text}");
+        }
+    }
+
+    #[test]
+    fn paths_keep_their_order(rt: HostRuntime) {
+        let Ok(
+            Command::Run {
+                world,
+                uploads,
+                journal,
+                ..
+            },
+        ) = read(rt.alloc(), "run|-w||run|--ticks|1")
+        else {
+            panic!(rt; "refused");
+        };
+        assert_eq!(rt; world.as_str(), "-w");
+        assert_eq!(rt; uploads.as_str(), "");
+        assert_eq!(rt; journal.as_str(), "run");
+    }
+
+    #[test]
+    fn words_of_a_check_are_read(rt: HostRuntime) {
+        for (text, want) in [("check|a b", "a b"), ("check|", ""), ("check|-m", "-m")] {
+            let Ok(Command::Check { module }) = read(rt.alloc(), text) else {
+                panic!(rt; "{text}");
+            };
+            assert_eq!(rt; module.as_str(), want, "{text}");
+        }
+    }
+
+    #[test]
+    fn other_words_are_refused(rt: HostRuntime) {
+        for text in [
+            "",
+            "run|w|u|j|--ticks",
+            "run|w|u|j|--ticks|1|2",
+            "Run|w|u|j|--ticks|1",
+            "run|w|u|j|--tick|1",
+            "run|w|u|j|--ticks=1|1",
+            "run|--ticks|1|w|u|j",
+            "run|w|u|--ticks|1|j",
+            "--ticks|1|run|w|u|j",
+            "run|w|u|j|--ticks|-1",
+            "run|w|u|j|--ticks|+1",
+            "run|w|u|j|--ticks| 1",
+            "run|w|u|j|--ticks|",
+            "run|w|u|j|--ticks|1000001",
+            "run|w|u|j|--ticks|18446744073709551617",
+            "run|w|u|j|--ticks|100000000000000000000000000000",
+            "check",
+            "check|m|n",
+            "Check|m",
+            "m|check",
+            "check|m|u|j|--ticks|1",
+            "run|w",
+        ] {
+            let refused = matches!(read(rt.alloc(), text), Err(WordsFault::Usage));
+            assert!(rt; refused, "{text}");
+        }
+    }
+}
