@@ -1,9 +1,17 @@
+use crate::written_and_read;
 use byte_fields::put_leb_u32;
 use std::test::Fail;
 use wasm_encode::encode;
 use wasm_module::{DecodeFault, NoMemory, decode};
 
 const OPENING: [u8; 8] = [0x00, 0x61, 0x73, 0x6d, 0x01, 0x00, 0x00, 0x00];
+
+// A function of no parameters and no result, exported as `loop`: an endless loop.
+const LOOP_MODULE: [u8; 39] = [
+    0x00, 0x61, 0x73, 0x6d, 0x01, 0x00, 0x00, 0x00, 0x01, 0x04, 0x01, 0x60, 0x00, 0x00, 0x03, 0x02,
+    0x01, 0x00, 0x07, 0x08, 0x01, 0x04, 0x6c, 0x6f, 0x6f, 0x70, 0x00, 0x00, 0x0a, 0x09, 0x01, 0x07,
+    0x00, 0x03, 0x40, 0x0c, 0x00, 0x0b, 0x0b,
+];
 
 // The opening and these sections, each with the size that its content has, or one that differs.
 fn module(rt: &HostRuntime, sections: &[(u8, u32, &[u8])]) -> Result<Vec<u8>, NoMemory> {
@@ -208,5 +216,18 @@ fn functions_and_codes_are_as_many(rt: HostRuntime) -> Result<(), Fail> {
             assert_eq!(rt; is_malformed(&rt, &bytes), i != k, "{i} {k}");
         }
     }
+    Ok(())
+}
+
+#[test]
+fn the_loop_module_is_written_as_it_was_read(rt: HostRuntime) -> Result<(), Fail> {
+    assert!(rt; is_shortest(&rt, &LOOP_MODULE));
+    let Ok(found) = decode(rt.alloc(), &LOOP_MODULE) else {
+        return Err(Fail::from("refused"));
+    };
+    let Ok(again) = written_and_read(rt.alloc(), &found) else {
+        return Err(Fail::from("refused again"));
+    };
+    assert_eq!(rt; again.codes.len(), 1);
     Ok(())
 }

@@ -1,13 +1,12 @@
 -- That the modules of the tests are spelled.
-use Rattle.std.proofs.Common.{◌≡◌, ℕ, ◌+◌, ◌<◌, ◌≤◌, ◌^◌, List, [], ◌∷◌, ◌++◌, length, length-append, refl, ap, sym, ◌∙◌, subst, arith, rules, Option, None}
-use Rattle.std.specs.Str.{IsUtf8}
+use Rattle.std.proofs.Common.{◌≡◌, ℕ, ◌<◌, ◌≤◌, List, [], ◌∷◌, ◌++◌, length, length-append, refl, ap, sym, ◌∙◌, subst, arith, rules, None}
 use Rattle.std.proofs.lemmas.Str.{IsUtf8-from_ascii}
 use Rattle.byte_fields.specs.Leb.{unsigned_last}
-use Rattle.wasm_module.specs.Spelling.{SpellsU32, Then, SpellsEach, each_none, each_next, SpellsList}
-use Rattle.wasm_module.specs.Syntax.{Op, Ops, no_ops, next, loop, br, if_else, nop}
+use Rattle.wasm_module.specs.Spelling.{SpellsU32, each_none, each_next, SpellsList}
+use Rattle.wasm_module.specs.Syntax.{Ops, no_ops, next, loop, br, if_else, nop}
 use Rattle.wasm_module.specs.Values.{SpellsFuncType, spells_no_result, result_none, SpellsExport, exports_func}
 use Rattle.wasm_module.specs.Instructions.{SpellsOps, spells_none, spells_next, spells_loop, spells_br, spells_if, spells_nop, SpellsExpression}
-use Rattle.wasm_module.specs.Entries.{Function, SpellsCode}
+use Rattle.wasm_module.specs.Entries.{SpellsCode}
 use Rattle.wasm_module.specs.Sections.{Syntax, Spells}
 use Rattle.wasm_module.specs.View.{instr_view, instrs_view, items_view}
 use Rattle.wasm_module.specs.declared.types.FuncType.{FuncType}

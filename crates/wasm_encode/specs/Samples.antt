@@ -1,5 +1,5 @@
 -- The modules of the tests.
-use Rattle.std.specs.Prelude.{ℕ, List, [], ◌∷◌, None}
+use Rattle.std.specs.Prelude.{List, [], ◌∷◌, None}
 use Rattle.wasm_module.specs.Syntax.{Ops}
 use Rattle.wasm_module.specs.Sections.{Syntax}
 use Rattle.wasm_module.specs.declared.exports.Export.{Export}

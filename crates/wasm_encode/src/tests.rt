@@ -1,16 +1,14 @@
-ghost use Rattle.std.specs.Prelude.{◌≡◌, ℕ, List, IfOk, IfErr};
+ghost use Rattle.std.specs.Prelude.{◌≡◌, IfOk};
 ghost use Rattle.wasm_encode.specs.Samples.{nothing, one_function};
-ghost use Rattle.wasm_module.specs.Limits.{IsWithin, WithinBytes};
-ghost use Rattle.wasm_module.specs.Sections.{Spells, module_view};
+ghost use Rattle.wasm_module.specs.Sections.{module_view};
 ghost use Rattle.wasm_module.specs.View.{instrs_view};
 
 use crate::{NoMemory, encode};
 use std::alloc::Global;
 use std::test::Fail;
 use wasm_module::{
-    Code, Codes, DecodeFault, Elements, Export, ExportDesc, Exports, FuncType, FuncTypes, Globals,
-    Imports, Indices, Instr, Instrs, LocalRuns, MemoryTypes, Module, Name, Segments, TableTypes,
-    ValTypes, decode,
+    Code, Codes, Elements, Export, ExportDesc, Exports, FuncType, FuncTypes, Globals, Imports,
+    Indices, Instr, Instrs, LocalRuns, MemoryTypes, Module, Name, Segments, TableTypes, ValTypes,
 };
 
 // A function of no parameters and no result, exported as `loop`: an endless loop.
@@ -19,20 +17,6 @@ const LOOP_MODULE: [u8; 39] = [
     0x01, 0x00, 0x07, 0x08, 0x01, 0x04, 0x6c, 0x6f, 0x6f, 0x70, 0x00, 0x00, 0x0a, 0x09, 0x01, 0x07,
     0x00, 0x03, 0x40, 0x0c, 0x00, 0x0b, 0x0b,
 ];
-
-// What is written for a module within the limits is read back as that module.
-fn written_and_read(alloc: Global, whole: &Module) -> Result<Module, DecodeFault>
-    requires spelled { (text : List ℕ) × Spells text (module_view whole.now) × WithinBytes text }
-    requires within { IsWithin (module_view whole.now) }
-    ensures same { IfOk result (λ found. module_view found ≡ module_view whole.now) }
-    ensures memory { IfErr result (λ e. e ≡ DecodeFault.Memory) }
-{
-    let Ok(bytes) = encode(alloc, whole) else {
-        return Err(DecodeFault::Memory);
-    };
-    let found = decode(alloc, &bytes)?;
-    Ok(found)
-}
 
 // A module that holds nothing.
 fn empty_module(alloc: Global) -> Module
@@ -127,19 +111,5 @@ fn an_empty_second_part_has_no_else(rt: HostRuntime) -> Result<(), Fail> {
         0x02, 0x01, 0x00, 0x0a, 0x08, 0x01, 0x06, 0x00, 0x04, 0x40, 0x01, 0x0b, 0x0b,
     ];
     assert_eq!(rt; bytes.as_slice(), expected.as_slice());
-    Ok(())
-}
-
-#[test]
-fn a_module_that_was_read_is_written_as_it_was(rt: HostRuntime) -> Result<(), Fail> {
-    let Ok(found) = decode(rt.alloc(), &LOOP_MODULE) else {
-        return Err(Fail::from("refused"));
-    };
-    let bytes = encode(rt.alloc(), &found)?;
-    assert_eq!(rt; bytes.as_slice(), LOOP_MODULE.as_slice());
-    let Ok(again) = written_and_read(rt.alloc(), &found) else {
-        return Err(Fail::from("refused again"));
-    };
-    assert_eq!(rt; again.codes.len(), 1);
     Ok(())
 }
