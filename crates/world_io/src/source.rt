@@ -1,5 +1,5 @@
 // Sources of bytes, and the call that reads one to its end.
-ghost use Rattle.std.specs.Prelude.{◌≡◌, ℕ, ◌+◌, ◌<◌, ◌≤◌, List, Option, length, IfOk, IfErr};
+ghost use Rattle.std.specs.Prelude.{◌≡◌, ◌≢◌, ℕ, ◌+◌, ◌<◌, ◌≤◌, List, Option, length, IfOk, OnOk, IfErr};
 ghost use Rattle.std.specs.Io.{ReadsAtMost};
 ghost use Rattle.std.specs.Io.KnownBytes.{ReadConsumes};
 ghost use Rattle.world_io.specs.Causes.{HasCause, Rose};
@@ -61,6 +61,10 @@ pub fn read_all<S: Source>(alloc: Global, source: &mut S, limit: u64) -> Result<
     ensures fault_taken { IfErr result (λ e. e ≡ ReadStop.Fault → GaveAtMost (S.left source.old) (S.left source.new) limit) }
     ensures memory_taken { IfErr result (λ e. e ≡ ReadStop.Memory → GaveAtMost (S.left source.old) (S.left source.new) limit) }
     ensures later { S.faults source.old ≤ S.faults source.new }
+
+    // No failure is passed over: the count stays but where a fault is answered.
+    ensures kept { OnOk result (S.faults source.new ≡ S.faults source.old) }
+    ensures kept_else { IfErr result (λ e. e ≢ ReadStop.Fault → S.faults source.new ≡ S.faults source.old) }
 {
     let mut out = Vec::new(alloc);
     let mut piece = [0u8; PIECE];

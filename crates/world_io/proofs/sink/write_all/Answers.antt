@@ -1,4 +1,4 @@
-use Rattle.std.proofs.Common.{arith}
+use Rattle.std.proofs.Common.{arith, ◌∙◌}
 use Rattle.std.proofs.Math.Seq.{take-add}
 use Rattle.std.proofs.lemmas.List.{take_rest}
 use Rattle.std.proofs.lemmas.Grind.{common_steps}
@@ -11,5 +11,5 @@ loop-at-preserved g c =
     record {
       within = grind (arith, common_steps, c.in_ok-count.ensures.bound);
       part = rw take-add (appends_more _ _ _ _ _ c.loop-at.invariant.part taken);
-      later = grind (arith, c.in_ok-count.ensures.cause.later, c.loop-at.invariant.later);
+      kept = c.in_ok-count.ensures.cause.kept ∙ c.loop-at.invariant.kept;
     }

@@ -1,4 +1,4 @@
-use Rattle.std.proofs.Common.{◌-◌, ◌≤◌, length, take}
+use Rattle.std.proofs.Common.{◌≡◌, ◌-◌, ◌≤◌, length, take}
 use Rattle.std.specs.Io.KnownBytes.{Appends}
 use Rattle.world_io.proofs.sink.write_all.Given as goal
 
@@ -7,7 +7,7 @@ invariant-loop-at g l =
     record {
       within : l.at ≤ length l.text;
       part : Appends (g.O.Sink.written l.fn.sink) (g.O.Sink.written l.sink) (take l.at l.text);
-      later : g.O.Sink.faults l.fn.sink ≤ g.O.Sink.faults l.sink;
+      kept : g.O.Sink.faults l.sink ≡ g.O.Sink.faults l.fn.sink;
     }
 
 abbrev pub decreases-loop-at : goal.decreases-loop-at

@@ -1,4 +1,4 @@
-use Rattle.std.proofs.Common.{◌-◌, ◌≤◌, length}
+use Rattle.std.proofs.Common.{◌≡◌, ◌-◌, ◌≤◌, length}
 use Rattle.std.specs.Io.KnownBytes.{Consumes}
 use Rattle.world_io.proofs.source.read_all.Given as goal
 
@@ -7,7 +7,7 @@ invariant-loop-want g l =
     record {
       within : length l.out.items ≤ l.limit;
       taken : Consumes (g.S.Source.left l.fn.source) (g.S.Source.left l.source) l.out.items;
-      later : g.S.Source.faults l.fn.source ≤ g.S.Source.faults l.source;
+      kept : g.S.Source.faults l.source ≡ g.S.Source.faults l.fn.source;
     }
 
 abbrev pub decreases-loop-want : goal.decreases-loop-want
