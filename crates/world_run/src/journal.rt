@@ -11,7 +11,7 @@ use world_io::{Disk, Failed};
 use world_text::write_world;
 
 /// The frame of a world: its text behind the text's length.
-pub fn frame_of(alloc: Global, world: &World) -> Result<Vec<u8>, AllocError>
+pub(crate) fn frame_of(alloc: Global, world: &World) -> Result<Vec<u8>, AllocError>
     ensures { IfOk result (λ bytes. bytes.items ≡ frame world.now) }
 {
     let text = write_world(alloc, world)?;
@@ -21,7 +21,7 @@ pub fn frame_of(alloc: Global, world: &World) -> Result<Vec<u8>, AllocError>
 }
 
 /// Writes a frame at the disk's end, and says where the disk then ends.
-pub fn append<D: Disk>(disk: &mut D, end: u64, frame: &[u8]) -> Result<u64, Failed>
+pub(crate) fn append<D: Disk>(disk: &mut D, end: u64, frame: &[u8]) -> Result<u64, Failed>
     requires { LengthIs (D.seen disk.old) end }
     ensures grown { OnOk result (Appends (D.seen disk.old) (D.seen disk.new) frame.now) }
     ensures end { IfOk result (λ end. LengthIs (D.seen disk.new) end) }

@@ -1,12 +1,12 @@
 // The commands of the program, from the bytes of their inputs to the bytes that they write.
 #![tactic(auto)]
 
-pub mod journal;
-pub mod lines;
-pub mod run;
-pub mod status;
-pub mod tool;
-pub mod words;
+mod journal;
+mod lines;
+mod run;
+mod status;
+mod tool;
+mod words;
 
 pub use run::run_alone;
 pub use status::{Refusal, Status};

@@ -7,7 +7,7 @@ use object_store::{Object, World};
 use std::alloc::{AllocError, Global};
 
 /// The line that is printed at the start of a run, with its line feed.
-pub fn start_line(alloc: Global, world: &World) -> Result<Vec<u8>, AllocError>
+pub(crate) fn start_line(alloc: Global, world: &World) -> Result<Vec<u8>, AllocError>
     ensures { IfOk result (λ line. line.items ≡ start_line_of world.now) }
 {
     let tick = world.tick();
@@ -21,7 +21,7 @@ pub fn start_line(alloc: Global, world: &World) -> Result<Vec<u8>, AllocError>
 }
 
 /// The line that is printed after a tick, with its line feed, of the world that the tick made.
-pub fn tick_line(alloc: Global, world: &World) -> Result<Vec<u8>, AllocError>
+pub(crate) fn tick_line(alloc: Global, world: &World) -> Result<Vec<u8>, AllocError>
     ensures { IfOk result (λ line. line.items ≡ tick_line_of world.now) }
 {
     let tick = world.tick();

@@ -56,8 +56,9 @@ pub fn run_alone<W: Source, U: Source, O: Sink, D: Disk>(
     ensures journal_refused { (at : ℕ) → result ≡ Status.NotAJournal at → (at ≡ 0) × IsFilled (D.seen disk.old) }
     ensures journal_accepted { IsPastJournal result → IsEmpty (D.seen disk.old) }
 
-    // A fault comes only where that object's count rose.
-    ensures read_fault { result ≡ Status.ReadFault → Rose (W.faults world.old) (W.faults world.new) ⊎ Rose (U.faults uploads.old) (U.faults uploads.new) }
+    // A fault comes only where that object's count rose, and that of the upload stream only where the world file was accepted.
+    ensures read_fault { result ≡ Status.ReadFault → (Rose (W.faults world.old) (W.faults world.new) × (U.left uploads.new ≡ U.left uploads.old))
+        ⊎ (Rose (U.faults uploads.old) (U.faults uploads.new) × ((found : GameWorld) × ReadsWorld (W.left world.old) (W.left world.new) found)) }
     ensures write_fault { result ≡ Status.WriteFault → Rose (O.faults out.old) (O.faults out.new) }
     ensures disk_fault { result ≡ Status.DiskFault → Rose (D.faults disk.old) (D.faults disk.new) }
 
@@ -89,6 +90,15 @@ pub fn run_alone<W: Source, U: Source, O: Sink, D: Disk>(
         × Leaves (D.seen disk.old) (D.seen disk.new) (O.written out.old) (O.written out.new) first later) }
 
     ensures overwrites_nothing { IsEmpty (D.seen disk.old) ⊎ (D.seen disk.new ≡ D.seen disk.old) }
+
+    // What is not needed is not read.
+    ensures unread { result ≡ Status.Usage → (W.left world.new ≡ W.left world.old) × (U.left uploads.new ≡ U.left uploads.old) }
+    ensures uploads_unread { (fault : WorldFault) → result ≡ Status.World fault → U.left uploads.new ≡ U.left uploads.old }
+
+    // No failure is passed over: a count stays but where its fault is answered.
+    ensures read_steady { result ≢ Status.ReadFault → (W.faults world.new ≡ W.faults world.old) × (U.faults uploads.new ≡ U.faults uploads.old) }
+    ensures write_steady { result ≢ Status.WriteFault → O.faults out.new ≡ O.faults out.old }
+    ensures disk_steady { result ≢ Status.DiskFault → D.faults disk.new ≡ D.faults disk.old }
 
     // The counts never fall.
     ensures world_later { W.faults world.old ≤ W.faults world.new }
@@ -127,7 +137,12 @@ fn open_inputs<W: Source, U: Source>(
     ensures world_refused { IfErr result (λ status. (fault : WorldFault) → status ≡ Status.World fault → ReadsFault (W.left world.old) (W.left world.new) fault) }
     ensures world_accepted { IfErr result (λ status. IsPastWorld status → (found : GameWorld) × ReadsWorld (W.left world.old) (W.left world.new) found) }
     ensures uploads_refused { IfErr result (λ status. (at : ℕ) → status ≡ Status.Uploads at → (at ≡ 0) × Gave (U.left uploads.old) (U.left uploads.new) 1) }
-    ensures read_fault { IfErr result (λ status. status ≡ Status.ReadFault → Rose (W.faults world.old) (W.faults world.new) ⊎ Rose (U.faults uploads.old) (U.faults uploads.new)) }
+    ensures read_fault { IfErr result (λ status. status ≡ Status.ReadFault → (Rose (W.faults world.old) (W.faults world.new) × (U.left uploads.new ≡ U.left uploads.old))
+        ⊎ (Rose (U.faults uploads.old) (U.faults uploads.new) × ((found : GameWorld) × ReadsWorld (W.left world.old) (W.left world.new) found))) }
+    ensures unread { IfErr result (λ status. status ≡ Status.Usage → (W.left world.new ≡ W.left world.old) × (U.left uploads.new ≡ U.left uploads.old)) }
+    ensures uploads_unread { IfErr result (λ status. (fault : WorldFault) → status ≡ Status.World fault → U.left uploads.new ≡ U.left uploads.old) }
+    ensures steady { OnOk result ((W.faults world.new ≡ W.faults world.old) × (U.faults uploads.new ≡ U.faults uploads.old)) }
+    ensures steady_else { IfErr result (λ status. status ≢ Status.ReadFault → (W.faults world.new ≡ W.faults world.old) × (U.faults uploads.new ≡ U.faults uploads.old)) }
     ensures complete { IfErr result (λ status. (bytes : List ℕ) → (found : GameWorld) → AreRun (map string_bytes words.now)
         → W.left world.old ≡ Some bytes → WorldForm bytes found → U.left uploads.old ≡ Some []
         → (Rose (W.faults world.old) (W.faults world.new) → ⊥) → (Rose (U.faults uploads.old) (U.faults uploads.new) → ⊥)
@@ -164,6 +179,8 @@ fn load_world<W: Source>(alloc: Global, source: &mut W) -> Result<World, Status>
     ensures fault { IfErr result (λ status. status ≡ Status.ReadFault → Rose (W.faults source.old) (W.faults source.new)) }
     ensures complete { IfErr result (λ status. (bytes : List ℕ) → (found : GameWorld) → W.left source.old ≡ Some bytes → WorldForm bytes found
         → (Rose (W.faults source.old) (W.faults source.new) → ⊥) → status ≡ Status.Memory) }
+    ensures steady { OnOk result (W.faults source.new ≡ W.faults source.old) }
+    ensures steady_else { IfErr result (λ status. status ≢ Status.ReadFault → W.faults source.new ≡ W.faults source.old) }
     ensures later { W.faults source.old ≤ W.faults source.new }
 {
     let bytes = match read_all(alloc, source, 0x400_0000) {
@@ -186,6 +203,8 @@ fn check_uploads<U: Source>(alloc: Global, source: &mut U) -> Result<(), Status>
     ensures refused { IfErr result (λ status. (at : ℕ) → status ≡ Status.Uploads at → (at ≡ 0) × Gave (U.left source.old) (U.left source.new) 1) }
     ensures fault { IfErr result (λ status. status ≡ Status.ReadFault → Rose (U.faults source.old) (U.faults source.new)) }
     ensures complete { IfErr result (λ status. U.left source.old ≡ Some [] → (Rose (U.faults source.old) (U.faults source.new) → ⊥) → status ≡ Status.Memory) }
+    ensures steady { OnOk result (U.faults source.new ≡ U.faults source.old) }
+    ensures steady_else { IfErr result (λ status. status ≢ Status.ReadFault → U.faults source.new ≡ U.faults source.old) }
     ensures later { U.faults source.old ≤ U.faults source.new }
 {
     match read_all(alloc, source, 0) {
@@ -223,6 +242,8 @@ fn keep_journal<O: Sink, D: Disk>(
     ensures memory_stopped { result ≡ Status.Memory → ((D.seen disk.new ≡ D.seen disk.old) × (O.written out.new ≡ O.written out.old))
         ⊎ ((later : List Stored) × (length later ≤ opened.ticks) × Leaves (D.seen disk.old) (D.seen disk.new) (O.written out.old) (O.written out.new) opened.world later) }
     ensures overwrites_nothing { IsEmpty (D.seen disk.old) ⊎ (D.seen disk.new ≡ D.seen disk.old) }
+    ensures write_steady { result ≢ Status.WriteFault → O.faults out.new ≡ O.faults out.old }
+    ensures disk_steady { result ≢ Status.DiskFault → D.faults disk.new ≡ D.faults disk.old }
     ensures out_later { O.faults out.old ≤ O.faults out.new }
     ensures disk_later { D.faults disk.old ≤ D.faults disk.new }
 {
@@ -257,6 +278,9 @@ fn record_start<O: Sink, D: Disk>(
     ensures frame_kept { IfErr result (λ status. status ≡ Status.WriteFault → Appends (D.seen disk.old) (D.seen disk.new) (frame_bytes world.now)) }
     ensures line_cut { IfErr result (λ status. status ≡ Status.WriteFault → AppendsPrefix (O.written out.old) (O.written out.new) (start_line_of world.now)) }
     ensures write_fault { IfErr result (λ status. status ≡ Status.WriteFault → Rose (O.faults out.old) (O.faults out.new)) }
+    ensures steady { OnOk result ((O.faults out.new ≡ O.faults out.old) × (D.faults disk.new ≡ D.faults disk.old)) }
+    ensures write_steady { IfErr result (λ status. status ≢ Status.WriteFault → O.faults out.new ≡ O.faults out.old) }
+    ensures disk_steady { IfErr result (λ status. status ≢ Status.DiskFault → D.faults disk.new ≡ D.faults disk.old) }
     ensures out_later { O.faults out.old ≤ O.faults out.new }
     ensures disk_later { D.faults disk.old ≤ D.faults disk.new }
 {
@@ -298,6 +322,8 @@ fn run_ticks<O: Sink, D: Disk>(
         × GrowsLines (O.written out.old) (O.written out.new) first.world later }
     ensures write_fault { result ≡ Status.WriteFault → Rose (O.faults out.old) (O.faults out.new) }
     ensures disk_fault { result ≡ Status.DiskFault → Rose (D.faults disk.old) (D.faults disk.new) }
+    ensures write_steady { result ≢ Status.WriteFault → O.faults out.new ≡ O.faults out.old }
+    ensures disk_steady { result ≢ Status.DiskFault → D.faults disk.new ≡ D.faults disk.old }
     ensures out_later { O.faults out.old ≤ O.faults out.new }
     ensures disk_later { D.faults disk.old ≤ D.faults disk.new }
 {
@@ -333,6 +359,9 @@ fn one_tick<O: Sink, D: Disk>(
     ensures write_stopped { IfErr result (λ status. status ≡ Status.WriteFault → (next : Stored) × (world_of next ≡ ruled (world_of kept.now.world)) × IsSound next
         × Appends (D.seen disk.old) (D.seen disk.new) (frame_bytes next) × AppendsPrefix (O.written out.old) (O.written out.new) (tick_line_of next)) }
     ensures write_fault { IfErr result (λ status. status ≡ Status.WriteFault → Rose (O.faults out.old) (O.faults out.new)) }
+    ensures steady { OnOk result ((O.faults out.new ≡ O.faults out.old) × (D.faults disk.new ≡ D.faults disk.old)) }
+    ensures write_steady { IfErr result (λ status. status ≢ Status.WriteFault → O.faults out.new ≡ O.faults out.old) }
+    ensures disk_steady { IfErr result (λ status. status ≢ Status.DiskFault → D.faults disk.new ≡ D.faults disk.old) }
     ensures out_later { O.faults out.old ≤ O.faults out.new }
     ensures disk_later { D.faults disk.old ≤ D.faults disk.new }
 {
@@ -369,6 +398,9 @@ fn record<O: Sink, D: Disk>(
     ensures frame_kept { IfErr result (λ status. status ≡ Status.WriteFault → Appends (D.seen disk.old) (D.seen disk.new) frame.now) }
     ensures line_cut { IfErr result (λ status. status ≡ Status.WriteFault → AppendsPrefix (O.written out.old) (O.written out.new) line.now) }
     ensures write_fault { IfErr result (λ status. status ≡ Status.WriteFault → Rose (O.faults out.old) (O.faults out.new)) }
+    ensures steady { OnOk result ((O.faults out.new ≡ O.faults out.old) × (D.faults disk.new ≡ D.faults disk.old)) }
+    ensures write_steady { IfErr result (λ status. status ≢ Status.WriteFault → O.faults out.new ≡ O.faults out.old) }
+    ensures disk_steady { IfErr result (λ status. status ≢ Status.DiskFault → D.faults disk.new ≡ D.faults disk.old) }
     ensures out_later { O.faults out.old ≤ O.faults out.new }
     ensures disk_later { D.faults disk.old ≤ D.faults disk.new }
 {

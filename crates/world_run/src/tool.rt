@@ -1,5 +1,5 @@
 // Commands that only read, and keep nothing.
-ghost use Rattle.std.specs.Prelude.{◌≡◌, ◌⊎◌, ℕ, ◌≤◌, List, map, string_bytes, Some, IfErr, OnOk};
+ghost use Rattle.std.specs.Prelude.{◌≡◌, ◌≢◌, ◌⊎◌, ℕ, ◌≤◌, List, map, string_bytes, Some, IfErr, OnOk};
 ghost use Rattle.std.specs.Io.KnownBytes.{Appends};
 ghost use Rattle.world_io.specs.Causes.{Rose};
 ghost use Rattle.world_io.specs.Told.{AppendsPrefix};
@@ -56,6 +56,13 @@ pub fn tool_main<S: Source, O: Sink, D: Disk>(
         × AppendsPrefix (O.written out.old) (O.written out.new) (answer_line answer) }
     ensures disk { (D.seen _disk.new ≡ D.seen _disk.old) × (D.faults _disk.new ≡ D.faults _disk.old) }
 
+    // Words that are none of a check read nothing.
+    ensures unread { result ≡ Status.Usage → S.left input.new ≡ S.left input.old }
+
+    // No failure is passed over: a count stays but where its fault is answered.
+    ensures read_steady { result ≢ Status.ReadFault → S.faults input.new ≡ S.faults input.old }
+    ensures write_steady { result ≢ Status.WriteFault → O.faults out.new ≡ O.faults out.old }
+
     // The counts never fall.
     ensures input_later { S.faults input.old ≤ S.faults input.new }
     ensures out_later { O.faults out.old ≤ O.faults out.new }
@@ -89,6 +96,7 @@ fn answer<S: Source>(alloc: Global, input: &mut S) -> Status
     ensures fault { result ≡ Status.ReadFault → Rose (S.faults input.old) (S.faults input.new) }
     ensures complete { (bytes : List ℕ) → S.left input.old ≡ Some bytes → (Rose (S.faults input.old) (S.faults input.new) → ⊥)
         → (result ≡ Status.Memory) ⊎ Checks bytes result }
+    ensures steady { result ≢ Status.ReadFault → S.faults input.new ≡ S.faults input.old }
     ensures later { S.faults input.old ≤ S.faults input.new }
 {
     match read_all(alloc, input, MOST_BYTES) {
@@ -118,6 +126,7 @@ fn print<O: Sink>(out: &mut O, answer: Status) -> Status
     ensures line { IsAnswer result → Appends (O.written out.old) (O.written out.new) (answer_line answer) }
     ensures line_cut { result ≡ Status.WriteFault → AppendsPrefix (O.written out.old) (O.written out.new) (answer_line answer) }
     ensures fault { result ≡ Status.WriteFault → Rose (O.faults out.old) (O.faults out.new) }
+    ensures steady { result ≢ Status.WriteFault → O.faults out.new ≡ O.faults out.old }
     ensures later { O.faults out.old ≤ O.faults out.new }
 {
     match write_all(out, line_of(answer).as_bytes()) {

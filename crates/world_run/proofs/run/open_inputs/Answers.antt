@@ -1,3 +1,4 @@
+use Rattle.std.proofs.Common.{inr}
 use Rattle.std.proofs.lemmas.Result.{err_from_is_err_and}
 use Rattle.world_rules.specs.World.{world_of}
 use Rattle.world_run.proofs.run.open_inputs.Goals as goal
@@ -11,3 +12,8 @@ pub returns-in_err-check_uploads-clause-world_accepted : goal.returns-in_err-che
 returns-in_err-check_uploads-clause-world_accepted g c =
     let p = err_from_is_err_and c.from_residual-in_err-check_uploads.result c.from_residual-in_err-check_uploads.ensures.1 in
     rw (p.1, p.2) (λ past. (world_of c.in_ok-world.world, c.in_ok-world.ensures.found))
+
+pub returns-in_err-check_uploads-clause-read_fault : goal.returns-in_err-check_uploads-clause-read_fault
+returns-in_err-check_uploads-clause-read_fault g c =
+    let p = err_from_is_err_and c.from_residual-in_err-check_uploads.result c.from_residual-in_err-check_uploads.ensures.1 in
+    rw (p.1, p.2) (λ fault. inr (c.in_err-check_uploads.ensures.fault fault, (world_of c.in_ok-world.world, c.in_ok-world.ensures.found)))

@@ -1,4 +1,4 @@
-use Rattle.std.proofs.Common.{arith}
+use Rattle.std.proofs.Common.{arith, ◌∙◌}
 use Rattle.world_run.proofs.RunsLists.{along_more, along_part, tick_rises}
 use Rattle.world_run.proofs.run.run_ticks.Goals as goal
 
@@ -15,6 +15,6 @@ loop-turn-preserved g c =
       sound = c.in-Ok.ensures.sound;
       tick = omega (arith, tick_rises _ _ c.in-Ok.ensures.ruled);
       end = c.in-Ok.ensures.end;
-      out_later = omega (arith, c.in-Ok.ensures.out_later);
-      disk_later = omega (arith, c.in-Ok.ensures.disk_later);
+      out_steady = c.in-Ok.ensures.steady.0 ∙ c.loop-turn.invariant.out_steady;
+      disk_steady = c.in-Ok.ensures.steady.1 ∙ c.loop-turn.invariant.disk_steady;
     }

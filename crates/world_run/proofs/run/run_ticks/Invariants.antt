@@ -1,4 +1,4 @@
-use Rattle.std.proofs.Common.{◌≡◌, ◌+◌, ◌≤◌}
+use Rattle.std.proofs.Common.{◌≡◌, ◌+◌}
 use Rattle.world_io.specs.Disk.{LengthIs}
 use Rattle.world_rules.specs.Sound.{IsSound}
 use Rattle.world_run.proofs.RunsLists.{Along}
@@ -11,6 +11,6 @@ invariant-loop-turn g l =
       sound : IsSound l.kept.world;
       tick : l.kept.world.tick ≡ l.fn.first.world.tick + l._turn;
       end : LengthIs (g.D.Disk.seen l.disk) l.kept.end;
-      out_later : g.O.Sink.faults l.fn.out ≤ g.O.Sink.faults l.out;
-      disk_later : g.D.Disk.faults l.fn.disk ≤ g.D.Disk.faults l.disk;
+      out_steady : g.O.Sink.faults l.out ≡ g.O.Sink.faults l.fn.out;
+      disk_steady : g.D.Disk.faults l.disk ≡ g.D.Disk.faults l.fn.disk;
     }
