@@ -1,0 +1,532 @@
+#!/usr/bin/env python3
+"""Runs the built program over real files and compares all that it does: exit status, standard output and
+standard error byte for byte, and each file of the folder that it runs in, before and after.
+
+It runs behind `rt ci`, which builds crates/world_server/out/world_server. What is compared with comes from
+a second, slow writing of the formats and of the tick in this file, or from the documents: each example of
+README.md and docs/ that calls the built program is run, and has to print what stands there.
+"""
+
+import copy
+import json
+import os
+import re
+import shutil
+import subprocess
+import sys
+import tempfile
+
+TOP = os.path.dirname(os.path.dirname(os.path.abspath(__file__)))
+PROGRAM = os.path.join(TOP, "crates/world_server/out/world_server")
+MIB = 1 << 20
+FULL = "/dev/full"
+
+failures = []
+passed = 0
+
+
+def run(words, folder, stdout=None):
+    """Runs the program in a folder: its exit status, its standard output and its standard error."""
+    done = subprocess.run(
+        [PROGRAM, *words], cwd=folder, stdin=subprocess.DEVNULL, stdout=stdout or subprocess.PIPE, stderr=subprocess.PIPE, timeout=120
+    )
+    return done.returncode, done.stdout or b"", done.stderr
+
+
+def files_in(folder):
+    """Each file below a folder with its bytes, and None for a folder."""
+    found = {}
+    for at, folders, names in os.walk(folder):
+        for name in folders:
+            found[os.path.relpath(os.path.join(at, name), folder)] = None
+        for name in names:
+            path = os.path.join(at, name)
+            with open(path, "rb") as it:
+                found[os.path.relpath(path, folder)] = it.read()
+    return found
+
+
+def note(name, faults):
+    global passed
+    if faults:
+        failures.append(name)
+        print(f"FAILED: {name}")
+        for fault in faults:
+            print(f"    {fault}")
+    else:
+        passed += 1
+
+
+def shown(value):
+    text = repr(value)
+    return text if len(text) < 300 else text[:300] + f".. ({len(value)})"
+
+
+def check(name, words, files, status, out=b"", err=b"", after=None, stdout=None):
+    """Runs the program on these files. `after` has the files that are made or changed; all others stay."""
+    with tempfile.TemporaryDirectory() as folder:
+        for path, content in files.items():
+            if content is None:
+                os.mkdir(os.path.join(folder, path))
+            elif isinstance(content, int):
+                # (so many bytes of 0, which take no room)
+                with open(os.path.join(folder, path), "wb") as it:
+                    it.truncate(content)
+            else:
+                with open(os.path.join(folder, path), "wb") as it:
+                    it.write(content)
+        before = files_in(folder)
+        found = run(words, folder, stdout)
+        wanted = (status, out, err)
+        names = ("exit status", "standard output", "standard error")
+        faults = [f"{what}: {shown(got)}, wanted {shown(want)}" for what, got, want in zip(names, found, wanted) if got != want]
+        left, wanted_files = files_in(folder), {**before, **(after or {})}
+        for path in sorted({*left, *wanted_files}):
+            if path not in left:
+                faults.append(f"{path}: no such file, wanted {shown(wanted_files[path])}")
+            elif path not in wanted_files:
+                faults.append(f"{path}: a file that should not be there: {shown(left[path])}")
+            elif left[path] != wanted_files[path]:
+                faults.append(f"{path}: {shown(left[path])}, wanted {shown(wanted_files[path])}")
+    note(name, faults)
+
+
+# ---- worlds: the file, its text as it is written, the tick, the lines
+
+CORNERS = (0, 49, 2450, 2499)
+
+
+def grounds(**others):
+    tiles = ["0"] * 2500
+    for corner in CORNERS:
+        tiles[corner] = "1"
+    for tile, ground in others.get("tiles", {}).items():
+        tiles[tile] = ground
+    return "".join(tiles)
+
+
+def thing(kind, id, x, y, **fields):
+    return {"id": id, "kind": kind, "x": x, "y": y, **fields}
+
+
+def room(name, next, *objects, terrain=None):
+    return {"name": name, "terrain": terrain or grounds(), "next": next, "objects": list(objects)}
+
+
+def world(*rooms, tick=0):
+    return {"version": 1, "tick": tick, "rooms": list(rooms), "players": []}
+
+
+FIELDS = ("owner", "hits", "energy", "timer", "extra", "progress", "other", "other_ticks")
+
+
+def full(it):
+    """A world with every key of each object."""
+    it = copy.deepcopy(it)
+    for place in it["rooms"]:
+        for one in place["objects"]:
+            for field in FIELDS:
+                one.setdefault(field, 0)
+            one.setdefault("body", [])
+        place["objects"].sort(key=lambda one: one["id"])
+    return it
+
+
+def text_of(it):
+    return json.dumps(full(it), sort_keys=True, separators=(",", ":")).encode()
+
+
+def frame(it):
+    text = text_of(it)
+    return len(text).to_bytes(8, "little") + text
+
+
+def ticked(it):
+    it = full(it)
+    it["tick"] += 1
+    for place in it["rooms"]:
+        left = []
+        for one in place["objects"]:
+            if one["kind"] == "source":
+                if one["timer"] > 0:
+                    one["timer"] -= 1
+                    if one["timer"] == 0:
+                        one["energy"] = max(one["energy"], 1500)
+                elif one["energy"] < 1500:
+                    one["timer"] = 300
+            if one["kind"] == "pile":
+                one["energy"] -= (one["energy"] + 999) // 1000
+            if one["kind"] == "source" or one["energy"] > 0:
+                left.append(one)
+        place["objects"] = left
+    return it
+
+
+def objects_of(it):
+    return [one for place in it["rooms"] for one in place["objects"]]
+
+
+def start_line(it):
+    return f"start tick {it['tick']} rooms {len(it['rooms'])} objects {len(objects_of(it))} players 0\n".encode()
+
+
+def tick_line(it):
+    energy = sum(one.get("energy", 0) for one in objects_of(it))
+    return f"tick {it['tick']} objects {len(objects_of(it))} intents 0 energy {energy}\n".encode()
+
+
+def worlds_of(first, ticks):
+    worlds = [full(first)]
+    for _ in range(ticks):
+        worlds.append(ticked(worlds[-1]))
+    return worlds
+
+
+def journal(first, ticks):
+    return b"".join(frame(it) for it in worlds_of(first, ticks))
+
+
+def lines(first, ticks):
+    worlds = worlds_of(first, ticks)
+    return start_line(worlds[0]) + b"".join(tick_line(it) for it in worlds[1:])
+
+
+SMALL = world(room("E0S0", 3, thing("source", 1, 10, 10, timer=1), thing("pile", 2, 20, 20, energy=1001)))
+SECOND = 1 << 32
+WIDE = world(
+    room("W3N7", 9, thing("pile", 8, 0, 20, energy=1), thing("source", 3, 1, 1, energy=3000, timer=300)),
+    room(
+        "E127S127",
+        5,
+        thing("source", SECOND + 1, 5, 5, energy=1499),
+        thing("pile", SECOND + 4, 5, 5, energy=1_000_000_000),
+        thing("pile", 7, 6, 6, energy=2000),
+        terrain=grounds(tiles={5 * 50 + 5: "1", 30: "2"}),
+    ),
+    tick=2**53 - 7,
+)
+
+
+def bytes_of(it):
+    return json.dumps(it, indent=1).encode()
+
+
+def refused(number, text):
+    return f"fault {number} {text}\n".encode()
+
+
+RUN = ["run", "world.json", "uploads.bin", "journal.bin", "--ticks", "1"]
+
+
+def inputs(first=None, uploads=b"", **others):
+    return {"world.json": bytes_of(SMALL) if first is None else first, "uploads.bin": uploads, **others}
+
+
+def ticks(n):
+    return [*RUN[:-1], str(n)]
+
+
+def check_runs():
+    check("a run of one tick", RUN, inputs(), 0, lines(SMALL, 1), after={"journal.bin": journal(SMALL, 1)})
+    check("a run of no tick", ticks(0), inputs(), 0, lines(SMALL, 0), after={"journal.bin": journal(SMALL, 0)})
+    check("a run of many ticks", ticks("0305"), inputs(), 0, lines(SMALL, 305), after={"journal.bin": journal(SMALL, 305)})
+    check("an empty journal", RUN, inputs(**{"journal.bin": b""}), 0, lines(SMALL, 1), after={"journal.bin": journal(SMALL, 1)})
+    check("two rooms", ticks(9), inputs(bytes_of(WIDE)), 0, lines(WIDE, 9), after={"journal.bin": journal(WIDE, 9)})
+    check("a world as it is written", RUN, inputs(text_of(WIDE)), 0, lines(WIDE, 1), after={"journal.bin": journal(WIDE, 1)})
+    other = {"one": bytes_of(WIDE), "two": b"", "world.json": bytes_of(SMALL), "uploads.bin": b"x", "journal.bin": b"kept"}
+    words = ["run", "one", "two", "-three", "--ticks", "2"]
+    check("each path is the one that was given", words, other, 0, lines(WIDE, 2), after={"-three": journal(WIDE, 2)})
+    big = world(*[room(f"E{n % 20}S{n // 20}", 51, *[thing("pile", (n << 32) + k, k, 3, energy=10**9) for k in range(1, 49)]) for n in range(400)])
+    check("400 rooms", RUN, inputs(bytes_of(big)), 0, lines(big, 1), after={"journal.bin": journal(big, 1)})
+
+
+def check_refusals():
+    made = {"journal.bin": b""}
+    for uploads in (b"\0", b"uploads", bytes(100_000)):
+        check(f"{len(uploads)} bytes of uploads", RUN, inputs(uploads=uploads), 4, err=refused(4, "Uploads 0"), after=made)
+    for kept in (b"h", b"hello", journal(SMALL, 1)):
+        files = inputs(**{"journal.bin": kept})
+        check(f"a journal of {len(kept)} bytes", RUN, files, 8, err=refused(8, "NotAJournal 0"))
+        check(f"a world file that is refused, and a journal of {len(kept)} bytes", RUN, {**files, "world.json": b""}, 3, err=refused(3, "World NotJson"))
+    check("the world file before the uploads", RUN, inputs(b"", b"x"), 3, err=refused(3, "World NotJson"), after=made)
+    check("the uploads before the journal", RUN, inputs(uploads=b"x", **{"journal.bin": b"kept"}), 4, err=refused(4, "Uploads 0"))
+
+
+def changed(**keys):
+    """The small world with keys of its parts changed; a key that is given None is taken out."""
+    it = copy.deepcopy(SMALL)
+    places = {"top": it, "room": it["rooms"][0], "source": it["rooms"][0]["objects"][0], "pile": it["rooms"][0]["objects"][1]}
+    for place, values in keys.items():
+        for key, value in values.items():
+            if value is None:
+                del places[place][key]
+            else:
+                places[place][key] = value
+    return bytes_of(it)
+
+
+def check_world_faults():
+    made = {"journal.bin": b""}
+    cases = [
+        ("NotJson", b""),
+        ("NotJson", b"{"),
+        ("NotJson", b"\xff"),
+        ("NotJson", bytes_of(SMALL) + b"x"),
+        ("Missing Version", b"{}"),
+        ("Missing Version", b"[]"),
+        ("Missing Tick", changed(top={"tick": None})),
+        ("Missing Rooms", changed(top={"rooms": None})),
+        ("BadValue Version 0", changed(top={"version": 2})),
+        ("BadValue Tick 0", changed(top={"tick": 2**53 + 1})),
+        ("BadValue Tick 0", changed(top={"tick": -1})),
+        ("BadValue Tick 0", changed(top={"tick": 1.0})),
+        ("BadValue Rooms 0", changed(top={"rooms": {}})),
+        ("BadValue Players 0", changed(top={"players": [{}]})),
+        ("Missing Name", changed(room={"name": None})),
+        ("Missing Terrain", changed(room={"terrain": None})),
+        ("Missing Next", changed(room={"next": None})),
+        ("Missing Objects", changed(room={"objects": None})),
+        ("BadValue Name 0", changed(room={"name": "E128S0"})),
+        ("BadValue Name 0", changed(room={"name": "E00S0"})),
+        ("BadValue Terrain 0", changed(room={"terrain": grounds()[:-1]})),
+        ("BadValue Terrain 0", changed(room={"terrain": grounds(tiles={7: "3"})})),
+        ("BadValue Next 0", changed(room={"next": 0})),
+        ("BadValue Next 0", changed(room={"next": 2**32})),
+        ("BadValue Objects 0", changed(room={"objects": 0})),
+        ("Missing Id", changed(source={"id": None})),
+        ("Missing Kind", changed(pile={"kind": None})),
+        ("Missing X", changed(pile={"x": None})),
+        ("Missing Y", changed(source={"y": None})),
+        ("BadValue Id 1", changed(pile={"id": 0})),
+        ("BadValue Kind 1", changed(pile={"kind": "heap"})),
+        ("NotBuilt creep", changed(pile={"kind": "creep"})),
+        ("NotBuilt tower", changed(pile={"kind": "tower"})),
+        ("BadValue X 0", changed(source={"x": 50})),
+        ("BadValue Y 1", changed(pile={"y": 50})),
+        ("BadValue Owner 1", changed(pile={"owner": 2**32})),
+        ("BadValue Body 0", changed(source={"body": ["leg"]})),
+        ("BadValue Hits 0", changed(source={"hits": "1"})),
+        ("BadValue Energy 1", changed(pile={"energy": 2**53 + 1})),
+        ("BadValue Timer 0", changed(source={"timer": 2**32})),
+        ("BadValue Extra 0", changed(source={"extra": []})),
+        ("BadValue Progress 0", changed(source={"progress": 2**53 + 1})),
+        ("BadValue Other 0", changed(source={"other": True})),
+        ("BadValue OtherTicks 0", changed(source={"other_ticks": 2**32})),
+        ("Rule Counts 0", bytes_of(world())),
+        ("Rule RoomTwice 1", bytes_of(world(room("E0S0", 3), room("E0S0", 3)))),
+        ("Rule Corner 0", changed(room={"terrain": grounds(tiles={2499: "0"})})),
+        ("Rule Serial 3", changed(pile={"id": 3})),
+        ("Rule Serial 4294967297", changed(pile={"id": SECOND + 1})),
+        ("Rule IdTwice 2", changed(source={"id": 2})),
+        ("Rule Tile 2", changed(room={"terrain": grounds(tiles={20 * 50 + 20: "1"})})),
+        ("Rule Tile 1", changed(source={"x": 0})),
+        ("Rule Shared 2", changed(pile={"kind": "source", "energy": 0, "x": 10, "y": 10})),
+        ("Rule Owner 1", changed(source={"owner": 1})),
+        ("Rule Range 1", changed(source={"energy": 3001})),
+        ("Rule Range 2", changed(pile={"energy": 0})),
+        ("Rule Range 2", changed(pile={"energy": 1_000_000_001})),
+    ]
+    for fault, content in cases:
+        check(f"World {fault}", RUN, inputs(content), 3, err=refused(3, f"World {fault}"), after=made)
+    # (64 MiB are read, and no byte more is looked at)
+    check("World TooLong", RUN, inputs(64 * MIB + 1), 3, err=refused(3, "World TooLong"), after=made)
+    check("64 MiB of zeros", RUN, inputs(64 * MIB), 3, err=refused(3, "World NotJson"), after=made)
+
+
+def check_faults():
+    made = {"journal.bin": b""}
+    fault = refused(5, "ReadFault")
+    lacking = {path: content for path, content in inputs().items() if path != "world.json"}
+    check("no world file", RUN, lacking, 5, err=fault, after=made)
+    check("no upload stream", RUN, {"world.json": bytes_of(SMALL)}, 5, err=fault, after=made)
+    check("a folder as the world file", RUN, {**lacking, "world.json": None}, 5, err=fault, after=made)
+    check("a world file that is refused, and no upload stream", RUN, {"world.json": b"x"}, 3, err=refused(3, "World NotJson"), after=made)
+    with open(FULL, "wb") as sink:
+        kept = {"journal.bin": journal(SMALL, 0)}
+        check("a full standard output", ticks(7), inputs(), 6, err=refused(6, "WriteFault"), after=kept, stdout=sink)
+    fault = refused(7, "DiskFault")
+    check("a journal in no folder", [*RUN[:3], "none/journal.bin", *RUN[4:]], inputs(), 7, err=fault)
+    check("a folder as the journal", [*RUN[:3], "none", *RUN[4:]], inputs(none=None), 7, err=fault)
+    check("a journal that is full", [*RUN[:3], FULL, *RUN[4:]], inputs(), 7, err=fault)
+
+
+def check_words():
+    path = "module.wasm"
+    lists = [
+        [],
+        [""],
+        ["help"],
+        ["--help"],
+        ["Run", *RUN[1:]],
+        RUN[:-1],
+        RUN[:-2],
+        [*RUN, "1"],
+        [*RUN, "--workers", "1"],
+        [RUN[0], "--ticks", "1", *RUN[1:4]],
+        [*RUN[:4], "--tick", "1"],
+        [*RUN[:4], "--ticks=1"],
+        ["check"],
+        ["check", path, path],
+        ["check", path, "--ticks", "1"],
+        ["replay", "journal.bin"],
+        [*RUN[:2], *RUN[4:]],
+        ["run", b"\xff.json", *RUN[2:]],
+    ]
+    for number in ("", "1000001", "18446744073709551617", "-1", "+1", "1 ", " 1", "0x1", "1.0", "one"):
+        lists.append([*RUN[:-1], number])
+    for words in lists:
+        files = inputs(**{path: LOOP})
+        check(f"the words {words}", words, files, 2, err=refused(2, "Usage"))
+
+
+# ---- modules
+
+
+def leb(number):
+    out = b""
+    while number >= 0x80:
+        out += bytes([number & 0x7F | 0x80])
+        number >>= 7
+    return out + bytes([number])
+
+
+def section(number, content):
+    return bytes([number]) + leb(len(content)) + content
+
+
+OPENING = b"\0asm\1\0\0\0"
+
+
+def module(bodies, locals=b"\0", before=b""):
+    """A module of functions with these bodies, which take and give nothing."""
+    codes = b"".join(leb(len(locals + body)) + locals + body for body in bodies)
+    types = section(1, b"\1\x60\0\0")
+    funcs = section(3, leb(len(bodies)) + b"\0" * len(bodies))
+    return OPENING + types + funcs + before + section(10, leb(len(bodies)) + codes)
+
+
+LOOP = module([b"\3\x40\x0c\0\x0b\x0b"], before=section(7, b"\1\4loop\0\0"))
+
+
+def nest(depth):
+    return module([b"\2\x40" * depth + b"\x0b" * (depth + 1)])
+
+
+def padded(length):
+    """A module of a custom section, so many bytes long."""
+    rest = length - len(OPENING) - 4
+    return OPENING + b"\0" + leb(rest).rjust(3, b"\0") + b"\1x" + bytes(rest - 2)
+
+
+def check_modules():
+    path = "module.wasm"
+    decoded = [
+        ("the loop module", LOOP),
+        ("the least module", OPENING),
+        ("a module of one mebibyte", padded(MIB)),
+        ("a nest of 200", nest(200)),
+        ("10,000 functions", module([b"\x0b"] * 10_000)),
+        ("65,536 locals", module([b"\x0b"], b"\1" + leb(65_536) + b"\x7f")),
+        ("256 pages", OPENING + section(5, b"\1\0" + leb(256))),
+        ("65,536 entries", OPENING + section(4, b"\1\x70\0" + leb(65_536))),
+        ("floats", module([b"\x43\0\0\0\0\x1a\x0b"], b"\1\1\x7d")),
+    ]
+    for name, content in decoded:
+        files = {path: content, "other.wasm": b"other"}
+        check(name, ["check", path], files, 0, b"decoded\n")
+        with open(FULL, "wb") as sink:
+            check(f"{name}, to a full standard output", ["check", path], files, 6, err=refused(6, "WriteFault"), stdout=sink)
+    malformed = [
+        ("no byte", b""),
+        ("half the opening", OPENING[:4]),
+        ("another version", b"\0asm\2\0\0\0"),
+        ("a byte too many", LOOP + b"\0"),
+        ("a byte too few", LOOP[:-1]),
+        ("a nest of 100,000 that is cut", nest(100_000)[:-1]),
+        ("an opcode that is none", module([b"\xc0\x0b"])),
+        ("a sign extension", module([b"\x41\0\xc0\x1a\x0b"])),
+        ("one mebibyte of zeros", bytes(MIB)),
+    ]
+    for name, content in malformed:
+        files = {path: content, "other.wasm": LOOP}
+        check(name, ["check", path], files, 12, b"refused Malformed\n", refused(12, "Refused Malformed"))
+    too_large = [
+        ("a byte more than a mebibyte", padded(MIB + 1)),
+        ("a hundred mebibytes of zeros", 100 * MIB),
+        ("a nest of 201", nest(201)),
+        ("a nest of 300,000", nest(300_000)),
+        ("10,001 functions", module([b"\x0b"] * 10_001)),
+        ("65,537 locals", module([b"\x0b"], b"\2\1\x7f" + leb(65_536) + b"\x7f")),
+        ("257 pages", OPENING + section(5, b"\1\0" + leb(257))),
+        ("65,537 entries", OPENING + section(4, b"\1\x70\0" + leb(65_537))),
+    ]
+    for name, content in too_large:
+        files = {path: content, "other.wasm": LOOP}
+        check(name, ["check", path], files, 12, b"refused TooLarge\n", refused(12, "Refused TooLarge"))
+    fault = refused(5, "ReadFault")
+    check("no module", ["check", path], {"other.wasm": LOOP}, 5, err=fault)
+    check("a folder as the module", ["check", path], {path: None}, 5, err=fault)
+    check("a path that begins with -", ["check", "-m"], {"-m": LOOP}, 0, b"decoded\n")
+
+
+# ---- the documents
+
+CALL = "crates/world_server/out/world_server "
+
+
+def examples_of(text):
+    """The calls of the program in indented blocks, each with the lines that stand behind it in its block."""
+    found, last = [], None
+    for line in text.splitlines():
+        if line.startswith("    " + CALL):
+            last = (line.strip(), [])
+            found.append(last)
+        elif line.startswith("    ") and last:
+            last[1].append(line[4:])
+        elif line.strip():
+            last = None
+    return found
+
+
+def check_documents():
+    paths = [os.path.join(TOP, "README.md")]
+    paths += sorted(os.path.join(TOP, "docs", it) for it in os.listdir(os.path.join(TOP, "docs")) if it.endswith(".md"))
+    count = 0
+    with tempfile.TemporaryDirectory() as folder:
+        for part in ("worlds", "modules"):
+            shutil.copytree(os.path.join(TOP, part), os.path.join(folder, part))
+        for path in paths:
+            with open(path, encoding="utf-8") as it:
+                found = examples_of(it.read())
+            for call, printed in found:
+                count += 1
+                for left in os.listdir(folder):
+                    if left.endswith(".journal"):
+                        os.remove(os.path.join(folder, left))
+                status, out, err = run(call[len(CALL) :].split(), folder)
+                wanted = "".join(f"{line}\n" for line in printed).encode()
+                faults = [] if out + err == wanted else [f"printed {shown(out + err)}, in the document {shown(wanted)}"]
+                # (a fault line says the exit status)
+                said = re.match(rb"fault (\d+) ", err)
+                if status != (int(said[1]) if said else 0):
+                    faults.append(f"exit status {status}")
+                note(f"{os.path.relpath(path, TOP)}: {call}", faults)
+    note("the documents have examples", [] if count >= 3 else [f"only {count} were found"])
+
+
+def main():
+    if not os.path.isfile(PROGRAM):
+        sys.exit(f"{os.path.relpath(__file__)}: there is no {os.path.relpath(PROGRAM)}: `rt ci` builds it")
+    check_runs()
+    check_refusals()
+    check_world_faults()
+    check_faults()
+    check_words()
+    check_modules()
+    check_documents()
+    print(f"{os.path.relpath(__file__, TOP)}:")
+    print(f"{passed} passed, {len(failures)} failed")
+    sys.exit(1 if failures else 0)
+
+
+main()
