@@ -1,4 +1,3 @@
-use Rattle.std.proofs.Common.{refl}
 use Rattle.ruled_tick.proofs.Rising.{comes_last}
 use Rattle.ruled_tick.proofs.tick.push_accounts.Goals as goal
 
