@@ -1,5 +1,5 @@
 -- What is true of an object by its kind.
-use Rattle.std.specs.Prelude.{ℕ, ◌*◌, ◌==◌, Bool, true, false, if◌then◌else◌, Option, Some, None, List, [], length}
+use Rattle.std.specs.Prelude.{ℕ, ◌+◌, ◌*◌, ◌/◌, ◌==◌, Bool, true, false, if◌then◌else◌, Option, Some, None, List, [], length}
 use Rattle.game_tables.specs.declared.kind.Kind.{Kind}
 use Rattle.game_tables.specs.declared.kind.Kind.TheVariants.{Source, Controller, Creep, Spawn, Extension, Storage, Container, Road, Site}
 use Rattle.game_tables.specs.declared.kind.Part.{Part}
@@ -88,3 +88,11 @@ building_room _ level = 0
 abbrev pub source_room : Bool → ℕ
 source_room true = 3000
 source_room false = 1500
+
+-- the ticks after which a source that was not full is filled
+abbrev pub renewal_timer : ℕ
+renewal_timer = 300
+
+-- what a pile loses in a tick: a thousandth of its energy, rounded up
+abbrev pub pile_loss : ℕ → ℕ
+pile_loss energy = (energy + 999) / 1000

@@ -3,6 +3,10 @@ use Rattle.std.specs.Prelude.{ℕ, Option, Some, None, List, [], ◌∷◌, slic
 use Rattle.game_tables.specs.declared.kind.Kind.{Kind}
 use Rattle.game_tables.specs.declared.kind.Kind.TheVariants.{Spawn, Extension, Storage, Container, Road}
 
+-- the greatest level
+abbrev pub last_level : ℕ
+last_level = 8
+
 -- the progress at which the next level is reached
 abbrev pub totals : List (Option ℕ)
 totals = None ∷ Some 200 ∷ Some 45000 ∷ Some 135000 ∷ Some 405000 ∷ Some 1215000 ∷ Some 3645000 ∷ Some 10935000 ∷ None ∷ []

@@ -5,5 +5,6 @@ pub mod Fields
 pub mod Held
 pub mod Kinds
 pub mod Levels
+pub mod Limits
 pub mod Numbers
 pub mod Texts

@@ -1,12 +1,9 @@
 // A creep's body.
 ghost use Rattle.std.specs.Prelude.{◌≡◌, ◌-◌, ◌<◌, ◌≤◌, [], ◌∷◌, ◌++◌, ◌↔◌, IsTrue, length, slice_get, option_copied};
-ghost use Rattle.game_tables.specs.Bodies.{body_cost, has_part, lifetime, live_count, live_parts, load_room, part_hits};
+ghost use Rattle.game_tables.specs.Bodies.{body_cost, has_part, lifetime, live_count, live_parts, load_room, part_hits, parts_bound};
 
 use crate::kind::Part;
 use std::marker::Model;
-
-/// The most parts of a body.
-pub const MOST_PARTS: usize = 50;
 
 /// A list of at most 50 parts, held without an allocation.
 ///
@@ -32,6 +29,13 @@ impl Model for Body {
     ghost inverse = { held };
 
     ghost inverse_ok = { held_ok };
+}
+
+/// The most parts of a body.
+pub fn most_parts() -> u32
+    ensures { result ≡ parts_bound }
+{
+    50
 }
 
 impl Body {

@@ -1,6 +1,6 @@
 // What is true of an object by its kind.
 ghost use Rattle.std.specs.Prelude.{◌≡◌};
-ghost use Rattle.game_tables.specs.Kinds.{building, building_room, decay_timer, hits_when_built, in_owned_room, most_hits, obstructing, owned, site_kind, source_room, work_to_build};
+ghost use Rattle.game_tables.specs.Kinds.{building, building_room, decay_timer, hits_when_built, in_owned_room, most_hits, obstructing, owned, pile_loss, renewal_timer, site_kind, source_room, work_to_build};
 
 use crate::body::Body;
 use crate::kind::Kind;
@@ -127,6 +127,20 @@ pub fn source_capacity(is_held: bool) -> u64
     if is_held { 3_000 } else { 1_500 }
 }
 
+/// The ticks after which a source that was not full is filled.
+pub fn renewal_ticks() -> u32
+    ensures { result ≡ renewal_timer }
+{
+    300
+}
+
+/// What a pile loses in a tick: a thousandth of its energy, rounded up.
+pub fn pile_decay(energy: u64) -> u64
+    ensures { result ≡ pile_loss energy }
+{
+    energy.div_ceil(1_000)
+}
+
 #[cfg(test)]
 mod tests {
     use super::*;
@@ -148,5 +162,9 @@ mod tests {
         assert_eq!(rt; full_timer(Kind::Container, false), 100);
         assert_eq!(rt; store_capacity(Kind::Extension, 7), 100);
         assert_eq!(rt; source_capacity(true), 3_000);
+        assert_eq!(rt; renewal_ticks(), 300);
+        assert_eq!(rt; pile_decay(1_000), 1);
+        assert_eq!(rt; pile_decay(1_001), 2);
+        assert_eq!(rt; pile_decay(0xffff_ffff_ffff_ffff), 18_446_744_073_709_552);
     }
 }

@@ -3,22 +3,19 @@ ghost use Rattle.std.specs.Prelude.{◌≡◌};
 ghost use Rattle.game_tables.specs.Fields.{energy_bound, extra_bound, other_ticks_bound, timer_bound};
 
 use crate::body::Body;
+use crate::by_kind::{full_timer, renewal_ticks, source_capacity, store_capacity};
 use crate::kind::Kind;
-use crate::level::downgrade_number;
+use crate::level::{LAST_LEVEL, downgrade_number};
 
 /// The most energy, of a creep by its hits and its body.
 pub fn most_energy(kind: Kind, hits: u32, body: &Body) -> u64
     ensures { result ≡ energy_bound kind hits body.now }
 {
     match kind {
-        Kind::Source => 3_000,
+        Kind::Source => source_capacity(true),
         Kind::Creep => body.capacity(hits) as u64,
-        Kind::Spawn => 300,
-        Kind::Extension => 200,
-        Kind::Storage => 1_000_000,
-        Kind::Container => 2_000,
         Kind::Pile => 1_000_000_000,
-        _ => 0,
+        _ => store_capacity(kind, LAST_LEVEL),
     }
 }
 
@@ -27,13 +24,11 @@ pub fn most_timer(kind: Kind, level: u8, body: &Body) -> u32
     ensures { result ≡ timer_bound kind level body.now }
 {
     match kind {
-        Kind::Source => 300,
+        Kind::Source => renewal_ticks(),
         Kind::Controller => downgrade_number(level).unwrap_or(0),
         Kind::Creep => body.lifetime(),
         Kind::Spawn => 3 * body.parts().len() as u32,
-        Kind::Container => 500,
-        Kind::Road => 1_000,
-        _ => 0,
+        _ => full_timer(kind, true),
     }
 }
 
@@ -42,8 +37,9 @@ pub fn most_extra(kind: Kind) -> u32
     ensures { result ≡ extra_bound kind }
 {
     match kind {
-        Kind::Controller | Kind::Site => 8,
+        Kind::Controller => LAST_LEVEL as u32,
         Kind::Creep => 500,
+        Kind::Site => 8,
         _ => 0,
     }
 }

@@ -4,6 +4,9 @@ ghost use Rattle.game_tables.specs.Levels.{count_at, counts, downgrade_at, total
 
 use crate::kind::Kind;
 
+/// The greatest level.
+pub const LAST_LEVEL: u8 = 8;
+
 const TOTALS: [Option<u32>; 9] = [
     None,
     Some(200),

@@ -1,13 +1,13 @@
 // The objects of the world, the tables of its rooms, and the world as it is stored.
 #![tactic(auto)]
 
-pub mod account;
-pub mod bytes;
-pub mod object;
-pub mod room_table;
+mod account;
+mod bytes;
+mod object;
+mod room_table;
 #[cfg(test)]
 mod tests;
-pub mod world;
+mod world;
 
 pub use account::Account;
 pub use bytes::Bytes;
@@ -15,4 +15,4 @@ pub use game_tables::{Body, Kind, Part};
 pub use object::Object;
 pub use room_table::RoomTable;
 pub use room_terrain::{Ground, NotAName, Place, RoomName, Terrain};
-pub use world::World;
+pub use world::{Room, World};

@@ -47,15 +47,21 @@ fn bytes_are_a_list(rt: HostRuntime) -> Result<(), Fail> {
     Ok(())
 }
 
-#[test]
-fn an_account_is_copied(rt: HostRuntime) -> Result<(), Fail> {
-    let account = Account {
-        player: 3,
+fn account(player: u32, memory: Bytes) -> Account
+    ensures { result.player ≡ player }
+{
+    Account {
+        player,
         limit: 20,
         bucket: 38,
         points: 15,
-        memory: Bytes::of(rt.alloc(), b"x")?,
-    };
+        memory,
+    }
+}
+
+#[test]
+fn an_account_is_copied(rt: HostRuntime) -> Result<(), Fail> {
+    let account = account(3, Bytes::of(rt.alloc(), b"x")?);
     let copy = account.copy(rt.alloc())?;
     assert_eq!(rt; copy.player, 3);
     assert_eq!(rt; copy.limit, 20);
@@ -91,20 +97,16 @@ fn a_world_has_its_rooms_and_accounts(rt: HostRuntime) -> Result<(), Fail> {
         Terrain::of(alloc, &[Ground::Swamp; 2500])?,
         two_piles(alloc)?,
     )?;
-    world.push_account(Account {
-        player: 1,
-        limit: 0,
-        bucket: 0,
-        points: 0,
-        memory: Bytes::new(alloc),
-    })?;
+    world.push_account(account(1, Bytes::new(alloc)))?;
+    world.push_account(account(3, Bytes::new(alloc)))?;
     assert_eq!(rt; world.tick(), 8);
     assert_eq!(rt; world.rooms(), 1);
     assert_eq!(rt; world.room_list().len(), 1);
     assert_eq!(rt; world.name(0), name);
     assert_eq!(rt; world.terrain(0).at(49, 49), Ground::Swamp);
     assert_eq!(rt; world.room(0).len(), 2);
-    assert_eq!(rt; world.accounts(), 1);
-    assert_eq!(rt; world.account_list().len(), 1);
+    assert_eq!(rt; world.accounts(), 2);
+    assert_eq!(rt; world.account_list().len(), 2);
+    assert_eq!(rt; world.account_list()[1].player, 3);
     Ok(())
 }

@@ -1,6 +1,6 @@
 // The world as it is stored.
 ghost use Rattle.std.specs.Prelude.{◌≡◌, ◌<◌, ◌-◌, ◌+◌, ◌^◌, [], ◌∷◌, ◌++◌, length, slice_get, option_map, Some, None, IfOk, OnOk, OnErr};
-ghost use Rattle.object_store.specs.Stored.{Stored};
+ghost use Rattle.object_store.specs.Stored.{Stored, AreRising, IsLast, HaveRisingTables};
 
 use crate::account::Account;
 use crate::room_table::RoomTable;
@@ -26,13 +26,13 @@ pub struct World {
 
 impl Model for World {
     ghost use Rattle.std.specs.Prelude.{◌<◌, ◌^◌, length};
-    ghost use Rattle.object_store.specs.Stored.{Stored};
+    ghost use Rattle.object_store.specs.Stored.{Stored, AreRising, HaveRisingTables};
 
     ghost Value = { Stored };
 
     ghost view = { λ w. record { tick = w.tick; rooms = w.rooms.items; accounts = w.accounts.items } };
 
-    ghost invariant = { λ w. (length w.rooms.items < 2 ^ 32) × (length w.accounts.items < 2 ^ 32) };
+    ghost invariant = { λ w. (length w.rooms.items < 2 ^ 32) × HaveRisingTables w.rooms.items × (length w.accounts.items < 2 ^ 32) × AreRising w.accounts.items };
 }
 
 impl World {
@@ -65,6 +65,7 @@ impl World {
     pub fn room_list(&self) -> &[Room]
         ensures all { result.now ≡ self.now.rooms }
         ensures within { length result.now < 2 ^ 32 }
+        ensures rising { HaveRisingTables result.now }
     {
         &self.rooms
     }
@@ -104,6 +105,7 @@ impl World {
     pub fn account_list(&self) -> &[Account]
         ensures all { result.now ≡ self.now.accounts }
         ensures within { length result.now < 2 ^ 32 }
+        ensures rising { AreRising result.now }
     {
         &self.accounts
     }
@@ -120,6 +122,7 @@ impl World {
         ensures ok { OnOk result (self.new ≡ record self.old { rooms = self.old.rooms ++ record { name = name; terrain = terrain; table = table } ∷ [] }) }
         ensures err { OnErr result (self.new ≡ self.old) }
     {
+        let _rising = table.objects();
         Ok(
             self.rooms.push(Room {
                 name,
@@ -131,7 +134,8 @@ impl World {
 
     /// Adds an account at the end. Accounts are added in rising player.
     pub fn push_account(&mut self, account: Account) -> Result<(), AllocError>
-        requires { length self.old.accounts + 1 < 2 ^ 32 }
+        requires room { length self.old.accounts + 1 < 2 ^ 32 }
+        requires rising { IsLast account.player self.old.accounts }
         ensures ok { OnOk result (self.new ≡ record self.old { accounts = self.old.accounts ++ account ∷ [] }) }
         ensures err { OnErr result (self.new ≡ self.old) }
     {

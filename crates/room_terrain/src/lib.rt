@@ -1,10 +1,10 @@
 // Rooms: their names, their tiles with the ground on each, and the ways between tiles.
 #![tactic(auto)]
 
-pub mod direction;
-pub mod geometry;
-pub mod name;
-pub mod terrain;
+mod direction;
+mod geometry;
+mod name;
+mod terrain;
 
 pub use direction::Direction;
 pub use geometry::{mirror, range, step};

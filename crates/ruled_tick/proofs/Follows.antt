@@ -5,13 +5,14 @@ use Rattle.std.specs.FinMap.{get, same_map, nat_cmp-IsAntisymmetric}
 use Rattle.std.proofs.lemmas.Option.{slice_get-map}
 use Rattle.object_store.specs.declared.object.Object.{Object}
 use Rattle.object_store.specs.declared.world.Room.{Room}
-use Rattle.object_store.specs.Stored.{Stored}
+use Rattle.object_store.specs.Stored.{Stored, HaveRisingTables}
 use Rattle.world_rules.specs.World.{Placed, listed_room, listing_of, placed, world_of}
 use Rattle.world_rules.specs.Upkeep.{upkeep}
 use Rattle.world_rules.specs.Tick.{ruled}
 use Rattle.world_rules.specs.Sound.{IsSound}
 use Rattle.ruled_tick.specs.Ticked.{upkept, ticked, ticked_room, AreInPlace}
-use Rattle.ruled_tick.proofs.Objects.{upkept-IsSame, upkept-IsInRange}
+use Rattle.ruled_tick.proofs.Objects.{upkept-id, upkept-IsSame, upkept-IsInRange}
+use Rattle.ruled_tick.proofs.Rising.{IsRising-filter_map}
 use Rattle.ruled_tick.proofs.Entries.{changed, under-kept}
 use Rattle.ruled_tick.proofs.Placed.{placed-ticked, get-ticked, get-upkeep}
 use Rattle.ruled_tick.proofs.Kept.{StandsAs, Succeeds, broken_before}
@@ -59,8 +60,14 @@ in_place_as rooms index room (Some before) places is e =
 in_place : (rooms : List Room) → AreInPlace rooms → AreInPlace (map ticked_room rooms)
 in_place rooms places index room h = in_place_as rooms index room (slice_get rooms index) places refl (sym (slice_get-map ticked_room rooms index) ∙ h)
 
+tables_rise : (rooms : List Room) → HaveRisingTables rooms → HaveRisingTables (map ticked_room rooms)
+tables_rise [] rise = tt
+tables_rise (room ∷ rooms) rise = (IsRising-filter_map upkept upkept-id room.table.objects rise.0, tables_rise rooms rise.1)
+
 pub ticked-IsSound : (w : Stored) → IsSound w → IsSound (ticked w)
 ticked-IsSound w s = record {
   places = in_place w.rooms s.places;
+  tables = tables_rise w.rooms s.tables;
+  accounts = s.accounts;
   rules = λ rule n a b broken. s.rules rule n a b (broken_before _ _ (succeeds w s) rule n a b broken);
 }

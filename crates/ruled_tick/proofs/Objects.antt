@@ -3,7 +3,8 @@ use Rattle.std.proofs.Common.{◌≡◌, ◌≢◌, ℕ, ◌-◌, ◌≤◌, ◌
 use Rattle.game_tables.specs.declared.kind.Kind.{Kind}
 use Rattle.game_tables.specs.declared.kind.Kind.TheVariants.{Source, Pile}
 use Rattle.object_store.specs.declared.object.Object.{Object}
-use Rattle.world_rules.specs.Upkeep.{source_renewed, source_capacity, pile_decayed, pile_loss, renewed_as, decayed, decayed_as}
+use Rattle.game_tables.specs.Kinds.{renewal_timer, pile_loss}
+use Rattle.world_rules.specs.Upkeep.{source_renewed, source_capacity, pile_decayed, renewed_as, decayed, decayed_as}
 use Rattle.world_rules.specs.Rules.{IsInRangeAs, IsSource, IsPile}
 use Rattle.ruled_tick.specs.Ticked.{upkept}
 
@@ -25,7 +26,7 @@ abbrev renewed_by : Bool → Bool → Bool → Object → Object
 renewed_by b c d o =
     if b then record o { timer = o.timer - 1 }
     else if c then record o { timer = 0; energy = max o.energy source_capacity }
-    else if d then record o { timer = 300 }
+    else if d then record o { timer = renewal_timer }
     else o
 
 renewed_same : (b c d : Bool) (o : Object) → IsSame o (renewed_by b c d o)

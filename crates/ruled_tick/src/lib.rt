@@ -1,8 +1,8 @@
 // The serial tick of the stored world.
 #![tactic(auto)]
 
-pub mod tick;
-pub mod upkeep;
+mod tick;
+mod upkeep;
 
 pub use std::alloc::AllocError as NoMemory;
 pub use tick::tick_plain;

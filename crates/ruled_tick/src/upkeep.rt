@@ -1,15 +1,12 @@
 // What a tick makes of the objects of a room.
 ghost use Rattle.std.specs.Prelude.{◌≡◌, ◌<◌, ◌^◌, length, filter_map, Some, IfOk};
-ghost use Rattle.world_rules.specs.Upkeep.{source_renewed, pile_loss, pile_decayed as decayed};
+ghost use Rattle.world_rules.specs.Upkeep.{source_renewed, pile_decayed as decayed};
 ghost use Rattle.object_store.specs.Tables.{IsRising};
 ghost use Rattle.ruled_tick.specs.Ticked.{upkept, ticked_table};
 
+use game_tables::{pile_decay, renewal_ticks, source_capacity};
 use object_store::{Kind, Object, RoomTable};
 use std::alloc::{AllocError, Global};
-
-const SOURCE_CAPACITY: u64 = 1500;
-
-const SOURCE_TICKS: u32 = 300;
 
 /// The objects of a room after a tick. The table is made anew in one pass.
 pub fn tick_table(alloc: Global, table: &RoomTable) -> Result<RoomTable, AllocError>
@@ -46,6 +43,7 @@ fn keep_up(object: &Object) -> Option<Object>
 fn renew_source(source: &Object) -> Object
     ensures { result ≡ source_renewed source.now }
 {
+    let capacity = source_capacity(false);
     if source.timer > 1 {
         Object {
             timer: source.timer - 1,
@@ -54,12 +52,12 @@ fn renew_source(source: &Object) -> Object
     } else if source.timer == 1 {
         Object {
             timer: 0,
-            energy: source.energy.max(SOURCE_CAPACITY),
+            energy: source.energy.max(capacity),
             ..*source
         }
-    } else if source.energy < SOURCE_CAPACITY {
+    } else if source.energy < capacity {
         Object {
-            timer: SOURCE_TICKS,
+            timer: renewal_ticks(),
             ..*source
         }
     } else {
@@ -70,19 +68,12 @@ fn renew_source(source: &Object) -> Object
 fn decay_pile(pile: &Object) -> Option<Object>
     ensures { result ≡ decayed pile.now }
 {
-    let energy = pile.energy - loss(pile.energy);
+    let energy = pile.energy - pile_decay(pile.energy);
     if energy == 0 {
         None
     } else {
         Some(Object { energy, ..*pile })
     }
-}
-
-// A thousandth of a pile's energy, rounded up.
-fn loss(energy: u64) -> u64
-    ensures { result ≡ pile_loss energy }
-{
-    energy.div_ceil(1000)
 }
 
 #[cfg(test)]
@@ -130,16 +121,16 @@ pub mod tests {
 
     #[test]
     fn piles_decay(rt: HostRuntime) {
-        for (energy, lost) in [
-            (0, 0),
-            (1, 1),
-            (999, 1),
-            (1000, 1),
-            (1001, 2),
-            (1_000_000_000, 1_000_000),
-            (0xffff_ffff_ffff_ffff, 18_446_744_073_709_552),
+        for (energy, left) in [
+            (0, None),
+            (1, None),
+            (2, Some(1)),
+            (1000, Some(999)),
+            (1001, Some(999)),
+            (1_000_000_000, Some(999_000_000)),
         ] {
-            assert_eq!(rt; loss(energy), lost, "at {energy}");
+            let pile = decay_pile(&object(1, Kind::Pile, energy, 0));
+            assert_eq!(rt; pile.map(|pile| pile.energy), left, "at {energy}");
         }
     }
 

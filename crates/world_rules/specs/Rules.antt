@@ -4,6 +4,8 @@ use Rattle.std.specs.List.{count_by}
 use Rattle.std.specs.FinMap.{get}
 use Rattle.game_tables.specs.declared.kind.Kind.{Kind}
 use Rattle.game_tables.specs.declared.kind.Kind.TheVariants.{Source, Pile}
+use Rattle.game_tables.specs.Fields.{energy_bound, timer_bound}
+use Rattle.game_tables.specs.Limits.{rooms_bound, objects_bound, players_bound, sites_bound}
 use Rattle.room_terrain.specs.declared.terrain.Ground.{Ground}
 use Rattle.room_terrain.specs.declared.terrain.Ground.TheVariants.{Wall}
 use Rattle.room_terrain.specs.Tiles.{tile, IsBorder}
@@ -28,12 +30,12 @@ IsWall grounds x y = slice_get grounds (tile x y) ≡ Some Wall
 abbrev pub IsPlayer : World → ℕ → Type 0
 IsPlayer world player = (account : Account) × (get world.accounts player ≡ Some account)
 
--- There are 1 to 400 rooms, at most 20,000 objects and at most 64 players.
+-- There is a room, and there are no more rooms, objects and players than may be.
 pub record IsWithinCounts (listing : Listing) : Type 0 where
   pub some : 1 ≤ length listing.rooms
-  pub rooms : length listing.rooms ≤ 400
-  pub objects : length (placed listing) ≤ 20000
-  pub players : length listing.accounts ≤ 64
+  pub rooms : length listing.rooms ≤ rooms_bound
+  pub objects : length (placed listing) ≤ objects_bound
+  pub players : length listing.accounts ≤ players_bound
 
 -- An earlier room has the same name.
 abbrev pub HasEarlierName : World → ℕ → Type 0
@@ -70,8 +72,8 @@ HasWrongOwner world object =
 pub record IsSource (object : Object) : Type 0 where
   pub owner : object.owner ≡ 0
   pub hits : object.hits ≡ 0
-  pub energy : object.energy ≤ 3000
-  pub timer : object.timer ≤ 300
+  pub energy : object.energy ≤ energy_bound Source object.hits object.body
+  pub timer : object.timer ≤ timer_bound Source object.extra object.body
   pub extra : object.extra ≡ 0
   pub progress : object.progress ≡ 0
   pub other : object.other ≡ 0
@@ -82,7 +84,7 @@ pub record IsPile (object : Object) : Type 0 where
   pub owner : object.owner ≡ 0
   pub hits : object.hits ≡ 0
   pub some : 1 ≤ object.energy
-  pub energy : object.energy ≤ 1000000000
+  pub energy : object.energy ≤ energy_bound Pile object.hits object.body
   pub timer : object.timer ≡ 0
   pub extra : object.extra ≡ 0
   pub progress : object.progress ≡ 0
@@ -110,7 +112,7 @@ Broken rules.Controllers n listing = (one : ℕ) × (other : ℕ) × (first : Pl
     × (first.room ≡ n) × (second.room ≡ n) × (is_controller first.object.kind ≡ true) × (is_controller second.object.kind ≡ true)
 Broken rules.Range n listing = (object : Placed) × Stands (world_listed listing) n object × ¬ IsInRangeAs object.object.kind object.object
 Broken rules.PlayerTwice n listing = 2 ≤ count_by (λ account. account.player == n) listing.accounts
-Broken rules.Sites n listing = IsPlayer (world_listed listing) n × (100 < count_by (λ entry. is_site entry.1.object.kind && (entry.1.object.owner == n)) (placed listing))
+Broken rules.Sites n listing = IsPlayer (world_listed listing) n × (sites_bound < count_by (λ entry. is_site entry.1.object.kind && (entry.1.object.owner == n)) (placed listing))
 
 -- No rule is broken anywhere.
 abbrev pub KeepsRules : Listing → Type 0

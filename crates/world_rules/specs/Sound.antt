@@ -1,13 +1,15 @@
 -- A world between ticks.
 use Rattle.std.specs.Prelude.{◌≡◌, ◌≢◌, ℕ, Some, slice_get}
 use Rattle.object_store.specs.declared.world.Room.{Room}
-use Rattle.object_store.specs.Stored.{Stored}
+use Rattle.object_store.specs.Stored.{Stored, HaveRisingTables, AreRising}
 use Rattle.world_rules.specs.declared.rule.Rule.{Rule}
 use Rattle.world_rules.specs.declared.rule.Rule.TheVariants.{Counts, Sites}
 use Rattle.world_rules.specs.World.{listing_of}
 use Rattle.world_rules.specs.Rules.{Broken}
 
--- Each table's index is its room's place, and each rule is kept but for the counts, and the sites, which a tick by any intents need not keep.
+-- Each table's index is its room's place, its objects stand in rising id, the accounts stand in rising player, and each rule is kept but for the counts, and the sites, which a tick by any intents need not keep.
 pub record IsSound (stored : Stored) : Type 0 where
   pub places : (index : ℕ) (room : Room) → slice_get stored.rooms index ≡ Some room → room.table.index ≡ index
+  pub tables : HaveRisingTables stored.rooms
+  pub accounts : AreRising stored.accounts
   pub rules : (rule : Rule) (n : ℕ) → rule ≢ Counts → rule ≢ Sites → Broken rule n (listing_of stored) → ⊥

@@ -1,8 +1,8 @@
 -- The steps of upkeep at the end of a tick, each over all objects.
-use Rattle.std.specs.Prelude.{ℕ, ◌+◌, ◌-◌, ◌/◌, ◌==◌, max, false, nat_lt, if◌then◌else◌, List, Option, Some, None, option_map}
+use Rattle.std.specs.Prelude.{ℕ, ◌-◌, ◌==◌, max, false, nat_lt, if◌then◌else◌, List, Option, Some, None, option_map}
 use Rattle.std.specs.List.{filter_map}
 use Rattle.std.specs.FinMap.{from_entries, entries}
-use Rattle.game_tables.specs.Kinds.{source_room}
+use Rattle.game_tables.specs.Kinds.{source_room, renewal_timer, pile_loss}
 use Rattle.game_tables.specs.declared.kind.Kind.{Kind}
 use Rattle.game_tables.specs.declared.kind.Kind.TheVariants.{Source, Pile}
 use Rattle.object_store.specs.declared.object.Object.{Object}
@@ -20,12 +20,12 @@ each change objects = from_entries (kept change (entries objects))
 abbrev pub source_capacity : ℕ
 source_capacity = source_room false
 
--- A timer above 0 falls by 1, and at 0 the energy becomes at least the capacity. A source with timer 0 and less than its capacity gets timer 300.
+-- A timer above 0 falls by 1, and at 0 the energy becomes at least the capacity. A source with timer 0 and less than its capacity gets the timer to its renewal.
 abbrev pub source_renewed : Object → Object
 source_renewed source =
     if nat_lt 1 source.timer then record source { timer = source.timer - 1 }
     else if source.timer == 1 then record source { timer = 0; energy = max source.energy source_capacity }
-    else if nat_lt source.energy source_capacity then record source { timer = 300 }
+    else if nat_lt source.energy source_capacity then record source { timer = renewal_timer }
     else source
 
 abbrev pub renewed_as : Kind → Object → Option Object
@@ -36,11 +36,7 @@ renewed_as _ object = Some object
 abbrev pub renewed : Object → Option Object
 renewed object = renewed_as object.kind object
 
--- what a pile loses: a thousandth of its energy, rounded up
-abbrev pub pile_loss : ℕ → ℕ
-pile_loss energy = (energy + 999) / 1000
-
--- A pile loses that much; at 0 it is removed.
+-- A pile loses a part of its energy; at 0 it is removed.
 abbrev pub pile_decayed : Object → Option Object
 pile_decayed pile = if pile.energy - pile_loss pile.energy == 0 then None else Some (record pile { energy = pile.energy - pile_loss pile.energy })
 

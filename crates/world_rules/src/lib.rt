@@ -3,7 +3,7 @@
 #![tactic(auto)]
 
 mod rows;
-pub mod rule;
+mod rule;
 
 pub use rows::worked_rows;
 pub use rule::Rule;

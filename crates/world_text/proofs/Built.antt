@@ -10,10 +10,11 @@ use Rattle.std.proofs.lemmas.Bool.{cases_lt}
 use Rattle.std.proofs.lemmas.List.{length-map, length-append, length-take-le, take_more, take_all}
 use Rattle.std.proofs.lemmas.List.Sums.{sum_by-cons}
 use Rattle.std.proofs.lemmas.List.Sorted.{IsPermutation-refl, IsPermutation-map, IsPermutation-append, IsPermutation-sym, Contains-permutation, sum_by-IsPermutation}
+use Rattle.game_tables.specs.Limits.{rooms_bound, objects_bound}
 use Rattle.object_store.specs.declared.object.Object.{Object}
 use Rattle.object_store.specs.declared.world.Room.{Room}
 use Rattle.object_store.specs.Tables.{IsRising}
-use Rattle.object_store.specs.Stored.{Stored}
+use Rattle.object_store.specs.Stored.{Stored, AreRising, HaveRisingTables}
 use Rattle.world_rules.specs.World.{Placed, Frame, ListedRoom, World, placed_from, placed, world_listed, listed_room, listing_of, world_of}
 use Rattle.object_store.specs.declared.account.Account.{Account}
 use Rattle.world_rules.specs.declared.rule.Rule.{Rule}
@@ -157,6 +158,11 @@ built_places index (x ∷ drafts) [] b k room e = absurd b
 built_places index (x ∷ drafts) (y ∷ rooms) b zero room e = let same : y ≡ room = cc in ap (λ (r : Room). r.table.index) (sym same) ∙ b.0.table.place ∙ omega arith
 built_places index (x ∷ drafts) (y ∷ rooms) b (suc k) room e = let rest : room.table.index ≡ suc index + k = built_places (suc index) drafts rooms b.1 k room e in omega arith
 
+pub built_tables : (index : ℕ) (drafts : List RoomDraft) (rooms : List Room) → IsBuilt index drafts rooms → HaveRisingTables rooms
+built_tables index drafts [] b = tt
+built_tables index [] (room ∷ rooms) b = absurd b
+built_tables index (draft ∷ drafts) (room ∷ rooms) b = (b.0.table.rising, built_tables (suc index) drafts rooms b.1)
+
 -- ---- the same world
 
 find_moved_at : (q : ℕ) (es fs : Entries) → IsPermutation es fs → times q es < 2 → (o : Option Placed) → find nat_cmp q es ≡ o → find nat_cmp q fs ≡ o
@@ -184,13 +190,13 @@ same_objects es fs h once = same_map nat_cmp_total nat_cmp-IsAntisymmetric _ _ (
 once_kept : (draft : Draft) → KeepsRules (drafted draft) → (q : ℕ) → times q (placed (drafted draft)) < 2
 once_kept draft keeps q = elim (cases_lt (times q (placed (drafted draft))) 2) [ inl lt ↦ lt | inr le ↦ absurd (keeps rules.IdTwice q le) ]
 
-few_kept : (draft : Draft) → KeepsRules (drafted draft) → length (placed (drafted draft)) ≤ 20000
-few_kept draft keeps = elim (cases_lt 20000 (length (placed (drafted draft)))) [ inl lt ↦ absurd (keeps rules.Counts 0 (refl, λ fits. (let le : length (placed (drafted draft)) ≤ 20000 = fits.objects in omega arith))) | inr le ↦ le ]
+few_kept : (draft : Draft) → KeepsRules (drafted draft) → length (placed (drafted draft)) ≤ objects_bound
+few_kept draft keeps = elim (cases_lt objects_bound (length (placed (drafted draft)))) [ inl lt ↦ absurd (keeps rules.Counts 0 (refl, λ fits. (let le : length (placed (drafted draft)) ≤ objects_bound = fits.objects in omega arith))) | inr le ↦ le ]
 
-pub rooms_kept : (draft : Draft) → KeepsRules (drafted draft) → length draft.rooms.items ≤ 400
+pub rooms_kept : (draft : Draft) → KeepsRules (drafted draft) → length draft.rooms.items ≤ rooms_bound
 rooms_kept draft keeps =
-    elim (cases_lt 400 (length draft.rooms.items)) [
-      | inl lt ↦ absurd (keeps rules.Counts 0 (refl, λ fits. (let le : length (drafted_rooms draft.rooms.items) ≤ 400 = fits.rooms in omega (arith, length-map draft.rooms.items drafted_room))))
+    elim (cases_lt rooms_bound (length draft.rooms.items)) [
+      | inl lt ↦ absurd (keeps rules.Counts 0 (refl, λ fits. (let le : length (drafted_rooms draft.rooms.items) ≤ rooms_bound = fits.rooms in omega (arith, length-map draft.rooms.items drafted_room))))
       | inr le ↦ le
     ]
 
@@ -207,7 +213,7 @@ room_within draft keeps k r lt is =
     let there = at_place draft.rooms.items k lt in
     let same : there.0 ≡ r = sym (there.2 r) ∙ sym is in
     let le : length r.objects.items ≤ length (placed (drafted draft)) = room_length 0 k draft.rooms.items r (there.1 ∙ ap Some same) in
-    let few : length (placed (drafted draft)) ≤ 20000 = few_kept draft keeps in
+    let few : length (placed (drafted draft)) ≤ objects_bound = few_kept draft keeps in
     omega arith
 
 -- ---- the whole world
@@ -250,6 +256,8 @@ rules_kept draft stored keeps b rules.Sites n no_counts no_sites broken = no_sit
 pub built_sound : (draft : Draft) (stored : Stored) → KeepsRules (drafted draft) → IsBuiltOf draft stored → IsSound stored
 built_sound draft stored keeps b = record {
   places = λ index room e. built_places 0 draft.rooms.items stored.rooms b.rooms index room e ∙ omega arith;
+  tables = built_tables 0 draft.rooms.items stored.rooms b.rooms;
+  accounts = subst AreRising (sym b.accounts) tt;
   rules = rules_kept draft stored keeps b;
 }
 

@@ -3,6 +3,7 @@ use Rattle.std.proofs.Common.{◌≡◌, ℕ, suc, ◌^◌, List, [], Option, So
 use Rattle.std.specs.Prelude.{IfErr}
 use Rattle.serde_json.specs.Data.{Data, Items, no_items, item}
 use Rattle.serde_json.specs.Find.{get, as_array}
+use Rattle.game_tables.specs.Kinds.{most_hits}
 use Rattle.game_tables.specs.declared.kind.Kind.{Kind}
 use Rattle.game_tables.specs.declared.kind.Kind.TheVariants as kinds
 use Rattle.world_rules.specs.World.{Listing}
@@ -14,7 +15,7 @@ use Rattle.world_text.specs.declared.draft.Draft.{Draft}
 use Rattle.world_text.specs.Drafts.{drafted}
 use Rattle.world_text.specs.Keys.{key}
 use Rattle.world_text.specs.Reading.{◌>>=◌, formed, required, required_at, optional, optional_at, whole, Gives, Fails}
-use Rattle.world_text.specs.Form.{kind_in, name_in, terrain_in, body_in, players_in, built, default_hits, number32, object_at, objects_from, frame_at, objects_in, room_at, rooms_from, rooms_in, file_of}
+use Rattle.world_text.specs.Form.{kind_in, name_in, terrain_in, body_in, players_in, built, number32, object_at, objects_from, frame_at, objects_in, room_at, rooms_from, rooms_in, file_of}
 use Rattle.world_text.specs.Files.{IsJson, IsShort, Says, HasFault}
 
 -- A fault of a key, and not of the text or the rules.
@@ -75,7 +76,7 @@ object_keyed place part =
     keyed_then (required fields.Y place (whole 0 49) part) _ (required_keyed fields.Y place (whole 0 49) part) (λ y.
     keyed_then (optional fields.Owner place 0 number32 part) _ (optional_keyed fields.Owner place 0 number32 part) (λ owner.
     keyed_then (optional fields.Body place [] body_in part) _ (optional_keyed fields.Body place [] body_in part) (λ body.
-    keyed_then (optional fields.Hits place (default_hits kind) number32 part) _ (optional_keyed fields.Hits place (default_hits kind) number32 part) (λ hits.
+    keyed_then (optional fields.Hits place (most_hits kind body) number32 part) _ (optional_keyed fields.Hits place (most_hits kind body) number32 part) (λ hits.
     keyed_then (optional fields.Energy place 0 (whole 0 (2 ^ 53)) part) _ (optional_keyed fields.Energy place 0 (whole 0 (2 ^ 53)) part) (λ energy.
     keyed_then (optional fields.Timer place 0 number32 part) _ (optional_keyed fields.Timer place 0 number32 part) (λ timer.
     keyed_then (optional fields.Extra place 0 number32 part) _ (optional_keyed fields.Extra place 0 number32 part) (λ extra.

@@ -7,6 +7,7 @@ use Rattle.serde_json.specs.Data.{Data, string}
 use Rattle.serde_json.specs.Find.{get, as_array}
 use Rattle.serde_json.specs.View.{items_of}
 use Rattle.game_tables.specs.declared.kind.Part.{Part}
+use Rattle.game_tables.specs.Kinds.{most_hits}
 use Rattle.game_tables.specs.Texts.{kind_text, part_text}
 use Rattle.room_terrain.specs.declared.name.RoomName.{RoomName}
 use Rattle.room_terrain.specs.declared.terrain.Ground.{Ground}
@@ -22,7 +23,7 @@ use Rattle.world_text.specs.declared.field.Field.{Field}
 use Rattle.world_text.specs.declared.field.Field.TheVariants as fields
 use Rattle.world_text.specs.Keys.{key}
 use Rattle.world_text.specs.Reading.{required, required_at, optional, optional_at, formed, whole}
-use Rattle.world_text.specs.Form.{built, kind_in, name_in, body_in, terrain_in, grounds_of, players_in, number32, default_hits, object_at, objects_from, frame_at, objects_in, room_at, rooms_from, rooms_in, file_of}
+use Rattle.world_text.specs.Form.{built, kind_in, name_in, body_in, terrain_in, grounds_of, players_in, number32, object_at, objects_from, frame_at, objects_in, room_at, rooms_from, rooms_in, file_of}
 use Rattle.world_text.specs.Written.{whole_data, list_data, object_data, room_data, account_data, world_data, ground_digit, IsOnTile, IsWritableRoom}
 use Rattle.world_text.proofs.Named.{kind_found}
 use Rattle.world_text.proofs.Names.{name_is}
@@ -106,7 +107,7 @@ object_said place o part keys ranges tile =
     let y : required fields.Y place (whole 0 49) part ≡ Ok o.y = found_whole fields.Y place 0 49 o.y part keys.y (omega arith) tile.row in
     let owner : optional fields.Owner place 0 number32 part ≡ Ok o.owner = given_whole fields.Owner place 0 (2 ^ 32 - 1) o.owner part keys.owner ranges.owner in
     let body : optional fields.Body place [] body_in part ≡ Ok o.body = given fields.Body place [] body_in part _ o.body keys.body (no_body o ranges.body) in
-    let hits : optional fields.Hits place (default_hits o.kind) number32 part ≡ Ok o.hits = given_whole fields.Hits place (default_hits o.kind) (2 ^ 32 - 1) o.hits part keys.hits ranges.hits in
+    let hits : optional fields.Hits place (most_hits o.kind o.body) number32 part ≡ Ok o.hits = given_whole fields.Hits place (most_hits o.kind o.body) (2 ^ 32 - 1) o.hits part keys.hits ranges.hits in
     let energy : optional fields.Energy place 0 (whole 0 (2 ^ 53)) part ≡ Ok o.energy = given_whole fields.Energy place 0 (2 ^ 53) o.energy part keys.energy ranges.energy in
     let timer : optional fields.Timer place 0 number32 part ≡ Ok o.timer = given_whole fields.Timer place 0 (2 ^ 32 - 1) o.timer part keys.timer ranges.timer in
     let extra : optional fields.Extra place 0 number32 part ≡ Ok o.extra = given_whole fields.Extra place 0 (2 ^ 32 - 1) o.extra part keys.extra ranges.extra in

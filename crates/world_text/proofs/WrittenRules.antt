@@ -13,6 +13,8 @@ use Rattle.std.proofs.lemmas.Option.{slice_get_past}
 use Rattle.game_tables.specs.declared.kind.Kind.{Kind}
 use Rattle.game_tables.specs.declared.kind.Kind.TheVariants as kinds
 use Rattle.game_tables.specs.declared.kind.Part.{Part}
+use Rattle.game_tables.specs.Fields.{energy_bound, timer_bound}
+use Rattle.game_tables.specs.Limits.{rooms_bound}
 use Rattle.object_store.specs.declared.object.Object.{Object}
 use Rattle.object_store.specs.declared.world.Room.{Room}
 use Rattle.object_store.specs.Stored.{Stored}
@@ -38,8 +40,8 @@ source_is : (o : Object) → ((IsSource o → ⊥) → ⊥) → IsSource o
 source_is o held = record {
   owner = stable_eq o.owner 0 (λ no. held (λ s. no s.owner));
   hits = stable_eq o.hits 0 (λ no. held (λ s. no s.hits));
-  energy = stable_le o.energy 3000 (λ no. held (λ s. no s.energy));
-  timer = stable_le o.timer 300 (λ no. held (λ s. no s.timer));
+  energy = stable_le o.energy (energy_bound kinds.Source o.hits o.body) (λ no. held (λ s. no s.energy));
+  timer = stable_le o.timer (timer_bound kinds.Source o.extra o.body) (λ no. held (λ s. no s.timer));
   extra = stable_eq o.extra 0 (λ no. held (λ s. no s.extra));
   progress = stable_eq o.progress 0 (λ no. held (λ s. no s.progress));
   other = stable_eq o.other 0 (λ no. held (λ s. no s.other));
@@ -52,7 +54,7 @@ pile_is o held = record {
   owner = stable_eq o.owner 0 (λ no. held (λ s. no s.owner));
   hits = stable_eq o.hits 0 (λ no. held (λ s. no s.hits));
   some = stable_le 1 o.energy (λ no. held (λ s. no s.some));
-  energy = stable_le o.energy 1000000000 (λ no. held (λ s. no s.energy));
+  energy = stable_le o.energy (energy_bound kinds.Pile o.hits o.body) (λ no. held (λ s. no s.energy));
   timer = stable_eq o.timer 0 (λ no. held (λ s. no s.timer));
   extra = stable_eq o.extra 0 (λ no. held (λ s. no s.extra));
   progress = stable_eq o.progress 0 (λ no. held (λ s. no s.progress));
@@ -160,15 +162,15 @@ stands listing room o keeps h =
 some_or_none : {A : Type 0} (x : Option A) (a : A) → x ≡ Some a → x ≡ None → ⊥
 some_or_none x a e none = cc
 
-few_rooms : (listing : Listing) → KeepsRules listing → length listing.rooms ≤ 400
-few_rooms listing keeps = stable_le (length listing.rooms) 400 (λ no. keeps rules.Counts 0 (refl, λ counts. no counts.rooms))
+few_rooms : (listing : Listing) → KeepsRules listing → length listing.rooms ≤ rooms_bound
+few_rooms listing keeps = stable_le (length listing.rooms) rooms_bound (λ no. keeps rules.Counts 0 (refl, λ counts. no counts.rooms))
 
 id_low : (listing : Listing) (id : ℕ) → (HasNoBirth (world_listed listing) id → ⊥) → 1 ≤ id
 id_low listing id born = elim (cases_eq id 0) [ inl e ↦ absurd (born (inr (ap (λ n. n % 2 ^ 32) e))) | inr apart ↦ omega arith ]
 
-id_high : (listing : Listing) (id : ℕ) → length listing.rooms ≤ 400 → (HasNoBirth (world_listed listing) id → ⊥) → id ≤ 2 ^ 53
+id_high : (listing : Listing) (id : ℕ) → length listing.rooms ≤ rooms_bound → (HasNoBirth (world_listed listing) id → ⊥) → id ≤ 2 ^ 53
 id_high listing id few born =
-    elim (cases_lt (id / 2 ^ 32) 400) [
+    elim (cases_lt (id / 2 ^ 32) rooms_bound) [
       | inl lt ↦ omega arith
       | inr le ↦
           let frames : List Frame = map (λ (room : ListedRoom). room.frame) listing.rooms in

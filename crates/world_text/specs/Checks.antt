@@ -2,8 +2,9 @@
 use Rattle.std.specs.Prelude.{◌≡◌, ℕ, ◌+◌, ◌<◌, ◌≤◌, ◌/◌, ◌%◌, ◌^◌, List, [], length, map, slice_index_or, slice_get, Some, ◌⊎◌, ◌==◌}
 use Rattle.std.specs.List.{Contains, count_by}
 use Rattle.std.specs.List.Sorted.{IsPermutation, IsNonDecreasingBy}
+use Rattle.game_tables.specs.Limits.{rooms_bound, objects_bound}
 use Rattle.object_store.specs.declared.object.Object.{Object}
-use Rattle.object_store.specs.Tables.{Table}
+use Rattle.object_store.specs.Tables.{Table, IsRising}
 use Rattle.world_rules.specs.World.{Placed, Frame, placed}
 use Rattle.world_rules.specs.Rules.{IsOnWrongTile, HasOpenCorner, IsInTheWay, IsInRangeAs}
 use Rattle.world_text.specs.declared.draft.RoomDraft.{RoomDraft}
@@ -81,7 +82,7 @@ pub record HasNoMore (object : Object) : Type 0 where
 
 -- The limits on rooms and objects.
 abbrev pub AreWithin : ℕ → ℕ → Type 0
-AreWithin rooms objects = (1 ≤ rooms) × (rooms ≤ 400) × (objects ≤ 20000)
+AreWithin rooms objects = (1 ≤ rooms) × (rooms ≤ rooms_bound) × (objects ≤ objects_bound)
 
 -- Each id is there once.
 abbrev pub HasEachOnce : List Object → Type 0
@@ -92,3 +93,4 @@ pub record IsTableOf (index : ℕ) (room : RoomDraft) (table : Table) : Type 0 w
   pub place : table.index ≡ index
   pub next : table.next ≡ room.next
   pub objects : IsPermutation room.objects.items table.objects
+  pub rising : IsRising table.objects

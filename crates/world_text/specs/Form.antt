@@ -8,6 +8,8 @@ use Rattle.game_tables.specs.declared.kind.Kind.{Kind}
 use Rattle.game_tables.specs.declared.kind.Kind.TheVariants as kinds
 use Rattle.game_tables.specs.declared.kind.Part.{Part}
 use Rattle.game_tables.specs.declared.kind.Part.TheVariants as parts
+use Rattle.game_tables.specs.Bodies.{parts_bound}
+use Rattle.game_tables.specs.Kinds.{most_hits}
 use Rattle.game_tables.specs.Texts.{kind_text, part_text}
 use Rattle.room_terrain.specs.declared.name.RoomName.{RoomName}
 use Rattle.room_terrain.specs.declared.terrain.Ground.{Ground}
@@ -73,9 +75,9 @@ abbrev pub parts_of : Items → Option (List Part)
 parts_of no_items = Some []
 parts_of (item value values) = option_and_then (λ first. option_map (λ others. first ∷ others) (parts_of values)) (part_in value)
 
--- at most 50 part texts
+-- part texts, no more than a body may have
 abbrev pub body_of : Items → Option (List Part)
-body_of values = if nat_le (items_len values) 50 then parts_of values else None
+body_of values = if nat_le (items_len values) parts_bound then parts_of values else None
 
 abbrev pub body_in : Data → Option (List Part)
 body_in value = option_and_then body_of (as_array value)
@@ -96,10 +98,6 @@ built kinds.Source = Ok kinds.Source
 built kinds.Pile = Ok kinds.Pile
 built kind = Err (NotBuilt kind)
 
--- the hits where the key is absent: the hits max, which is 0 for a source and for a pile
-abbrev pub default_hits : Kind → ℕ
-default_hits kind = 0
-
 abbrev pub number32 : Data → Option ℕ
 number32 = whole 0 (2 ^ 32 - 1)
 
@@ -112,7 +110,7 @@ object_at place part = do
   y ← required fields.Y place (whole 0 49) part
   owner ← optional fields.Owner place 0 number32 part
   body ← optional fields.Body place [] body_in part
-  hits ← optional fields.Hits place (default_hits kind) number32 part
+  hits ← optional fields.Hits place (most_hits kind body) number32 part
   energy ← optional fields.Energy place 0 (whole 0 (2 ^ 53)) part
   timer ← optional fields.Timer place 0 number32 part
   extra ← optional fields.Extra place 0 number32 part

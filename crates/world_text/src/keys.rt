@@ -24,13 +24,20 @@ pub fn required_number(
     number_in(value, field, place, low, high)
 }
 
-/// A whole number in a range, which is 0 where the key is absent.
-pub fn optional_number(part: &Value, field: Field, place: u64, high: u64) -> Result<u64, WorldFault>
-    ensures form { result ≡ optional field place 0 (whole 0 high) (view part.now) }
+/// A whole number in a range, which is the default where the key is absent.
+pub fn optional_number(
+    part: &Value,
+    field: Field,
+    place: u64,
+    default: u64,
+    high: u64,
+) -> Result<u64, WorldFault>
+    requires { default ≤ high }
+    ensures form { result ≡ optional field place default (whole 0 high) (view part.now) }
     ensures within { IfOk result (λ n. n ≤ high) }
 {
     let Some(value) = part.get(field.key()) else {
-        return Ok(0);
+        return Ok(default);
     };
     number_in(value, field, place, 0, high)
 }

@@ -1,21 +1,21 @@
 // The world file: JSON to a world, and back.
 #![tactic(auto)]
 
-pub mod build;
-pub mod draft;
-pub mod fault;
-pub mod field;
-pub mod file;
-pub mod flat;
-pub mod keys;
-pub mod objects;
-pub mod read;
-pub mod rooms;
-pub mod rules;
+mod build;
+mod draft;
+mod fault;
+mod field;
+mod file;
+mod flat;
+mod keys;
+mod objects;
+mod read;
+mod rooms;
+mod rules;
 #[cfg(test)]
 mod tests;
-pub mod text;
-pub mod write;
+mod text;
+mod write;
 
 pub use fault::WorldFault;
 pub use field::Field;

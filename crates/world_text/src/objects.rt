@@ -1,6 +1,7 @@
 // The objects of a world file.
 ghost use Rattle.std.specs.Prelude.{◌≡◌, ◌≤◌, ◌<◌, [], length, Some, None, IfOk, Option};
 ghost use Rattle.serde_json.specs.View.{view, items_view};
+ghost use Rattle.game_tables.specs.Bodies.{parts_bound};
 ghost use Rattle.game_tables.specs.Texts.{kind_text, part_text};
 ghost use Rattle.world_text.specs.Reading.{required, optional};
 ghost use Rattle.world_text.specs.Form.{object_at, kind_in, body_in, built, named, all_kinds, part_in, all_parts, parts_of as parts, body_of};
@@ -9,7 +10,7 @@ ghost use Rattle.world_text.specs.declared.field.Field.TheVariants as fields;
 use crate::fault::WorldFault;
 use crate::field::Field;
 use crate::keys::{optional_number, required_number};
-use game_tables::{Body, Kind, Part};
+use game_tables::{Body, Kind, Part, hits_max, most_parts};
 use object_store::Object;
 use serde_json::Value;
 
@@ -29,15 +30,16 @@ pub fn read_object(part: &Value, place: u64) -> Result<Object, WorldFault>
     let kind = built_kind(named)?;
     let x = required_number(part, Field::X, place, 0, 49)?;
     let y = required_number(part, Field::Y, place, 0, 49)?;
-    let owner = optional_number(part, Field::Owner, place, MOST_32)?;
+    let owner = optional_number(part, Field::Owner, place, 0, MOST_32)?;
     let body = read_body(part, place)?;
-    let hits = optional_number(part, Field::Hits, place, MOST_32)?;
-    let energy = optional_number(part, Field::Energy, place, MOST_ENERGY)?;
-    let timer = optional_number(part, Field::Timer, place, MOST_32)?;
-    let extra = optional_number(part, Field::Extra, place, MOST_32)?;
-    let progress = optional_number(part, Field::Progress, place, MOST_ENERGY)?;
-    let other = optional_number(part, Field::Other, place, MOST_32)?;
-    let other_ticks = optional_number(part, Field::OtherTicks, place, MOST_32)?;
+    let full = hits_max(kind, &body) as u64;
+    let hits = optional_number(part, Field::Hits, place, full, MOST_32)?;
+    let energy = optional_number(part, Field::Energy, place, 0, MOST_ENERGY)?;
+    let timer = optional_number(part, Field::Timer, place, 0, MOST_32)?;
+    let extra = optional_number(part, Field::Extra, place, 0, MOST_32)?;
+    let progress = optional_number(part, Field::Progress, place, 0, MOST_ENERGY)?;
+    let other = optional_number(part, Field::Other, place, 0, MOST_32)?;
+    let other_ticks = optional_number(part, Field::OtherTicks, place, 0, MOST_32)?;
     Ok(Object {
         id,
         kind,
@@ -114,19 +116,19 @@ fn body_of(value: &Value) -> Option<Body>
     parts_within(values)
 }
 
-// A body has at most 50 parts.
+// A body has no more parts than a body may have.
 #[tactic(auto, using(crate::proofs::Lists::counts))]
 fn parts_within(values: &[Value]) -> Option<Body>
     ensures { result ≡ body_of (items_view values.now) }
 {
-    if values.len() > 50 {
+    if values.len() > most_parts() as usize {
         return None;
     }
     parts_of(values)
 }
 
 fn parts_of(values: &[Value]) -> Option<Body>
-    requires { length values.now ≤ 50 }
+    requires { length values.now ≤ parts_bound }
     ensures { result ≡ parts (items_view values.now) }
 {
     let mut body = Body::new();

@@ -11,14 +11,11 @@ ghost use Rattle.world_text.specs.declared.draft.Standing.{Standing};
 ghost use Rattle.world_text.specs.declared.draft.RoomDraft.{RoomDraft};
 
 use crate::draft::{Draft, RoomDraft, Standing};
+use game_tables::{most_energy, most_objects, most_rooms, most_timer};
 use object_store::{Ground, Kind, Object, RoomName, Terrain};
 use world_rules::Rule;
 
-const MOST_ROOMS: usize = 400;
-
-const MOST_OBJECTS: usize = 20_000;
-
-/// The first room whose name an earlier one has.
+/// A room whose name an earlier one has, or nothing where there is none.
 pub fn first_twin(rooms: &[RoomDraft]) -> Option<u64>
     ensures some { IfSome result (λ index. IsTwin rooms.now index) }
     ensures none { IfNone result ((index : ℕ) → IsTwin rooms.now index → ⊥) }
@@ -44,7 +41,7 @@ fn has_name(rooms: &[RoomDraft], name: RoomName) -> bool
     false
 }
 
-/// The first room with a corner that is no wall.
+/// A room with a corner that is no wall, or nothing where there is none.
 pub fn first_open(rooms: &[RoomDraft]) -> Option<u64>
     ensures some { IfSome result (λ index. IsOpen rooms.now index) }
     ensures none { IfNone result ((index : ℕ) → IsOpen rooms.now index → ⊥) }
@@ -75,7 +72,7 @@ fn is_wall(terrain: &Terrain, x: u8, y: u8) -> bool
     }
 }
 
-/// The first object whose id no room has given.
+/// The id of an object whose id no room has given, or nothing where there is none.
 pub fn first_unborn(rooms: &[RoomDraft], flat: &[Standing]) -> Option<u64>
     ensures some { IfSome result (IsBad flat.now (λ s. IsUnborn (frames_of rooms.now) s.object.id)) }
     ensures none { IfNone result (NoneBad flat.now (λ s. IsUnborn (frames_of rooms.now) s.object.id)) }
@@ -107,7 +104,7 @@ fn room_at(rooms: &[RoomDraft], index: u64) -> Option<&RoomDraft>
     rooms.get(index as usize)
 }
 
-/// The first id that two objects have.
+/// An id that two objects have, or nothing where there is none.
 pub fn first_same_id(flat: &[Standing]) -> Option<u64>
     ensures some { IfSome result (λ id. (k : ℕ) × IsSameId flat.now k × ((d : Standing) → id ≡ (slice_index_or flat.now k d).object.id)) }
     ensures none { IfNone result ((k : ℕ) → IsSameId flat.now k → ⊥) }
@@ -120,7 +117,7 @@ pub fn first_same_id(flat: &[Standing]) -> Option<u64>
     None
 }
 
-/// The first object on a tile that is not for its kind.
+/// The id of an object on a tile that is not for its kind, or nothing where there is none.
 pub fn first_misplaced(rooms: &[RoomDraft], flat: &[Standing]) -> Option<u64>
     ensures some { IfSome result (IsBad flat.now (IsMisplaced (frames_of rooms.now))) }
     ensures none { IfNone result (NoneBad flat.now (IsMisplaced (frames_of rooms.now))) }
@@ -160,7 +157,7 @@ fn is_edge(coordinate: u8) -> bool
     coordinate == 0 || coordinate == 49
 }
 
-/// The first object in whose way an earlier one is.
+/// The id of an object in whose way one before it in the list is, or nothing where there is none.
 pub fn first_blocked(flat: &[Standing]) -> Option<u64>
     ensures some { IfSome result (λ id. (i : ℕ) × IsBlocked flat.now i × ((d : Standing) → id ≡ (slice_index_or flat.now i d).object.id)) }
     ensures none { IfNone result ((i : ℕ) → IsBlocked flat.now i → ⊥) }
@@ -233,7 +230,8 @@ fn stands_fixed(kind: Kind) -> bool
     }
 }
 
-/// The first object with an owner or a reserver, since nobody is a player yet.
+/// The id of an object with an owner or a reserver, or nothing where there is none. Nobody is a
+/// player yet.
 pub fn first_owned(flat: &[Standing]) -> Option<u64>
     ensures some { IfSome result (IsBad flat.now IsOwned) }
     ensures none { IfNone result (NoneBad flat.now IsOwned) }
@@ -246,7 +244,7 @@ pub fn first_owned(flat: &[Standing]) -> Option<u64>
     None
 }
 
-/// The first object with a field out of its kind's range.
+/// The id of an object with a field out of its kind's range, or nothing where there is none.
 pub fn first_out_of_range(flat: &[Standing]) -> Option<u64>
     ensures some { IfSome result (IsBad flat.now IsOutOfRange) }
     ensures none { IfNone result (NoneBad flat.now IsOutOfRange) }
@@ -272,13 +270,18 @@ fn is_in_range(object: &Object) -> bool
 fn is_source(object: &Object) -> bool
     ensures { MatchBool result (IsSource object.now) (IsSource object.now → ⊥) }
 {
-    object.energy <= 3000 && object.timer <= 300 && has_no_more(object)
+    object.energy <= most_energy(Kind::Source, object.hits, &object.body)
+        && object.timer <= most_timer(Kind::Source, 0, &object.body)
+        && has_no_more(object)
 }
 
 fn is_pile(object: &Object) -> bool
     ensures { MatchBool result (IsPile object.now) (IsPile object.now → ⊥) }
 {
-    object.energy >= 1 && object.energy <= 1_000_000_000 && object.timer == 0 && has_no_more(object)
+    object.energy >= 1
+        && object.energy <= most_energy(Kind::Pile, object.hits, &object.body)
+        && object.timer == 0
+        && has_no_more(object)
 }
 
 // The fields that neither a source nor a pile uses.
@@ -294,7 +297,7 @@ fn has_no_more(object: &Object) -> bool
         && object.body.is_empty()
 }
 
-/// The first rule that is broken, in their order, and where.
+/// A rule that is broken and where, or nothing where the draft keeps all rules.
 pub fn first_broken(draft: &Draft, flat: &[Standing]) -> Option<(Rule, u64)>
     requires { IsFlat draft.now flat.now }
     ensures some { IfSome result (λ broken. Broken broken.0 broken.1 (drafted draft.now)) }
@@ -335,5 +338,5 @@ pub fn first_broken(draft: &Draft, flat: &[Standing]) -> Option<(Rule, u64)>
 fn are_within(rooms: usize, objects: usize) -> bool
     ensures { MatchBool result (AreWithin rooms objects) (AreWithin rooms objects → ⊥) }
 {
-    rooms >= 1 && rooms <= MOST_ROOMS && objects <= MOST_OBJECTS
+    rooms >= 1 && rooms <= most_rooms() as usize && objects <= most_objects() as usize
 }

@@ -9,8 +9,7 @@ ghost use Rattle.world_text.specs.Files.{IsShort, Lists};
 ghost use Rattle.world_text.specs.Written.{list_data, object_data, room_data, account_data, world_data, ground_digit, hex, hex_digit, written, IsWritable};
 
 use game_tables::Body;
-use object_store::world::Room;
-use object_store::{Account, Ground, Object, Terrain, World};
+use object_store::{Account, Ground, Object, Room, Terrain, World};
 use serde_json::{Value, json};
 use std::alloc::{AllocError, Global};
 

@@ -2,9 +2,7 @@ ghost use Rattle.std.specs.Prelude.{◌≡◌};
 
 use super::write_world;
 use game_tables::{Body, Kind, Part};
-use object_store::account::Account;
-use object_store::bytes::Bytes;
-use object_store::{Ground, Object, RoomName, RoomTable, Terrain, World};
+use object_store::{Account, Bytes, Ground, Object, RoomName, RoomTable, Terrain, World};
 use std::alloc::{AllocError, Global};
 use std::test::Fail;
 

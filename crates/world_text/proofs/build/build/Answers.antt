@@ -1,11 +1,12 @@
 use Rattle.std.proofs.Common.{◌≡◌, ◌<◌, ◌≤◌, length, arith, refl, sym, ◌∙◌}
+use Rattle.game_tables.specs.Limits.{rooms_bound}
 use Rattle.world_text.proofs.Built.{rooms_kept, room_once, room_within, built_more, built_all, built_count, built_world, built_sound}
 use Rattle.world_text.proofs.build.build.Goals as goal
 
 pub overflow_cast-index : goal.overflow_cast-index
 overflow_cast-index c =
     let inside : c.loop-index.index < length c.args.draft.now.rooms.items = rw c.deref-room-items.ensures.value at c.loop-index-test.true in
-    let few : length c.args.draft.now.rooms.items ≤ 400 = rooms_kept c.args.draft.now c.requires in
+    let few : length c.args.draft.now.rooms.items ≤ rooms_bound = rooms_kept c.args.draft.now c.requires in
     omega arith
 
 pub table_of-requires-clause-once : goal.table_of-requires-clause-once
@@ -24,7 +25,7 @@ push_room-requires-clause-index c =
 pub push_room-requires-clause-room : goal.push_room-requires-clause-room
 push_room-requires-clause-room c =
     let inside : c.loop-index.index < length c.args.draft.now.rooms.items = rw c.deref-room-items.ensures.value at c.loop-index-test.true in
-    let few : length c.args.draft.now.rooms.items ≤ 400 = rooms_kept c.args.draft.now c.requires in
+    let few : length c.args.draft.now.rooms.items ≤ rooms_bound = rooms_kept c.args.draft.now c.requires in
     let count : length c.loop-index.world.rooms ≡ c.loop-index.index = built_count c.args.draft.now.rooms.items c.loop-index.index c.loop-index.world.rooms (omega arith) c.loop-index.invariant.built in
     omega arith
 
