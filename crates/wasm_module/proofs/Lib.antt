@@ -2,6 +2,7 @@ pub mod Fronts
 pub mod Lists
 pub mod Tags
 pub mod Spelled
+pub mod Fixed
 pub mod Opcodes
 pub mod Views
 pub mod Bodies
