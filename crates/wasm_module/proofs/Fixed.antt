@@ -1,23 +1,16 @@
--- What stands behind an opcode and is of one size: nothing, or a number in so many bytes.
+-- What stands behind an opcode and is of one size, at the front of bytes: nothing, or a number in so many bytes.
 use Rattle.std.proofs.Common.{◌≡◌, ℕ, ◌<◌, ◌^◌, List, [], ◌++◌, refl, ap, sym, ◌∙◌, arith, length, length-append, ◌+◌}
 use Rattle.std.proofs.lemmas.List.{append_cancel_left}
 use Rattle.byteorder.specs.Endian.{little_bytes, little_number}
 use Rattle.byteorder.specs.Numbers.{little_number-reads_back, length-bytes_low_first}
 use Rattle.byte_fields.specs.Front.{Begins, BeginsOnly, BeginsNone}
-
--- Nothing behind the opcode.
-abbrev pub SpellsNothing : List ℕ → Unit {0} → Type 0
-SpellsNothing bytes _ = bytes ≡ []
+use Rattle.wasm_module.proofs.Opcodes.{SpellsNothing, SpellsLittle}
 
 pub nothing_begins : (bytes : List ℕ) → Begins SpellsNothing bytes tt bytes
 nothing_begins bytes = ([], refl, refl)
 
 pub nothing_only : (bytes : List ℕ) → BeginsOnly SpellsNothing bytes tt bytes
 nothing_only bytes = λ other more (text, s, e). (refl, sym (e ∙ ap (λ z. z ++ more) s))
-
--- A number in so many bytes, the lowest first.
-abbrev pub SpellsLittle : ℕ → List ℕ → ℕ → Type 0
-SpellsLittle count bytes number = (number < 256 ^ count) × (bytes ≡ little_bytes count number)
 
 pub little_begins : (count : ℕ) (bytes rest : List ℕ) (number : ℕ) → number < 256 ^ count → bytes ≡ little_bytes count number ++ rest → Begins (SpellsLittle count) bytes number rest
 little_begins count bytes rest number fits e = (little_bytes count number, (fits, refl), e)

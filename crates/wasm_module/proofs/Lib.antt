@@ -2,8 +2,8 @@ pub mod Fronts
 pub mod Lists
 pub mod Tags
 pub mod Spelled
-pub mod Fixed
 pub mod Opcodes
+pub mod Fixed
 pub mod Views
 pub mod Bodies
 pub mod Nests

@@ -1,5 +1,5 @@
 -- The spellings of instructions, taken apart by their opcode.
-use Rattle.std.proofs.Common.{◌≡◌, ℕ, ℤ, ◌≤◌, ◌<◌, ◌⊎◌, inl, inr, List, [], ◌∷◌, ◌++◌, refl, ap, sym, ◌∙◌, arith, subst}
+use Rattle.std.proofs.Common.{◌≡◌, ℕ, ℤ, ◌≤◌, ◌<◌, ◌^◌, ◌⊎◌, inl, inr, List, [], ◌∷◌, ◌++◌, refl, ap, sym, ◌∙◌, arith, subst}
 use native.Mathlib.Decide.{dec_le}
 use Rattle.byte_fields.specs.Leb.{SpellsSigned}
 use Rattle.wasm_module.specs.Spelling.{SpellsU32, Then, SpellsMark, SpellsList}
@@ -7,7 +7,7 @@ use Rattle.wasm_module.specs.Syntax.{nesting, Op, unreachable, nop, br, br_if, b
 use Rattle.wasm_module.specs.Instructions.{SpellsOp, spells_unreachable, spells_nop, spells_block, spells_loop, spells_if, spells_if_else, spells_br, spells_br_if, spells_br_table, spells_return, spells_call, spells_call_indirect, spells_drop, spells_select, spells_local_get, spells_local_set, spells_local_tee, spells_global_get, spells_global_set, spells_memory, spells_memory_size, spells_memory_grow, spells_i32_const, spells_i64_const, spells_f32_const, spells_f64_const, spells_numeric, spells_float_plain, IsMemory, is_load, is_store, is_float_memory, IsLoad, IsStore, IsFloatMemory, IsNumeric, compares_i32, compares_i64, computes_i32, computes_i64, wraps, IsFloatPlain, computes_float, truncates_i32}
 use Rattle.wasm_module.specs.declared.instr.FloatBytes.TheVariants.{Four, Eight}
 use Rattle.byte_fields.specs.Front.{Begins, BeginsOnly, BeginsNone}
-use Rattle.wasm_module.proofs.Fixed.{SpellsNothing, SpellsLittle}
+use Rattle.byteorder.specs.Endian.{little_bytes}
 use Rattle.wasm_module.proofs.Tags.{IsTag, tag_found, tag_only, tag_none}
 
 -- What was read behind an opcode makes the instruction.
@@ -35,6 +35,14 @@ numeric_high tag r = grind arith
 
 pub plain_high : (tag : ℕ) → IsFloatPlain tag → 0x45 ≤ tag
 plain_high tag r = grind arith
+
+-- Nothing behind the opcode.
+abbrev pub SpellsNothing : List ℕ → Unit {0} → Type 0
+SpellsNothing bytes _ = bytes ≡ []
+
+-- A number in so many bytes, the lowest first.
+abbrev pub SpellsLittle : ℕ → List ℕ → ℕ → Type 0
+SpellsLittle count bytes number = (number < 256 ^ count) × (bytes ≡ little_bytes count number)
 
 pub op_never : (value : Op) → SpellsOp [] value → ⊥
 op_never value s = elim s [ ]
