@@ -83,6 +83,7 @@ record Peeled {V : Type 0} (number : ℕ) (Spells : List ℕ → V → Type 0) (
   pub part : SpellsPart number Spells empty front value
   pub later : Assembled number back Fact
   pub short : length front + length back ≤ length text
+  pub whole : length text ≤ length front + length back → text ≡ front ++ back
 
 pub absent_part : {V : Type 0} (number : ℕ) (Spells : List ℕ → V → Type 0) (empty value : V) → value ≡ empty → SpellsPart number Spells empty [] value
 absent_part number Spells empty value e =
@@ -91,6 +92,9 @@ absent_part number Spells empty value e =
 
 section_text : (number : ℕ) (content text : List ℕ) → SpellsSection text (number, content) → (bytes : List ℕ) × SpellsBytes bytes content × (text ≡ number ∷ bytes)
 section_text number content text (front, back, s, t, e) = (back, t, e ∙ ap (λ z. z ++ back) s)
+
+section_some : (number : ℕ) (content text : List ℕ) → SpellsSection text (number, content) → 0 < length text
+section_some number content text s = let text_is = section_text number content text s in omega (arith, ap length text_is.2)
 
 -- the first section has the number
 peel_here : {V : Type 0} (Spells : List ℕ → V → Type 0) (empty value : V) (number : ℕ) (Fact : Contents → Type 0) → IsAbove number Fact → (other : ℕ) (content : List ℕ) (more : List Section) (t m : List ℕ) → other ≡ number → AreOrdered other more → SpellsSection t (other, content) → SpellsEach SpellsSection m more → With number Spells empty value Fact (contents ((other, content) ∷ more)) → Peeled number Spells empty value (t ++ m) Fact
@@ -111,6 +115,7 @@ peel_here Spells empty value number Fact k other content more t m same o s ss (h
         holds = k.along (contents ((other, content) ∷ more)) (contents more) (λ j p. later_content j other content more (omega arith)) r;
       };
       short = omega (arith, length-append t m, ap length text.2);
+      whole = λ h. ap (λ z. z ++ m) (text.2 ∙ ap (λ z. z ∷ text.0) same);
     }
 
 -- the first section has a higher number
@@ -124,6 +129,7 @@ peel_later Spells empty value number Fact some other content more text high with
       part = absent_part number Spells empty value (subst P (ordered_none all number some (omega arith)) h);
       later = record { sections = (other, content) ∷ more; spelled = ss; ordered = all; holds = r };
       short = omega arith;
+      whole = λ h. refl;
     }
 
 peel : {V : Type 0} (Spells : List ℕ → V → Type 0) (empty value : V) (number : ℕ) (Fact : Contents → Type 0) → IsAbove number Fact → 0 < number → {last : ℕ} {sections : List Section} {text : List ℕ} → AreOrdered last sections → SpellsEach SpellsSection text sections → number ≤ last + 1 → With number Spells empty value Fact (contents sections) → Peeled number Spells empty value text Fact
@@ -133,6 +139,7 @@ peel Spells empty value number Fact k some ordered_end each_none e (h, r) = reco
   part = absent_part number Spells empty value h;
   later = record { sections = []; spelled = each_none; ordered = ordered_end; holds = r };
   short = omega arith;
+  whole = λ h. refl;
 }
 peel Spells empty value number Fact k some (ordered_custom {content = content} {more = more} c o) (each_next {text = t} {more = m} s ss) e (h, r) =
     let P : Option (List ℕ) → Type 0 = λ z. Holds Spells empty z value in
@@ -143,6 +150,7 @@ peel Spells empty value number Fact k some (ordered_custom {content = content} {
       part = rest.part;
       later = rest.later;
       short = omega (arith, rest.short, length-append t m);
+      whole = λ h. absurd (omega (arith, rest.short, length-append t m, section_some 0 content t s, h));
     }
 peel {V} Spells empty value number Fact k some (ordered_part {number = other} {content = content} {more = more} p q o) (each_next {text = t} {more = m} s ss) e (h, r) =
     elim (dec_le other number) [
@@ -150,25 +158,31 @@ peel {V} Spells empty value number Fact k some (ordered_part {number = other} {c
       | no high ↦ peel_later Spells empty value number Fact some other content more (t ++ m) (omega arith) q o (each_next s ss) (h, r)
     ]
 
--- A way to spell what the sections above `last` hold: texts of it are sections, and sections have such a text, no longer than they are.
+-- A way to spell what the sections above `last` hold: texts of it are sections, and sections have such a text, no longer than they are, and the same if it is no shorter.
 pub record IsForm {W : Type 0} (last : ℕ) (Text : List ℕ → W → Type 0) (value : W) (Fact : Contents → Type 0) : Type 0 where
   pub above : IsAbove last Fact
   pub assemble : (text : List ℕ) → Text text value → Assembled last text Fact
-  pub take : (text : List ℕ) → Assembled last text Fact → (taken : List ℕ) × Text taken value × (length taken ≤ length text)
+  pub take : (text : List ℕ) → Assembled last text Fact → (taken : List ℕ) × Text taken value × (length taken ≤ length text) × (length text ≤ length taken → text ≡ taken)
+
+-- no section but custom ones
+end_taken : {sections : List Section} {text : List ℕ} → SpellsEach SpellsSection text sections → AreOrdered 11 sections → (taken : List ℕ) × SpellsNothing taken tt × (length taken ≤ length text) × (length text ≤ length taken → text ≡ taken)
+end_taken each_none o = ([], refl, omega arith, λ h. refl)
+end_taken (each_next {text = t} {more = m} s ss) (ordered_custom {content = content} c o) = ([], refl, omega arith, λ h. absurd (omega (arith, length-append t m, section_some 0 content t s, h)))
+end_taken (each_next s ss) (ordered_part p q o) = absurd (omega arith)
 
 -- No sections.
 pub form_end : IsForm 11 SpellsNothing tt (λ f. Unit {0})
 form_end = record {
   above = record { along = λ f g same u. u };
   assemble = λ text e. record { sections = []; spelled = rw e each_none; ordered = ordered_end; holds = tt };
-  take = λ text a. ([], refl, omega arith);
+  take = λ text a. end_taken a.spelled a.ordered;
 }
 
-take_more : {V W : Type 0} (Spells : List ℕ → V → Type 0) (empty value : V) (Text : List ℕ → W → Type 0) (later : W) (number last : ℕ) (Fact : Contents → Type 0) → IsForm number Text later Fact → number ≡ last + 1 → (text : List ℕ) → Assembled last text (With number Spells empty value Fact) → (taken : List ℕ) × Then (SpellsPart number Spells empty) Text taken (value, later) × (length taken ≤ length text)
+take_more : {V W : Type 0} (Spells : List ℕ → V → Type 0) (empty value : V) (Text : List ℕ → W → Type 0) (later : W) (number last : ℕ) (Fact : Contents → Type 0) → IsForm number Text later Fact → number ≡ last + 1 → (text : List ℕ) → Assembled last text (With number Spells empty value Fact) → (taken : List ℕ) × Then (SpellsPart number Spells empty) Text taken (value, later) × (length taken ≤ length text) × (length text ≤ length taken → text ≡ taken)
 take_more Spells empty value Text later number last Fact k e text a =
     let peeled = peel Spells empty value number Fact k.above (omega arith) a.ordered a.spelled (omega arith) a.holds in
     let rest = k.take peeled.back peeled.later in
-    (peeled.front ++ rest.0, (peeled.front, rest.0, peeled.part, rest.1, refl), omega (arith, peeled.short, rest.2, length-append peeled.front rest.0))
+    (peeled.front ++ rest.0, (peeled.front, rest.0, peeled.part, rest.1, refl), omega (arith, peeled.short, rest.2, length-append peeled.front rest.0), λ h. peeled.whole (omega (arith, rest.2, length-append peeled.front rest.0, h)) ∙ ap (λ z. peeled.front ++ z) (rest.3 (omega (arith, peeled.short, length-append peeled.front rest.0, h))))
 
 assemble_more : {V W : Type 0} (Spells : List ℕ → V → Type 0) (empty value : V) (Text : List ℕ → W → Type 0) (later : W) (number last : ℕ) (Fact : Contents → Type 0) → IsForm number Text later Fact → number ≡ last + 1 → number ≤ 11 → (text : List ℕ) → Then (SpellsPart number Spells empty) Text text (value, later) → Assembled last text (With number Spells empty value Fact)
 assemble_more Spells empty value Text later number last Fact k e within text (front, back, s, t, g) =

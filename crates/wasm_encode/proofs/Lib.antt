@@ -7,5 +7,7 @@ pub mod Blocks
 pub mod Heights
 pub mod Assembled
 pub mod Present
+pub mod Once
+pub mod OnceValues
 pub mod Whole
 pub mod Examples

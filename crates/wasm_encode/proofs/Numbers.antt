@@ -14,7 +14,7 @@ use Rattle.wasm_encode.specs.Gains.{IsSpelled, Gains}
 use Rattle.wasm_encode.proofs.Shortest.{then_least}
 
 -- a smaller number has a spelling that is no longer
-unsigned_less : {width n : ℕ} {text : List ℕ} → SpellsUnsigned width text n → (m : ℕ) → m ≤ n → (less : List ℕ) × SpellsUnsigned width less m × (length less ≤ length text)
+pub unsigned_less : {width n : ℕ} {text : List ℕ} → SpellsUnsigned width text n → (m : ℕ) → m ≤ n → (less : List ℕ) × SpellsUnsigned width less m × (length less ≤ length text)
 unsigned_less (unsigned_last {byte = byte} p q) m h = (m ∷ [], unsigned_last (omega arith) (omega arith), omega arith)
 unsigned_less {width = width} (unsigned_more {byte = byte} {high = high} {bytes = bytes} p q r s) m h =
     let rest = unsigned_less s (m / 128) (omega arith) in

@@ -16,6 +16,8 @@ use Rattle.wasm_encode.specs.Gains.{IsSpelled, Gains}
 use Rattle.wasm_encode.specs.Parts.{TypesPart, ImportsPart, FuncsPart, TablesPart, MemoriesPart, GlobalsPart, ExportsPart, StartPart, ElementsPart, CodesPart, SegmentsPart}
 use Rattle.wasm_encode.proofs.Shortest.{gains_then, first_spelled, second_spelled, joined_spelled}
 use Rattle.wasm_encode.proofs.Blocks.{gains_nothing}
+use Rattle.wasm_encode.proofs.Once.{IsOne, then_one, nothing_one}
+use Rattle.wasm_encode.proofs.OnceValues.{types_one, imports_one, funcs_one, tables_one, memories_one, globals_one, exports_one, start_one, elements_one, codes_one, segments_one}
 use Rattle.wasm_encode.proofs.Assembled.{Contents, contents, With, IsForm, Assembled, form_end, form_more}
 
 -- The parts from each number on: what they hold, how it is spelled, and what holds of the sections.
@@ -225,12 +227,12 @@ parts_spell m text t same =
     let all = (form1 m).assemble text t in
     (all.sections, record { text = text; whole = refl; spelled = all.spelled; ordered = all.ordered }, are_of m all.sections all.holds same)
 
--- A text of the module has texts of the parts, which are no longer.
-parts_taken : (m : Syntax Ops) (bytes : List ℕ) → Spells bytes m → (text : List ℕ) × Text1 text (values1 m) × (8 + length text ≤ length bytes)
+-- A text of the module has texts of the parts, which are no longer, and the same if they are no shorter.
+parts_taken : (m : Syntax Ops) (bytes : List ℕ) → Spells bytes m → (text : List ℕ) × Text1 text (values1 m) × (8 + length text ≤ length bytes) × (length bytes ≤ 8 + length text → bytes ≡ opening ++ text)
 parts_taken m bytes (sections, s, of) =
     let all : Assembled 0 s.text (Fact1 m) = record { sections = sections; spelled = s.spelled; ordered = s.ordered; holds = facts_of m sections of } in
     let taken = (form1 m).take s.text all in
-    (taken.0, taken.1, omega (arith, taken.2, ap length s.whole, length-append opening s.text))
+    (taken.0, taken.1, omega (arith, taken.2, ap length s.whole, length-append opening s.text), λ h. s.whole ∙ ap (λ z. opening ++ z) (taken.3 (omega (arith, ap length s.whole, length-append opening s.text, h))))
 
 same_functions : (m : Syntax Ops) → IsSpelled Spells m → length m.funcs ≡ length m.codes
 same_functions m (bytes, (sections, s, of)) = of.functions
@@ -306,6 +308,24 @@ segments_spelled m s = first_spelled SegmentsPart Text12 (values11 m) (spelled11
 whole_shortest : (m : Syntax Ops) (text : List ℕ) → SpellsShortest Text1 text (values1 m) → IsSpelled Spells m → SpellsShortest Spells (opening ++ text) m
 whole_shortest m text s spelled =
     (parts_spell m text s.0 (same_functions m spelled), λ other t. let taken = parts_taken m other t in omega (arith, s.1 taken.0 taken.1, taken.2, length-append opening text))
+
+-- There is one shortest text of the parts.
+parts_one : (m : Syntax Ops) → IsOne Values1 Text1 (values1 m)
+parts_one m = then_one TypesPart Text2 m.types (values2 m) (types_one m.types) (then_one ImportsPart Text3 m.imports (values3 m) (imports_one m.imports) (then_one FuncsPart Text4 m.funcs (values4 m) (funcs_one m.funcs) (then_one TablesPart Text5 m.tables (values5 m) (tables_one m.tables) (then_one MemoriesPart Text6 m.memories (values6 m) (memories_one m.memories) (then_one GlobalsPart Text7 m.globals (values7 m) (globals_one m.globals) (then_one ExportsPart Text8 m.exports (values8 m) (exports_one m.exports) (then_one StartPart Text9 m.start (values9 m) (start_one m.start) (then_one ElementsPart Text10 m.elements (values10 m) (elements_one m.elements) (then_one CodesPart Text11 m.codes (values11 m) (codes_one m.codes) (then_one SegmentsPart Text12 m.segments (values12 m) (segments_one m.segments) nothing_one))))))))))
+
+-- A shortest text of the module is a shortest text of the parts, behind the opening.
+parts_shortest : (m : Syntax Ops) (bytes : List ℕ) → SpellsShortest Spells bytes m → (text : List ℕ) × SpellsShortest Text1 text (values1 m) × (bytes ≡ opening ++ text)
+parts_shortest m bytes (s, least) =
+    let taken = parts_taken m bytes s in
+    let same = same_functions m (bytes, s) in
+    (taken.0, (taken.1, λ other t. omega (arith, least (opening ++ other) (parts_spell m other t same), taken.2, length-append opening other)), taken.3 (omega (arith, least (opening ++ taken.0) (parts_spell m taken.0 taken.1 same), length-append opening taken.0)))
+
+-- There is one shortest text of the module.
+pub whole_one : (m : Syntax Ops) (a b : List ℕ) → SpellsShortest Spells a m → SpellsShortest Spells b m → a ≡ b
+whole_one m a b s t =
+    let first = parts_shortest m a s in
+    let second = parts_shortest m b t in
+    first.2 ∙ ap (λ z. opening ++ z) ((parts_one m).same first.0 second.0 first.1 second.1) ∙ sym second.2
 
 -- The parts, one behind the other.
 gains11 : (m : Syntax Ops) (a11 a12 : List ℕ) → Gains SegmentsPart m.segments a11 a12 → Gains Text11 (values11 m) a11 a12

@@ -28,6 +28,7 @@ const OPENING: [u8; 8] = [0x00, 0x61, 0x73, 0x6d, 0x01, 0x00, 0x00, 0x00];
 pub fn encode(alloc: Global, whole: &Module) -> Result<Vec<u8>, NoMemory>
     requires { (text : List ℕ) × Spells text (module_view whole.now) }
     ensures shortest { IfOk result (λ bytes. SpellsShortest Spells bytes.items (module_view whole.now)) }
+    ensures once { IfOk result (λ bytes. (other : List ℕ) → SpellsShortest Spells other (module_view whole.now) → other ≡ bytes.items) }
 {
     let mut out = OPENING.to_vec(alloc)?;
     put_part::<TypeEntry>(alloc, &mut out, 1, whole.types.as_slice())?;

@@ -1,5 +1,5 @@
 // A memory in pages of 65,536 bytes.
-ghost use Rattle.std.specs.Prelude.{◌≡◌, ◌+◌, ◌*◌, ◌<◌, ◌≤◌, ◌↔◌, min, IfOk, IfSome, IsSome, IsNone, IsTrue, false, length};
+ghost use Rattle.std.specs.Prelude.{◌≡◌, ◌+◌, ◌*◌, ◌<◌, ◌≤◌, ◌↔◌, min, IfOk, IfSome, IsSome, IsNone, IsTrue, false, length, vec_capacity, []};
 ghost use Rattle.wasm_store.specs.Bytes.{IsWidth, le_bytes, le_number};
 ghost use Rattle.wasm_store.specs.Memory.{page_size, most_pages, page_count, fresh, grown, span, written};
 
@@ -13,7 +13,7 @@ const MOST_PAGES: u32 = 256;
 /// The bytes of a memory. All that it may grow to is reserved when it is made.
 #[derive(Drop)]
 pub struct Pages {
-    bytes: Vec<u8>,
+    pub(crate) bytes: Vec<u8>,
     limit: u32,
 }
 
@@ -37,7 +37,7 @@ impl Pages {
         ensures { IfOk result (λ m. m ≡ fresh min max) }
     {
         let limit = max.min(MOST_PAGES);
-        let mut bytes = Vec::with_capacity(alloc, (limit * PAGE_SIZE) as usize)?;
+        let mut bytes = reserved(alloc, limit)?;
         bytes.resize((min * PAGE_SIZE) as usize, 0)?;
         Ok(Pages { bytes, limit })
     }
@@ -136,6 +136,15 @@ impl Pages {
             _ => self.write_span(at, &bytes),
         }
     }
+}
+
+/// No bytes yet, and room for those of so many pages and no more.
+fn reserved(alloc: Global, limit: u32) -> Result<Vec<u8>, AllocError>
+    requires { limit ≤ most_pages }
+    ensures empty { IfOk result (λ bytes. bytes.items ≡ []) }
+    ensures room { IfOk result (λ bytes. vec_capacity bytes ≡ limit * page_size) }
+{
+    Vec::with_capacity(alloc, (limit * PAGE_SIZE) as usize)
 }
 
 /// The number that 8 bytes spell.

@@ -6,6 +6,7 @@ use std::test::Fail;
 fn memory_grows_to_its_limit(rt: HostRuntime) -> Result<(), Fail> {
     let mut pages = Pages::new(rt.alloc(), 1, 3)?;
     assert_eq!(rt; pages.size(), 1);
+    assert_eq!(rt; pages.bytes.capacity(), 196_608);
     assert_eq!(rt; pages.grow(3), None);
     assert_eq!(rt; pages.grow(2), Some(1));
     assert_eq!(rt; pages.grow(1), None);
@@ -15,6 +16,29 @@ fn memory_grows_to_its_limit(rt: HostRuntime) -> Result<(), Fail> {
     let mut widest = Pages::new(rt.alloc(), 0, u32::MAX)?;
     assert_eq!(rt; widest.grow(257), None);
     assert_eq!(rt; widest.grow(256), Some(0));
+    Ok(())
+}
+
+#[test]
+fn many_pages_begin_at_0_and_grow_to_256(rt: HostRuntime) -> Result<(), Fail> {
+    let mut pages = Pages::new(rt.alloc(), 5, 300)?;
+    assert_eq!(rt; pages.size(), 5);
+    assert_eq!(rt; pages.bytes.capacity(), 16_777_216);
+    assert_eq!(rt; pages.load(0, 8), Some(0));
+    assert_eq!(rt; pages.load(327_672, 8), Some(0));
+    assert_eq!(rt; pages.load(327_673, 8), None);
+    assert!(rt; pages.store(0, 1, 0x11));
+    assert!(rt; pages.store(327_679, 1, 0x22));
+    assert_eq!(rt; pages.grow(252), None);
+    assert_eq!(rt; pages.grow(251), Some(5));
+    assert_eq!(rt; pages.size(), 256);
+    assert_eq!(rt; pages.bytes.capacity(), 16_777_216);
+    assert_eq!(rt; pages.load(0, 1), Some(0x11));
+    assert_eq!(rt; pages.load(327_679, 2), Some(0x22));
+    assert_eq!(rt; pages.load(16_777_208, 8), Some(0));
+    assert!(rt; pages.store(16_777_215, 1, 0x33));
+    assert_eq!(rt; pages.load(16_777_215, 1), Some(0x33));
+    assert_eq!(rt; pages.load(16_777_216, 1), None);
     Ok(())
 }
 
@@ -49,20 +73,26 @@ fn spans_are_read_and_written(rt: HostRuntime) -> Result<(), Fail> {
 
 #[test]
 fn variables_begin_at_0(rt: HostRuntime) -> Result<(), Fail> {
-    let mut values = GlobalValues::new(rt.alloc(), 2)?;
+    let mut values = GlobalValues::new(rt.alloc(), 1_000)?;
     values.set(1, 7);
+    values.set(999, u64::MAX);
     assert_eq!(rt; values.get(0), 0);
     assert_eq!(rt; values.get(1), 7);
+    assert_eq!(rt; values.get(998), 0);
+    assert_eq!(rt; values.get(999), u64::MAX);
     Ok(())
 }
 
 #[test]
 fn entries_begin_empty(rt: HostRuntime) -> Result<(), Fail> {
-    let mut table = FuncTable::new(rt.alloc(), 2)?;
+    let mut table = FuncTable::new(rt.alloc(), 65_536)?;
     assert!(rt; table.set(1, 5));
-    assert!(rt; !table.set(2, 6));
+    assert!(rt; table.set(65_535, 6));
+    assert!(rt; !table.set(65_536, 7));
     assert_eq!(rt; table.get(0), Some(None));
     assert_eq!(rt; table.get(1), Some(Some(5)));
-    assert_eq!(rt; table.get(2), None);
+    assert_eq!(rt; table.get(65_534), Some(None));
+    assert_eq!(rt; table.get(65_535), Some(Some(6)));
+    assert_eq!(rt; table.get(65_536), None);
     Ok(())
 }

@@ -1,6 +1,6 @@
 use Rattle.std.proofs.lemmas.List.{map-id}
 use Rattle.wasm_module.specs.Sections.{module_view}
-use Rattle.wasm_encode.proofs.Whole.{types_spelled, imports_spelled, funcs_spelled, tables_spelled, memories_spelled, globals_spelled, exports_spelled, start_spelled, elements_spelled, codes_spelled, segments_spelled, gains_whole}
+use Rattle.wasm_encode.proofs.Whole.{types_spelled, imports_spelled, funcs_spelled, tables_spelled, memories_spelled, globals_spelled, exports_spelled, start_spelled, elements_spelled, codes_spelled, segments_spelled, gains_whole, whole_one}
 use Rattle.wasm_encode.proofs.sections.encode.Goals as goal
 
 pub put_part-requires : goal.put_part-requires
@@ -37,4 +37,6 @@ pub put_part-requires-10 : goal.put_part-requires-10
 put_part-requires-10 c = rw c.as_slice-10.ensures (segments_spelled (module_view c.args.whole.now) c.requires)
 
 pub returns : goal.returns
-returns c = record { shortest = gains_whole (module_view c.args.whole.now) c.in_ok-out.out.items c.put_part.new.out.items c.put_part-2.new.out.items c.put_part-3.new.out.items c.put_part-4.new.out.items c.put_part-5.new.out.items c.put_part-6.new.out.items c.put_part-7.new.out.items c.put_start.new.out.items c.put_part-8.new.out.items c.put_part-9.new.out.items c.put_part-10.new.out.items c.requires (c.in_ok-out.ensures.items_if_clones_equal (λ x y same. same)) (rw (map-id, c.as_slice.ensures) at c.in_ok-put_part.ensures) (rw (map-id, c.as_slice-2.ensures) at c.in_ok-put_part-2.ensures) (rw (map-id, c.as_slice-3.ensures) at c.in_ok-put_part-3.ensures) (rw (map-id, c.as_slice-4.ensures) at c.in_ok-put_part-4.ensures) (rw (map-id, c.as_slice-5.ensures) at c.in_ok-put_part-5.ensures) (rw c.as_slice-6.ensures at c.in_ok-put_part-6.ensures) (rw (map-id, c.as_slice-7.ensures) at c.in_ok-put_part-7.ensures) c.in_ok-put_start.ensures (rw c.as_slice-8.ensures at c.in_ok-put_part-8.ensures) (rw c.as_slice-9.ensures at c.in_ok-put_part-9.ensures) (rw c.as_slice-10.ensures at c.in_ok-put_part-10.ensures) }
+returns c =
+    let shortest = gains_whole (module_view c.args.whole.now) c.in_ok-out.out.items c.put_part.new.out.items c.put_part-2.new.out.items c.put_part-3.new.out.items c.put_part-4.new.out.items c.put_part-5.new.out.items c.put_part-6.new.out.items c.put_part-7.new.out.items c.put_start.new.out.items c.put_part-8.new.out.items c.put_part-9.new.out.items c.put_part-10.new.out.items c.requires (c.in_ok-out.ensures.items_if_clones_equal (λ x y same. same)) (rw (map-id, c.as_slice.ensures) at c.in_ok-put_part.ensures) (rw (map-id, c.as_slice-2.ensures) at c.in_ok-put_part-2.ensures) (rw (map-id, c.as_slice-3.ensures) at c.in_ok-put_part-3.ensures) (rw (map-id, c.as_slice-4.ensures) at c.in_ok-put_part-4.ensures) (rw (map-id, c.as_slice-5.ensures) at c.in_ok-put_part-5.ensures) (rw c.as_slice-6.ensures at c.in_ok-put_part-6.ensures) (rw (map-id, c.as_slice-7.ensures) at c.in_ok-put_part-7.ensures) c.in_ok-put_start.ensures (rw c.as_slice-8.ensures at c.in_ok-put_part-8.ensures) (rw c.as_slice-9.ensures at c.in_ok-put_part-9.ensures) (rw c.as_slice-10.ensures at c.in_ok-put_part-10.ensures) in
+    record { shortest = shortest; once = λ other s. whole_one (module_view c.args.whole.now) other c.put_part-10.new.out.items s shortest }
