@@ -13,7 +13,7 @@ use Rattle.world_rules.specs.Sound.{IsSound}
 use Rattle.ruled_tick.specs.Ticked.{upkept, ticked, ticked_room, AreInPlace}
 use Rattle.ruled_tick.proofs.Objects.{upkept-id, upkept-IsSame, upkept-IsInRange}
 use Rattle.ruled_tick.proofs.Rising.{IsRising-filter_map}
-use Rattle.ruled_tick.proofs.Entries.{changed, under-kept}
+use Rattle.ruled_tick.proofs.Entries.{changed, times-kept}
 use Rattle.ruled_tick.proofs.Placed.{placed-ticked, get-ticked, get-upkeep}
 use Rattle.ruled_tick.proofs.Kept.{StandsAs, Succeeds, broken_before}
 
@@ -48,7 +48,7 @@ succeeds w s = record {
   rooms = frames w.rooms;
   accounts = refl;
   stands = λ id p h. stood w id p (get (world_of w).objects id) refl (sym (get-ticked w s id) ∙ h);
-  counts = λ id. rw (placed-ticked w) (under-kept upkept id (placed (listing_of w)));
+  counts = λ id. rw (placed-ticked w) (times-kept upkept id (placed (listing_of w)));
 }
 
 in_place_as : (rooms : List Room) (index : ℕ) (room : Room) (found : Option Room) → AreInPlace rooms → slice_get rooms index ≡ found → option_map ticked_room found ≡ Some room → room.table.index ≡ index

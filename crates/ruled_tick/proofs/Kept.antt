@@ -11,7 +11,7 @@ use Rattle.world_rules.specs.Kinds.{clash, is_controller}
 use Rattle.world_rules.specs.World.{Placed, Frame, World, Listing, placed, world_listed}
 use Rattle.world_rules.specs.Rules.{Broken, Stands, IsRoom, IsInRangeAs, IsInTheWay, IsOnWrongTile, HasWrongOwner, HasNoBirth}
 use Rattle.ruled_tick.proofs.Objects.{IsSame}
-use Rattle.ruled_tick.proofs.Entries.{under}
+use Rattle.world_rules.proofs.Entries.{times}
 
 -- An object that stands in the room where it stood, and in its ranges if it was in them.
 pub record StandsAs (before after : Placed) : Type 0 where
@@ -24,7 +24,7 @@ pub record Succeeds (before after : Listing) : Type 0 where
   pub rooms : (world_listed after).rooms ≡ (world_listed before).rooms
   pub accounts : after.accounts ≡ before.accounts
   pub stands : (id : ℕ) (p : Placed) → Stands (world_listed after) id p → (q : Placed) × Stands (world_listed before) id q × StandsAs q p
-  pub counts : (id : ℕ) → under id (placed after) ≤ under id (placed before)
+  pub counts : (id : ℕ) → times id (placed after) ≤ times id (placed before)
 
 wrong_tile : (grounds : List Ground) (one other : Object) → IsSame other one → IsOnWrongTile grounds one → IsOnWrongTile grounds other
 wrong_tile grounds one other same h =

@@ -1,5 +1,5 @@
 -- The objects of a stored world after a tick, listed and by id.
-use Rattle.std.proofs.Common.{◌≡◌, ℕ, suc, ◌≤◌, List, [], ◌∷◌, ◌++◌, map, Option, Some, None, option_map, option_and_then, filter_map, refl, sym, ap, ◌∙◌, arith}
+use Rattle.std.proofs.Common.{◌≡◌, ℕ, suc, List, [], ◌∷◌, ◌++◌, map, Option, Some, None, option_map, option_and_then, filter_map, refl, sym, ap, ◌∙◌}
 use Rattle.std.specs.List.{cons_option}
 use Rattle.std.specs.Ordering.{nat_cmp}
 use Rattle.std.specs.Cmp.{nat_cmp_total}
@@ -10,11 +10,11 @@ use Rattle.object_store.specs.declared.world.Room.{Room}
 use Rattle.object_store.specs.Stored.{Stored}
 use Rattle.world_rules.specs.World.{Placed, Objects, placed, placed_from, listed_room, listing_of, world_of}
 use Rattle.world_rules.specs.Upkeep.{kept, each, upkeep, renewed, decayed}
-use Rattle.world_rules.specs.declared.rule.Rule.TheVariants.{IdTwice}
 use Rattle.world_rules.specs.Sound.{IsSound}
+use Rattle.world_rules.proofs.Same.{once}
 use Rattle.ruled_tick.specs.Ticked.{upkept, ticked, ticked_room}
 use Rattle.ruled_tick.proofs.Objects.{upkept-id}
-use Rattle.ruled_tick.proofs.Entries.{changed, under, find-kept, get-each}
+use Rattle.ruled_tick.proofs.Entries.{changed, find-kept, get-each}
 
 abbrev tagged : ℕ → Object → ℕ × Placed
 tagged index object = (object.id, record { room = index; object = object })
@@ -37,11 +37,6 @@ placed_from-ticked index (room ∷ rooms) =
 
 pub placed-ticked : (w : Stored) → placed (listing_of (ticked w)) ≡ kept upkept (placed (listing_of w))
 placed-ticked w = placed_from-ticked 0 w.rooms
-
-once : (w : Stored) → IsSound w → (q : ℕ) → under q (placed (listing_of w)) ≤ 1
-once w s q =
-    let not_twice : 2 ≤ under q (placed (listing_of w)) → ⊥ = s.rules IdTwice q (λ e. cc) (λ e. cc) in
-    omega arith
 
 pub get-ticked : (w : Stored) → IsSound w → (q : ℕ) → get (world_of (ticked w)).objects q ≡ option_and_then (changed upkept) (get (world_of w).objects q)
 get-ticked w s q =

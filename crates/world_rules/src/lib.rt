@@ -4,6 +4,8 @@
 
 mod rows;
 mod rule;
+mod sound;
 
 pub use rows::worked_rows;
 pub use rule::Rule;
+pub use sound::stored_in_one_way;

@@ -21,7 +21,8 @@ use Rattle.world_text.specs.declared.draft.Standing.{Standing}
 use Rattle.world_text.specs.Drafts.{drafted, drafted_room}
 use Rattle.world_text.specs.Checks.{entry_of, placed_of, frames_of, IsFlat, IsTwin, IsOpen, IsUnborn, IsMisplaced, IsOwned, IsOutOfRange, IsBad, NoneBad, IsSameId, IsBlocked, AreWithin}
 use Rattle.world_text.proofs.Firsts.{frame_at}
-use Rattle.world_text.proofs.Standings.{listed, some_stands, one_stands, times, times_flat, few, two_times, IsApart, key_at, any_key}
+use Rattle.world_rules.proofs.Entries.{times}
+use Rattle.world_text.proofs.Standings.{listed, some_stands, one_stands, times_flat, few, two_times, IsApart, key_at, any_key}
 
 -- ---- rooms
 

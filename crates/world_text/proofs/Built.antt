@@ -27,7 +27,8 @@ use Rattle.world_text.specs.declared.draft.RoomDraft.{RoomDraft}
 use Rattle.world_text.specs.declared.draft.Draft.{Draft}
 use Rattle.world_text.specs.Drafts.{drafted, drafted_room, drafted_rooms}
 use Rattle.world_text.specs.Checks.{entries_at, IsTableOf, HasEachOnce}
-use Rattle.world_text.proofs.Standings.{Entries, times, found_among, among_found, found_only, Contains-from_Among, Among-from_Contains, equal_test}
+use Rattle.world_rules.proofs.Entries.{Entries, times, times_append}
+use Rattle.world_text.proofs.Standings.{found_among, among_found, found_only, Contains-from_Among, Among-from_Contains, equal_test}
 
 -- ---- a room's objects in rising id
 
@@ -77,25 +78,17 @@ entry_counts q index (o ∷ os) =
     let rest : times q (entries_at index os) ≡ count_id q os = entry_counts q index os in
     omega arith
 
-times-append : (q : ℕ) (es fs : Entries) → times q (es ++ fs) ≡ times q es + times q fs
-times-append q [] fs = omega arith
-times-append q (e ∷ es) fs =
-    let one : times q ((e ∷ es) ++ fs) ≡ cond (e.0 == q) 1 0 + times q (es ++ fs) = sum_by-cons _ e (es ++ fs) in
-    let two : times q (e ∷ es) ≡ cond (e.0 == q) 1 0 + times q es = sum_by-cons _ e es in
-    let rest : times q (es ++ fs) ≡ times q es + times q fs = times-append q es fs in
-    omega arith
-
 room_times : (q index k : ℕ) (drafts : List RoomDraft) (r : RoomDraft) → slice_get drafts k ≡ Some r → count_id q r.objects.items ≤ times q (placed_from index (drafted_rooms drafts))
 room_times q index k [] r e = absurd cc
 room_times q index zero (x ∷ drafts) r e =
     let same : x ≡ r = cc in
-    let all = times-append q (entries_at index x.objects.items) (placed_from (suc index) (drafted_rooms drafts)) in
+    let all = times_append q (entries_at index x.objects.items) (placed_from (suc index) (drafted_rooms drafts)) in
     let mine = entry_counts q index x.objects.items in
     let equal : count_id q x.objects.items ≡ count_id q r.objects.items = ap (λ (y : RoomDraft). count_id q y.objects.items) same in
     omega (arith, all, mine, equal)
 room_times q index (suc k) (x ∷ drafts) r e =
     let rest : count_id q r.objects.items ≤ times q (placed_from (suc index) (drafted_rooms drafts)) = room_times q (suc index) k drafts r e in
-    omega (arith, times-append q (entries_at index x.objects.items) (placed_from (suc index) (drafted_rooms drafts)))
+    omega (arith, times_append q (entries_at index x.objects.items) (placed_from (suc index) (drafted_rooms drafts)))
 
 room_length : (index k : ℕ) (drafts : List RoomDraft) (r : RoomDraft) → slice_get drafts k ≡ Some r → length r.objects.items ≤ length (placed_from index (drafted_rooms drafts))
 room_length index k [] r e = absurd cc

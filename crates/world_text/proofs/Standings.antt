@@ -1,6 +1,6 @@
 -- The objects of a draft's list are those that stand in its world.
 use Rattle.std.proofs.Common.{◌≡◌, ℕ, zero, suc, ◌+◌, ◌<◌, ◌≤◌, ◌==◌, List, [], ◌∷◌, map, length, get_or, Bool, true, false, cond, Some, refl, sym, ap, ◌∙◌, arith, inl, inr}
-use Rattle.std.specs.List.{Contains, count_by}
+use Rattle.std.specs.List.{Contains}
 use Rattle.std.specs.List.Sorted.{IsNonDecreasingBy}
 use Rattle.std.specs.Ordering.{nat_cmp}
 use Rattle.std.specs.Cmp.{unsigned_tied, nat_cmp_total}
@@ -15,14 +15,8 @@ use Rattle.world_text.specs.declared.draft.Draft.{Draft}
 use Rattle.world_text.specs.declared.draft.Standing.{Standing}
 use Rattle.world_text.specs.Drafts.{drafted}
 use Rattle.world_text.specs.Checks.{entry_of, placed_of, IsFlat, IsSameId}
+use Rattle.world_rules.proofs.Entries.{Entries, times}
 use Rattle.world_text.proofs.Named.{Among, Among-map, Among-map_back}
-
-abbrev pub Entries : Type 0
-Entries = List (ℕ × Placed)
-
--- how often an id stands in a list
-abbrev pub times : ℕ → Entries → ℕ
-times id es = count_by (λ entry. entry.0 == id) es
 
 -- ---- a list and its places
 

@@ -1,14 +1,10 @@
 -- The rules keep the fields of each object in a file's ranges.
-use Rattle.std.proofs.Common.{◌≡◌, ℕ, suc, ◌+◌, ◌/◌, ◌%◌, ◌^◌, ◌≤◌, ◌==◌, List, [], ◌∷◌, length, map, Bool, true, false, cond, Option, Some, None, refl, sym, ap, ◌∙◌, arith, inl, inr, slice_get}
-use Rattle.std.specs.List.{AllByRecursion, count_by}
-use Rattle.std.specs.Ordering.{nat_cmp, eq_by_cmp}
+use Rattle.std.proofs.Common.{◌≡◌, ℕ, suc, ◌/◌, ◌%◌, ◌^◌, ◌<◌, ◌≤◌, List, [], ◌∷◌, length, map, Option, Some, None, refl, ap, ◌∙◌, arith, inl, inr, slice_get}
+use Rattle.std.specs.List.{AllByRecursion}
 use Rattle.std.specs.FinMap.{get-from_entries}
-use Rattle.std.specs.FinMap.Entries.{find}
-use Rattle.std.specs.Cmp.{unsigned_tied}
 use Rattle.std.proofs.lemmas.Cmp.{nat_cmp_total}
-use Rattle.std.proofs.lemmas.Bool.{cases_eq, cases_lt, eq-eqb, ne_eqb}
+use Rattle.std.proofs.lemmas.Bool.{cases_eq, cases_lt}
 use Rattle.std.proofs.lemmas.List.{length-map}
-use Rattle.std.proofs.lemmas.List.Sums.{sum_by-cons}
 use Rattle.std.proofs.lemmas.Option.{slice_get_past}
 use Rattle.game_tables.specs.declared.kind.Kind.{Kind}
 use Rattle.game_tables.specs.declared.kind.Kind.TheVariants as kinds
@@ -21,6 +17,8 @@ use Rattle.object_store.specs.Stored.{Stored}
 use Rattle.world_rules.specs.declared.rule.Rule.TheVariants as rules
 use Rattle.world_rules.specs.World.{Placed, Frame, ListedRoom, Listing, placed, placed_from, world_listed, listed_room, listing_of}
 use Rattle.world_rules.specs.Rules.{KeepsRules, Stands, HasNoBirth, IsSource, IsPile, IsInRangeAs}
+use Rattle.world_rules.proofs.Entries.{times}
+use Rattle.world_text.proofs.Standings.{found_only}
 use Rattle.world_text.proofs.Named.{Among, Among-append_left, Among-append_right, Among-map}
 use Rattle.world_text.proofs.WrittenBack.{IsInFile}
 
@@ -113,42 +111,6 @@ object_fits kinds.Rampart o is low high held = absurd (held (λ none. none))
 object_fits kinds.Wall o is low high held = absurd (held (λ none. none))
 object_fits kinds.Tombstone o is low high held = absurd (held (λ none. none))
 
--- ---- an id that stands once
-
-abbrev has_id : ℕ → ℕ × Placed → Bool
-has_id id entry = entry.0 == id
-
-counted : (id : ℕ) (first : ℕ × Placed) (es : List (ℕ × Placed)) (b : Bool) → has_id id first ≡ b → count_by (has_id id) (first ∷ es) ≡ cond b 1 0 + count_by (has_id id) es
-counted id first es b is = sum_by-cons (λ e. cond (has_id id e) 1 0) first es ∙ ap (λ (t : Bool). cond t 1 0 + count_by (has_id id) es) is
-
-ids_one : (id : ℕ) (es : List (ℕ × Placed)) (e : ℕ × Placed) → Among e es → e.0 ≡ id → 1 ≤ count_by (has_id id) es
-ids_one id [] e h is = absurd h
-ids_one id (first ∷ es) e (inl same) is =
-    let count : count_by (has_id id) (first ∷ es) ≡ 1 + count_by (has_id id) es = counted id first es true (eq-eqb first.0 id (sym (ap (λ (p : ℕ × Placed). p.0) same) ∙ is)) in
-    omega arith
-ids_one id (first ∷ es) e (inr h) is =
-    let later : 1 ≤ count_by (has_id id) es = ids_one id es e h is in
-    let count = counted id first es _ refl in
-    omega arith
-
--- an entry whose id stands once is found
-one_found : (id : ℕ) (es : List (ℕ × Placed)) (e : ℕ × Placed) → Among e es → e.0 ≡ id → count_by (has_id id) es ≤ 1 → find nat_cmp id es ≡ Some e.1
-one_found id [] e h is once = absurd h
-one_found id (first ∷ es) e (inl same) is once =
-    let here : eq_by_cmp nat_cmp id first.0 ≡ true = unsigned_tied id first.0 ∙ eq-eqb id first.0 (sym is ∙ ap (λ (p : ℕ × Placed). p.0) same) in
-    rw here (ap (λ (p : ℕ × Placed). Some p.1) (sym same))
-one_found id (first ∷ es) e (inr h) is once =
-    let later : 1 ≤ count_by (has_id id) es = ids_one id es e h is in
-    elim (cases_eq first.0 id) [
-      | inl same ↦
-          let count : count_by (has_id id) (first ∷ es) ≡ 1 + count_by (has_id id) es = counted id first es true (eq-eqb first.0 id same) in
-          absurd (omega arith)
-      | inr apart ↦
-          let count : count_by (has_id id) (first ∷ es) ≡ 0 + count_by (has_id id) es = counted id first es false (ne_eqb first.0 id apart) in
-          let there : eq_by_cmp nat_cmp id first.0 ≡ false = unsigned_tied id first.0 ∙ ne_eqb id first.0 (λ e. apart (sym e)) in
-          rw there (one_found id es e h is (omega arith))
-    ]
-
 -- ---- the objects of a world
 
 abbrev entry : ℕ → Object → ℕ × Placed
@@ -156,8 +118,8 @@ entry room o = (o.id, record { room = room; object = o })
 
 stands : (listing : Listing) (room : ℕ) (o : Object) → KeepsRules listing → Among (entry room o) (placed listing) → Stands (world_listed listing) o.id (record { room = room; object = o })
 stands listing room o keeps h =
-    let once : count_by (has_id o.id) (placed listing) ≤ 1 = elim (cases_lt 1 (count_by (has_id o.id) (placed listing))) [ inl lt ↦ absurd (keeps rules.IdTwice o.id lt) | inr le ↦ le ] in
-    get-from_entries nat_cmp_total (placed listing) o.id ∙ one_found o.id (placed listing) (entry room o) h refl once
+    let few : times o.id (placed listing) < 2 = elim (cases_lt 1 (times o.id (placed listing))) [ inl lt ↦ absurd (keeps rules.IdTwice o.id lt) | inr le ↦ omega arith ] in
+    get-from_entries nat_cmp_total (placed listing) o.id ∙ found_only o.id (record { room = room; object = o }) (placed listing) h few
 
 some_or_none : {A : Type 0} (x : Option A) (a : A) → x ≡ Some a → x ≡ None → ⊥
 some_or_none x a e none = cc
