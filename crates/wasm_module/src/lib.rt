@@ -17,8 +17,6 @@ mod instr;
 mod leaves;
 mod limits;
 mod module;
-#[cfg(test)]
-mod module_tests;
 mod nested;
 mod parts;
 mod read;
