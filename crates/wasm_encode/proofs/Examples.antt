@@ -1,66 +1,64 @@
 -- That the modules of the tests are spelled.
-use Rattle.std.proofs.Common.{◌≡◌, ℕ, ◌<◌, ◌≤◌, List, [], ◌∷◌, ◌++◌, length, length-append, refl, ap, sym, ◌∙◌, subst, arith, rules, None}
+use Rattle.std.proofs.Common.{◌≡◌, ℕ, ◌^◌, ◌<◌, List, [], ◌∷◌, ◌++◌, refl, ap, sym, ◌∙◌, subst, arith, rules, All, Option, Some, None}
+use Rattle.std.proofs.lemmas.List.Elements.{All-nil, All-cons}
 use Rattle.std.proofs.lemmas.Str.{IsUtf8-from_ascii}
-use Rattle.byte_fields.specs.Leb.{unsigned_last}
-use Rattle.wasm_module.specs.Spelling.{SpellsU32, each_none, each_next, SpellsList}
+use Rattle.std.specs.Str.{IsUtf8}
 use Rattle.wasm_module.specs.Syntax.{Ops, no_ops, next, loop, br, if_else, nop}
-use Rattle.wasm_module.specs.Values.{SpellsFuncType, spells_no_result, result_none, SpellsExport, exports_func}
-use Rattle.wasm_module.specs.Instructions.{SpellsOps, spells_none, spells_next, spells_loop, spells_br, spells_if, spells_nop, SpellsExpression}
-use Rattle.wasm_module.specs.Entries.{SpellsCode}
 use Rattle.wasm_module.specs.Sections.{Syntax, Spells}
 use Rattle.wasm_module.specs.View.{instr_view, instrs_view, items_view}
-use Rattle.wasm_module.specs.declared.types.FuncType.{FuncType}
 use Rattle.wasm_module.specs.declared.exports.Export.{Export}
 use Rattle.wasm_module.specs.declared.exports.ExportDesc.TheVariants as export
 use Rattle.wasm_module.specs.declared.instr.Instr.{Instr}
 use Rattle.wasm_module.specs.declared.instr.Instr.TheVariants as code
 use Rattle.wasm_module.specs.declared.instr.Instrs.{Instrs}
 use Rattle.wasm_module.proofs.Views.{view_instrs, view_loop, view_br, view_if, view_nop}
+use Rattle.wasm_encode.specs.Encodable.{IsU32, AreLimits, AreInstructions, IsImported, IsExported, weight, IsEncodable}
 use Rattle.wasm_encode.specs.Gains.{IsSpelled}
-use Rattle.wasm_encode.specs.Parts.{SpellsPart, part_absent, part_present, ExportsPart}
 use Rattle.wasm_encode.specs.Samples.{nothing, one_function}
-use Rattle.wasm_encode.proofs.Whole.{whole_spelled}
+use Rattle.wasm_encode.proofs.Exists.{encodable_spelled}
 
--- a number of seven bits
-byte_number : (n : ℕ) → n < 128 → SpellsU32 (n ∷ []) n
-byte_number n h = unsigned_last h (omega arith)
+no_start : (func : ℕ) → ◌≡◌ {A = Option ℕ} None (Some func) → ⊥
+no_start func e = cc
 
-absent : {V : Type 0} (number : ℕ) (Spells : List ℕ → V → Type 0) (empty : V) → IsSpelled (SpellsPart number Spells empty) empty
-absent number Spells empty = ([], part_absent)
+-- a list of one entry
+single : {X : Type 0} (P : X → Type 0) (x : X) → P x → All P (x ∷ [])
+single P x p = All-cons P x [] p (All-nil P)
 
--- the section of one entry
-one_entry : {V : Type 0} (number : ℕ) (Spells : List ℕ → V → Type 0) (value : V) (text : List ℕ) → Spells text value → length text ≤ 100 → IsSpelled (SpellsPart number (SpellsList Spells) []) (value ∷ [])
-one_entry number Spells value text s h =
-    let content : List ℕ = 0x01 ∷ (text ++ []) in
-    let size : length content < 128 = omega (arith, length-append text []) in
-    let list : SpellsList Spells content (value ∷ []) = (0x01 ∷ [], text ++ [], byte_number 1 (omega arith), each_next s each_none, refl) in
-    (number ∷ (length content ∷ content), part_present (content, list, (length content ∷ [], byte_number (length content) size, refl)))
+nothing_encodable : IsEncodable nothing
+nothing_encodable = record {
+  functions = refl;
+  imports = All-nil (λ entry. IsUtf8 entry.module × IsUtf8 entry.name × IsImported entry.desc);
+  funcs = All-nil IsU32;
+  tables = All-nil AreLimits;
+  memories = All-nil AreLimits;
+  globals = All-nil (λ global. AreInstructions global.1);
+  exports = All-nil (λ entry. IsUtf8 entry.name × IsExported entry.desc);
+  start = λ func e. absurd (no_start func e);
+  elements = All-nil (λ element. IsU32 element.0 × AreInstructions element.1.0 × All IsU32 element.1.1);
+  codes = All-nil (λ code. All (λ run. IsU32 run.count) code.0 × AreInstructions code.1);
+  segments = All-nil (λ segment. IsU32 segment.0 × AreInstructions segment.1.0);
+  small = omega arith;
+}
 
 pub nothing_spelled : IsSpelled Spells nothing
-nothing_spelled = whole_spelled nothing (absent _ _ _) (absent _ _ _) (absent _ _ _) (absent _ _ _) (absent _ _ _) (absent _ _ _) (absent _ _ _) (absent _ _ _) (absent _ _ _) (absent _ _ _) (absent _ _ _) refl
+nothing_spelled = encodable_spelled nothing nothing_encodable
 
-abbrev plain_type : FuncType
-plain_type = record { params = []; result = None }
-
-type_text : SpellsFuncType (0x60 ∷ 0x00 ∷ 0x00 ∷ []) plain_type
-type_text =
-    let zero : SpellsU32 (0x00 ∷ []) 0 = byte_number 0 (omega arith) in
-    (0x60 ∷ [], 0x00 ∷ 0x00 ∷ [], refl, (0x00 ∷ [], 0x00 ∷ [], (0x00 ∷ [], [], zero, each_none, refl), ([], (0x00 ∷ [], [], zero, each_none, refl), result_none), refl), refl)
-
-code_text : (ops : Ops) (text : List ℕ) → SpellsOps text ops → length text ≤ 90 → (bytes : List ℕ) × SpellsCode SpellsExpression bytes ([], ops) × (length bytes ≤ 100)
-code_text ops text s h =
-    let zero : SpellsU32 (0x00 ∷ []) 0 = byte_number 0 (omega arith) in
-    let content : List ℕ = 0x00 ∷ (text ++ 0x0b ∷ []) in
-    let size : length content < 128 = omega (arith, length-append text (0x0b ∷ [])) in
-    (length content ∷ content, (content, (0x00 ∷ [], text ++ 0x0b ∷ [], (0x00 ∷ [], [], zero, each_none, refl), (text, s, refl), refl), (length content ∷ [], byte_number (length content) size, refl)), omega (arith, length-append text (0x0b ∷ [])))
-
-function_spelled : (exports : List Export) (ops : Ops) (text : List ℕ) → IsSpelled ExportsPart exports → SpellsOps text ops → length text ≤ 90 → IsSpelled Spells (one_function exports ops)
-function_spelled exports ops text e s h =
-    let code = code_text ops text s h in
-    whole_spelled (one_function exports ops) (one_entry 1 SpellsFuncType plain_type (0x60 ∷ 0x00 ∷ 0x00 ∷ []) type_text (omega arith)) (absent _ _ _) (one_entry 3 SpellsU32 0 (0x00 ∷ []) (byte_number 0 (omega arith)) (omega arith)) (absent _ _ _) (absent _ _ _) (absent _ _ _) e (absent _ _ _) (absent _ _ _) (one_entry 10 (SpellsCode SpellsExpression) ([], ops) code.0 code.1 code.2) (absent _ _ _) refl
-
-no_exports : IsSpelled ExportsPart []
-no_exports = absent _ _ _
+-- a module of one function, with these exports and this body
+function_encodable : (exports : List Export) (ops : Ops) → All (λ entry. IsUtf8 entry.name × IsExported entry.desc) exports → AreInstructions ops → weight (one_function exports ops) < 2 ^ 32 → IsEncodable (one_function exports ops)
+function_encodable exports ops named inside small = record {
+  functions = refl;
+  imports = nothing_encodable.imports;
+  funcs = single IsU32 0 (omega arith);
+  tables = nothing_encodable.tables;
+  memories = nothing_encodable.memories;
+  globals = nothing_encodable.globals;
+  exports = named;
+  start = nothing_encodable.start;
+  elements = nothing_encodable.elements;
+  codes = single (λ code. All (λ run. IsU32 run.count) code.0 × AreInstructions code.1) ([], ops) (All-nil (λ run. IsU32 run.count), inside);
+  segments = nothing_encodable.segments;
+  small = small;
+}
 
 -- the name of the export
 abbrev pub loop_name : List ℕ
@@ -68,12 +66,6 @@ loop_name = 0x6c ∷ 0x6f ∷ 0x6f ∷ 0x70 ∷ []
 
 abbrev pub loop_entry : Export
 loop_entry = record { name = loop_name; desc = export.Func 0 }
-
-loop_export : IsSpelled ExportsPart (loop_entry ∷ [])
-loop_export =
-    let text : List ℕ = 0x04 ∷ 0x6c ∷ 0x6f ∷ 0x6f ∷ 0x70 ∷ 0x00 ∷ 0x00 ∷ [] in
-    let spelled : SpellsExport text loop_entry = (0x04 ∷ loop_name, 0x00 ∷ 0x00 ∷ [], ((0x04 ∷ [], byte_number 4 (omega arith), refl), IsUtf8-from_ascii loop_name (search rules)), exports_func (byte_number 0 (omega arith)), refl) in
-    one_entry 7 SpellsExport loop_entry text spelled (omega arith)
 
 -- the first entry of a list
 pub pushed : {A : Type 0} (old new : List A) (entry : A) → old ≡ [] → new ≡ old ++ entry ∷ [] → new ≡ entry ∷ []
@@ -86,15 +78,20 @@ view_one instrs instr e = view_instrs instrs ∙ ap items_view e
 view_none : (instrs : Instrs) → instrs.list.items ≡ [] → instrs_view instrs ≡ no_ops
 view_none instrs e = view_instrs instrs ∙ ap items_view e
 
-loop_spelled : (text : List ℕ) × SpellsOps text (next (loop None (next (br 0) no_ops)) no_ops) × (length text ≤ 90)
-loop_spelled =
-    let body = spells_next (spells_loop spells_no_result (spells_next (spells_br (byte_number 0 (omega arith))) spells_none)) spells_none in
-    (_, body, omega arith)
+abbrev loop_body : Ops
+loop_body = next (loop None (next (br 0) no_ops)) no_ops
 
-if_spelled : (text : List ℕ) × SpellsOps text (next (if_else None (next nop no_ops) no_ops) no_ops) × (length text ≤ 90)
-if_spelled =
-    let body = spells_next (spells_if spells_no_result (spells_next spells_nop spells_none)) spells_none in
-    (_, body, omega arith)
+loop_encodable : IsEncodable (one_function (loop_entry ∷ []) loop_body)
+loop_encodable =
+    function_encodable (loop_entry ∷ []) loop_body
+    (single (λ entry. IsUtf8 entry.name × IsExported entry.desc) loop_entry (IsUtf8-from_ascii loop_name (search rules), omega arith))
+    ((omega arith, tt), tt) (omega arith)
+
+abbrev if_body : Ops
+if_body = next (if_else None (next nop no_ops) no_ops) no_ops
+
+if_encodable : IsEncodable (one_function [] if_body)
+if_encodable = function_encodable [] if_body nothing_encodable.exports (((tt, tt), tt), tt) (omega arith)
 
 -- The module of a function that loops, exported by a name.
 pub loop_module : (whole : Syntax Ops) (exports : List Export) (inside body : Instrs) → whole ≡ one_function exports (instrs_view body) → exports ≡ loop_entry ∷ [] → inside.list.items ≡ code.Br 0 ∷ [] → body.list.items ≡ code.Loop None inside ∷ [] → IsSpelled Spells whole
@@ -103,7 +100,7 @@ loop_module whole exports inside body is exported here there =
     let ops : instrs_view body ≡ next (loop None (next (br 0) no_ops)) no_ops = view_one body (code.Loop None inside) there ∙ ap (λ z. next z no_ops) inner in
     let same : whole ≡ one_function (loop_entry ∷ []) (next (loop None (next (br 0) no_ops)) no_ops) = is ∙ ap (λ z. one_function z (instrs_view body)) exported ∙ ap (one_function (loop_entry ∷ [])) ops in
     let P : Syntax Ops → Type 0 = λ z. IsSpelled Spells z in
-    subst P (sym same) (function_spelled (loop_entry ∷ []) _ loop_spelled.0 loop_export loop_spelled.1 loop_spelled.2)
+    subst P (sym same) (encodable_spelled (one_function (loop_entry ∷ []) loop_body) loop_encodable)
 
 -- The module of a function with an `if` whose second part is empty.
 pub if_module : (whole : Syntax Ops) (exports : List Export) (first second body : Instrs) → whole ≡ one_function exports (instrs_view body) → exports ≡ [] → first.list.items ≡ code.Nop ∷ [] → second.list.items ≡ [] → body.list.items ≡ code.If None first second ∷ [] → IsSpelled Spells whole
@@ -113,4 +110,4 @@ if_module whole exports first second body is exported here none there =
     let ops : instrs_view body ≡ next (if_else None (next nop no_ops) no_ops) no_ops = view_one body (code.If None first second) there ∙ ap (λ z. next z no_ops) inner in
     let same : whole ≡ one_function [] (next (if_else None (next nop no_ops) no_ops) no_ops) = is ∙ ap (λ z. one_function z (instrs_view body)) exported ∙ ap (one_function []) ops in
     let P : Syntax Ops → Type 0 = λ z. IsSpelled Spells z in
-    subst P (sym same) (function_spelled [] _ if_spelled.0 no_exports if_spelled.1 if_spelled.2)
+    subst P (sym same) (encodable_spelled (one_function [] if_body) if_encodable)

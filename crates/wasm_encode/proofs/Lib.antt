@@ -10,4 +10,6 @@ pub mod Present
 pub mod Once
 pub mod OnceValues
 pub mod Whole
+pub mod Texts
+pub mod Exists
 pub mod Examples

@@ -1,3 +1,4 @@
+pub mod Encodable
 pub mod Gains
 pub mod Parts
 pub mod Samples

@@ -1,5 +1,5 @@
-// The decoder and the writer of modules together: the round trip as a law, and the rows of the binary
-// form as tests.
+// The decoder and the writer of modules together: the round trip as a law, and modules of another
+// assembler and the rows of the binary form as tests.
 #![tactic(auto)]
 
 ghost use Rattle.std.specs.Prelude.{◌≡◌, ℕ, List, IfOk, IfErr};
@@ -11,7 +11,13 @@ use wasm_encode::encode;
 use wasm_module::{DecodeFault, Module, decode};
 
 #[cfg(test)]
+mod opcode_tests;
+#[cfg(test)]
+mod seen;
+#[cfg(test)]
 mod tests;
+#[cfg(test)]
+mod whole_tests;
 
 /// Writes a module and reads it back. What is written for a module within the limits is read as that
 /// module; nothing but memory can be wanting.
