@@ -4,4 +4,4 @@ pub mod Upkeep
 pub mod Tick
 pub mod Rules
 pub mod Sound
-pub mod Rows
+pub mod Examples

@@ -2,10 +2,10 @@
 // the crates above cite.
 #![tactic(auto)]
 
-mod rows;
+mod examples;
 mod rule;
 mod sound;
 
-pub use rows::worked_rows;
+pub use examples::upkeep_examples;
 pub use rule::Rule;
 pub use sound::stored_in_one_way;

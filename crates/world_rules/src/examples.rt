@@ -1,9 +1,9 @@
 // Worked examples of the definitions.
-ghost use Rattle.world_rules.specs.Rows.{Renews, Decays, Vanishes};
+ghost use Rattle.world_rules.specs.Examples.{Renews, Decays, Vanishes};
 
 /// Says what the definitions of upkeep give in worked examples. It does nothing when it runs: its
 /// contract is what the check has computed.
-pub fn worked_rows()
+pub fn upkeep_examples()
     // A source is renewed as its timer comes to 0, up to its capacity and never down to it.
     ensures timer_falls { Renews 0 300 0 299 }
     ensures renewed { Renews 0 1 1500 0 }
