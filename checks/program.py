@@ -194,12 +194,12 @@ def lines(first, ticks):
 SMALL = world(room("E0S0", 3, thing("source", 1, 10, 10, timer=1), thing("pile", 2, 20, 20, energy=1001)))
 SECOND = 1 << 32
 WIDE = world(
-    room("W3N7", 9, thing("pile", 8, 0, 20, energy=1), thing("source", 3, 1, 1, energy=3000, timer=300)),
+    room("W3N7", 9, thing("pile", 8, 0, 20, energy=1), thing("source", 3, 1, 1, energy=3000, timer=300), thing("pile", 5, 1, 1, energy=3)),
     room(
         "E127S127",
         5,
         thing("source", SECOND + 1, 5, 5, energy=1499),
-        thing("pile", SECOND + 4, 5, 5, energy=1_000_000_000),
+        thing("pile", SECOND + 4, 49, 7, energy=1_000_000_000),
         thing("pile", 7, 6, 6, energy=2000),
         terrain=grounds(tiles={5 * 50 + 5: "1", 30: "2"}),
     ),
@@ -299,8 +299,8 @@ def check_world_faults():
         ("Missing Y", changed(source={"y": None})),
         ("BadValue Id 1", changed(pile={"id": 0})),
         ("BadValue Kind 1", changed(pile={"kind": "heap"})),
-        ("NotBuilt creep", changed(pile={"kind": "creep"})),
-        ("NotBuilt tower", changed(pile={"kind": "tower"})),
+        ("NotBuilt Creep", changed(pile={"kind": "creep"})),
+        ("NotBuilt Tower", changed(pile={"kind": "tower"})),
         ("BadValue X 0", changed(source={"x": 50})),
         ("BadValue Y 1", changed(pile={"y": 50})),
         ("BadValue Owner 1", changed(pile={"owner": 2**32})),
