@@ -20,14 +20,10 @@ fn functions(rt: &HostRuntime, bytes: &[u8]) -> Result<u64, DecodeFault> {
     Ok(found.codes.len())
 }
 
-// The opening and these sections, each with its size.
-fn module(rt: &HostRuntime, sections: &[(u8, &[u8])]) -> Result<Vec<u8>, NoMemory> {
+// The opening, and these sections.
+fn module(rt: &HostRuntime, sections: &[u8]) -> Result<Vec<u8>, NoMemory> {
     let mut bytes = Vec::from_slice(rt.alloc(), &OPENING)?;
-    for (number, content) in sections {
-        bytes.push(*number)?;
-        put_leb_u32(&mut bytes, content.len().min(1_000_000) as u32)?;
-        bytes.extend_from_slice(content)?;
-    }
+    bytes.extend_from_slice(sections)?;
     Ok(bytes)
 }
 
@@ -86,85 +82,98 @@ fn the_loop_module_is_read(rt: HostRuntime) -> Result<(), Fail> {
     assert!(rt; matches!(inside.nth(0), Some(Instr::Br(0))));
     assert_eq!(rt; inside.len(), 1);
     assert_eq!(rt; code.body.len(), 1);
+    let others: [&[u8]; 4] = [
+        &[],
+        &LOOP_MODULE[..7],
+        &LOOP_MODULE[..38],
+        b"\0asm\x02\0\0\0",
+    ];
+    for bytes in others {
+        assert_eq!(rt; functions(&rt, bytes), Err(DecodeFault::Malformed));
+    }
     Ok(())
 }
 
 #[test]
-fn openings_and_types(rt: HostRuntime) {
-    let float = [
-        0x00, 0x61, 0x73, 0x6d, 0x01, 0x00, 0x00, 0x00, 0x01, 0x05, 0x01, 0x60, 0x01, 0x7d, 0x00,
-    ];
-    let rows: [(&[u8], Result<u64, DecodeFault>); 8] = [
-        (&OPENING, Ok(0)),
-        (&OPENING[..7], Err(DecodeFault::Malformed)),
-        (b"\0asm\x02\0\0\0", Err(DecodeFault::Malformed)),
-        (&[], Err(DecodeFault::Malformed)),
-        (&float, Ok(0)),
-        (&float[..14], Err(DecodeFault::Malformed)),
-        (&LOOP_MODULE, Ok(1)),
-        (&LOOP_MODULE[..38], Err(DecodeFault::Malformed)),
-    ];
-    for (bytes, want) in rows {
-        assert_eq!(rt; functions(&rt, bytes), want, "{bytes:?}");
-    }
-}
-
-#[test]
-fn sections_stand_once_and_in_order(rt: HostRuntime) -> Result<(), Fail> {
-    let rows: [(&[(u8, &[u8])], Result<u64, DecodeFault>); 22] = [
+fn sections_are_read_as_the_standard_spells_them(rt: HostRuntime) -> Result<(), Fail> {
+    let rows: [(&[u8], Result<u64, DecodeFault>); 32] = [
         // in order, and each part empty
         (
-            &[
-                (1, &[0]),
-                (2, &[0]),
-                (3, &[0]),
-                (4, &[0]),
-                (5, &[0]),
-                (6, &[0]),
-            ],
+            &[1, 1, 0, 2, 1, 0, 3, 1, 0, 4, 1, 0, 5, 1, 0, 6, 1, 0],
             Ok(0),
         ),
-        (&[(7, &[0]), (9, &[0]), (10, &[0]), (11, &[0])], Ok(0)),
+        (&[7, 1, 0, 9, 1, 0, 0x0a, 1, 0, 0x0b, 1, 0], Ok(0)),
         // out of order, twice, unknown
-        (&[(2, &[0]), (1, &[0])], Err(DecodeFault::Malformed)),
-        (&[(11, &[0]), (10, &[0])], Err(DecodeFault::Malformed)),
-        (&[(1, &[0]), (1, &[0])], Err(DecodeFault::Malformed)),
-        (&[(12, &[0])], Err(DecodeFault::Malformed)),
+        (&[2, 1, 0, 1, 1, 0], Err(DecodeFault::Malformed)),
+        (&[0x0b, 1, 0, 0x0a, 1, 0], Err(DecodeFault::Malformed)),
+        (&[1, 1, 0, 1, 1, 0], Err(DecodeFault::Malformed)),
+        (&[0x0c, 1, 0], Err(DecodeFault::Malformed)),
         // a byte more or less than the content
-        (&[(1, &[0, 0])], Err(DecodeFault::Malformed)),
-        (&[(1, &[])], Err(DecodeFault::Malformed)),
-        (&[(8, &[0, 0])], Err(DecodeFault::Malformed)),
-        (&[(8, &[])], Err(DecodeFault::Malformed)),
-        (&[(8, &[5])], Ok(0)),
+        (&[1, 2, 0, 0], Err(DecodeFault::Malformed)),
+        (&[1, 0], Err(DecodeFault::Malformed)),
+        (&[8, 2, 0, 0], Err(DecodeFault::Malformed)),
+        (&[8, 0], Err(DecodeFault::Malformed)),
+        (&[8, 1, 5], Ok(0)),
         // custom sections: anywhere, with a name that is UTF-8, and any bytes
         (
-            &[
-                (0, &[0]),
-                (1, &[0]),
-                (0, &[1, 0x61, 9, 9]),
-                (2, &[0]),
-                (0, &[0]),
-            ],
+            &[0, 1, 0, 1, 1, 0, 0, 4, 1, 0x61, 9, 9, 2, 1, 0, 0, 1, 0],
             Ok(0),
         ),
-        (&[(0, &[])], Err(DecodeFault::Malformed)),
-        (&[(0, &[2, 0x61])], Err(DecodeFault::Malformed)),
-        (&[(0, &[1, 0xff])], Err(DecodeFault::Malformed)),
+        (&[0, 0], Err(DecodeFault::Malformed)),
+        (&[0, 2, 2, 0x61], Err(DecodeFault::Malformed)),
+        (&[0, 2, 1, 0xff], Err(DecodeFault::Malformed)),
         // functions without code, and the other way round
-        (&[(3, &[1, 0])], Err(DecodeFault::Malformed)),
-        (&[(10, &[1, 2, 0, 0x0b])], Err(DecodeFault::Malformed)),
-        (&[(3, &[1, 0]), (10, &[1, 2, 0, 0x0b])], Ok(1)),
+        (&[3, 2, 1, 0], Err(DecodeFault::Malformed)),
+        (&[0x0a, 4, 1, 2, 0, 0x0b], Err(DecodeFault::Malformed)),
+        (&[3, 2, 1, 0, 0x0a, 4, 1, 2, 0, 0x0b], Ok(1)),
         (
-            &[(3, &[1, 0]), (10, &[1, 3, 0, 0x0b])],
+            &[3, 2, 1, 0, 0x0a, 4, 1, 3, 0, 0x0b],
             Err(DecodeFault::Malformed),
         ),
         // two results, other marks
         (
-            &[(1, &[1, 0x60, 0, 2, 0x7f, 0x7f])],
+            &[1, 6, 1, 0x60, 0, 2, 0x7f, 0x7f],
             Err(DecodeFault::Malformed),
         ),
-        (&[(4, &[1, 0x6f, 0, 0])], Err(DecodeFault::Malformed)),
-        (&[(5, &[1, 2, 0])], Err(DecodeFault::Malformed)),
+        (&[4, 4, 1, 0x6f, 0, 0], Err(DecodeFault::Malformed)),
+        (&[5, 3, 1, 2, 0], Err(DecodeFault::Malformed)),
+        // a type with a float
+        (&[1, 5, 1, 0x60, 1, 0x7d, 0], Ok(0)),
+        (&[1, 5, 1, 0x60, 1, 0x7d], Err(DecodeFault::Malformed)),
+        // 65,536 locals, one with a parameter too many, counts past 2^32
+        (
+            &[3, 2, 1, 0, 0x0a, 8, 1, 6, 1, 0x80, 0x80, 4, 0x7f, 0x0b],
+            Ok(1),
+        ),
+        (
+            &[
+                1, 5, 1, 0x60, 1, 0x7f, 0, 3, 2, 1, 0, 0x0a, 8, 1, 6, 1, 0x80, 0x80, 4, 0x7f, 0x0b,
+            ],
+            Err(DecodeFault::TooLarge(Limit::Locals)),
+        ),
+        (
+            &[
+                3, 2, 1, 0, 0x0a, 0x10, 1, 0x0e, 2, 0xff, 0xff, 0xff, 0xff, 0x0f, 0x7f, 0xff, 0xff,
+                0xff, 0xff, 0x0f, 0x7f, 0x0b,
+            ],
+            Err(DecodeFault::TooLarge(Limit::Locals)),
+        ),
+        // 256 pages, 65,536 entries, and one more
+        (&[5, 4, 1, 0, 0x80, 2], Ok(0)),
+        (
+            &[5, 4, 1, 0, 0x81, 2],
+            Err(DecodeFault::TooLarge(Limit::Pages)),
+        ),
+        (&[4, 6, 1, 0x70, 0, 0x80, 0x80, 4], Ok(0)),
+        (
+            &[4, 6, 1, 0x70, 0, 0x81, 0x80, 4],
+            Err(DecodeFault::TooLarge(Limit::TableEntries)),
+        ),
+        // the first limit in the list is the answer
+        (
+            &[4, 6, 1, 0x70, 0, 0x81, 0x80, 4, 5, 4, 1, 0, 0x81, 2],
+            Err(DecodeFault::TooLarge(Limit::Pages)),
+        ),
     ];
     for (sections, want) in rows {
         let bytes = module(&rt, sections)?;
@@ -175,11 +184,14 @@ fn sections_stand_once_and_in_order(rt: HostRuntime) -> Result<(), Fail> {
 
 // A module of one function without locals, of which the body is this text.
 fn function(rt: &HostRuntime, body: &[u8]) -> Result<Vec<u8>, NoMemory> {
-    let mut content = Vec::from_slice(rt.alloc(), &[1])?;
-    put_leb_u32(&mut content, body.len().min(1_000_000) as u32 + 1)?;
-    content.push(0)?;
-    content.extend_from_slice(body)?;
-    module(rt, &[(3, &[1, 0]), (10, &content)])
+    let mut code = Vec::from_slice(rt.alloc(), &[1])?;
+    put_leb_u32(&mut code, body.len().min(1_000_000) as u32 + 1)?;
+    code.push(0)?;
+    let mut bytes = module(rt, &[3, 2, 1, 0, 0x0a])?;
+    put_leb_u32(&mut bytes, (code.len() + body.len()).min(1_000_010) as u32)?;
+    bytes.extend_from_slice(&code)?;
+    bytes.extend_from_slice(body)?;
+    Ok(bytes)
 }
 
 // The number of instructions of the expression that the text is, those inside of blocks not counted.
@@ -275,7 +287,7 @@ fn nests_past_the_limit_are_too_large(rt: HostRuntime) -> Result<(), Fail> {
     Ok(())
 }
 
-// So many functions of type 0, each with an empty body.
+// A module of so many functions of type 0, each with an empty body.
 fn many(rt: &HostRuntime, count: u32) -> Result<Vec<u8>, NoMemory> {
     let mut funcs = Vec::new(rt.alloc());
     let mut codes = Vec::new(rt.alloc());
@@ -285,62 +297,17 @@ fn many(rt: &HostRuntime, count: u32) -> Result<Vec<u8>, NoMemory> {
         funcs.push(0)?;
         codes.extend_from_slice(&[2, 0, 0x0b])?;
     }
-    module(rt, &[(3, &funcs), (10, &codes)])
+    let mut bytes = module(rt, &[3])?;
+    put_leb_u32(&mut bytes, funcs.len().min(1_000_000) as u32)?;
+    bytes.extend_from_slice(&funcs)?;
+    bytes.push(10)?;
+    put_leb_u32(&mut bytes, codes.len().min(1_000_000) as u32)?;
+    bytes.extend_from_slice(&codes)?;
+    Ok(bytes)
 }
 
 #[test]
 fn sizes_past_the_limits_are_too_large(rt: HostRuntime) -> Result<(), Fail> {
-    let rows: [(&[(u8, &[u8])], Result<u64, DecodeFault>); 8] = [
-        // 65,536 locals, one with a parameter too many, counts past 2^32
-        (
-            &[(3, &[1, 0]), (10, &[1, 6, 1, 0x80, 0x80, 0x04, 0x7f, 0x0b])],
-            Ok(1),
-        ),
-        (
-            &[
-                (1, &[1, 0x60, 1, 0x7f, 0]),
-                (3, &[1, 0]),
-                (10, &[1, 6, 1, 0x80, 0x80, 0x04, 0x7f, 0x0b]),
-            ],
-            Err(DecodeFault::TooLarge(Limit::Locals)),
-        ),
-        (
-            &[
-                (3, &[1, 0]),
-                (
-                    10,
-                    &[
-                        1, 14, 2, 0xff, 0xff, 0xff, 0xff, 0x0f, 0x7f, 0xff, 0xff, 0xff, 0xff, 0x0f,
-                        0x7f, 0x0b,
-                    ],
-                ),
-            ],
-            Err(DecodeFault::TooLarge(Limit::Locals)),
-        ),
-        // 256 pages, 65,536 entries, and one more
-        (&[(5, &[1, 0, 0x80, 0x02])], Ok(0)),
-        (
-            &[(5, &[1, 0, 0x81, 0x02])],
-            Err(DecodeFault::TooLarge(Limit::Pages)),
-        ),
-        (&[(4, &[1, 0x70, 0, 0x80, 0x80, 0x04])], Ok(0)),
-        (
-            &[(4, &[1, 0x70, 0, 0x81, 0x80, 0x04])],
-            Err(DecodeFault::TooLarge(Limit::TableEntries)),
-        ),
-        // the first limit in the list is the answer
-        (
-            &[
-                (4, &[1, 0x70, 0, 0x81, 0x80, 0x04]),
-                (5, &[1, 0, 0x81, 0x02]),
-            ],
-            Err(DecodeFault::TooLarge(Limit::Pages)),
-        ),
-    ];
-    for (sections, want) in rows {
-        let bytes = module(&rt, sections)?;
-        assert_eq!(rt; functions(&rt, &bytes), want, "{bytes:?}");
-    }
     let most = many(&rt, 10_000)?;
     assert_eq!(rt; functions(&rt, &most), Ok(10_000));
     let more = many(&rt, 10_001)?;
