@@ -11,6 +11,8 @@ use wasm_encode::encode;
 use wasm_module::{DecodeFault, Module, decode};
 
 #[cfg(test)]
+mod decode_tests;
+#[cfg(test)]
 mod opcode_tests;
 #[cfg(test)]
 mod seen;

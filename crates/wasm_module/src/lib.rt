@@ -23,8 +23,6 @@ mod read;
 mod sections;
 mod segments;
 mod skim;
-#[cfg(test)]
-mod tests;
 mod types;
 mod values;
 

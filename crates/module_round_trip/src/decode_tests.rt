@@ -1,9 +1,10 @@
-use crate::{
+// The lists of a module, and the decoder at its limits.
+use byte_fields::put_leb_u32;
+use std::test::Fail;
+use wasm_module::{
     Bounds, DecodeFault, Import, ImportDesc, Imports, Instr, Instrs, Limit, MemoryTypes, Name,
     NoMemory, decode,
 };
-use byte_fields::put_leb_u32;
-use std::test::Fail;
 
 const OPENING: [u8; 8] = [0x00, 0x61, 0x73, 0x6d, 0x01, 0x00, 0x00, 0x00];
 
