@@ -36,8 +36,7 @@ impl Pages {
         requires small { min ≤ most_pages }
         ensures { IfOk result (λ m. m ≡ fresh min max) }
     {
-        let limit = max.min(MOST_PAGES);
-        let mut bytes = reserved(alloc, limit)?;
+        let (mut bytes, limit) = reserved(alloc, max)?;
         bytes.resize((min * PAGE_SIZE) as usize, 0)?;
         Ok(Pages { bytes, limit })
     }
@@ -138,13 +137,16 @@ impl Pages {
     }
 }
 
-/// No bytes yet, and room for those of so many pages and no more.
-fn reserved(alloc: Global, limit: u32) -> Result<Vec<u8>, AllocError>
-    requires { limit ≤ most_pages }
-    ensures empty { IfOk result (λ bytes. bytes.items ≡ []) }
-    ensures room { IfOk result (λ bytes. vec_capacity bytes ≡ limit * page_size) }
+/// No bytes yet, with room for those of the pages that a memory may grow to and no more, and how many
+/// pages these are.
+fn reserved(alloc: Global, max: u32) -> Result<(Vec<u8>, u32), AllocError>
+    ensures empty { IfOk result (λ made. made.0.items ≡ []) }
+    ensures limit { IfOk result (λ made. made.1 ≡ min max most_pages) }
+    ensures room { IfOk result (λ made. vec_capacity made.0 ≡ made.1 * page_size) }
 {
-    Vec::with_capacity(alloc, (limit * PAGE_SIZE) as usize)
+    let limit = max.min(MOST_PAGES);
+    let bytes = Vec::with_capacity(alloc, (limit * PAGE_SIZE) as usize)?;
+    Ok((bytes, limit))
 }
 
 /// The number that 8 bytes spell.
