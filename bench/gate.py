@@ -24,20 +24,20 @@ def stat_of(pid):
     return int(fields[3]), fields[19], int(fields[11]) + int(fields[12])
 
 
-def work_of(pid, top):
+def work_of(pid):
     """The crate that a process works on, and the kind of its work."""
     with open(f"/proc/{pid}/cmdline", encoding="utf-8", errors="replace") as it:
         words = it.read().split("\0")
     if "--crate-name" not in words:
         return "-", "other"
     crate = words[words.index("--crate-name") + 1]
-    if not os.readlink(f"/proc/{pid}/cwd").startswith(f"{top}/crates/"):
+    # (an edit is tried in a folder of its own)
+    if "/rt-edit" in os.readlink(f"/proc/{pid}/cwd"):
         return crate, "edits"
     return crate, "tests" if "--test" in words else "proof"
 
 
 def main():
-    top = os.getcwd()
     began = time.monotonic()
     gate = subprocess.Popen(["rt", "ci", *sys.argv[1:]], start_new_session=True)
     works, ticks = {}, {}
@@ -48,7 +48,7 @@ def main():
                 if session == gate.pid:
                     key = (pid, started)
                     if key not in works or works[key][1] == "other":
-                        works[key] = work_of(pid, top)
+                        works[key] = work_of(pid)
                     ticks[key] = used
             except (OSError, IndexError, ValueError):
                 # (it ended meanwhile)
