@@ -3,7 +3,7 @@
 /// The rules that a world keeps between ticks, in the order in which they are tested.
 #[derive(Clone, Copy, Debug, PartialEq, Eq)]
 pub enum Rule {
-    /// There are 1 to 400 rooms, at most 20,000 objects and at most 64 players.
+    /// There is a room, and no more rooms, objects and players than may be.
     Counts,
     /// Room names differ.
     RoomTwice,
@@ -25,6 +25,6 @@ pub enum Rule {
     Range,
     /// A player is listed once.
     PlayerTwice,
-    /// A player has at most 100 sites.
+    /// A player has no more sites than he may.
     Sites,
 }
