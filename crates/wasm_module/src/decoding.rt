@@ -9,23 +9,18 @@ ghost use Rattle.wasm_module.specs.Limits.{IsTooLarge, IsWithin, PassesFirst, Wi
 ghost use Rattle.wasm_module.specs.Parts.{section_view};
 ghost use Rattle.wasm_module.specs.declared.module.Limit.{Limit};
 
-use crate::entry_lists::Entries;
-use crate::forms::{
-    CodeEntry, ElementEntry, ExportEntry, FunctionType, GlobalEntry, ImportEntry, MemoryType,
-    SegmentEntry, TableType,
-};
-use crate::held::{held, start_of};
+use crate::expressions::{Limited, Skimmed};
 use crate::limits::passed_limit;
 use crate::module::{DecodeFault, Limit, Module};
-use crate::read::{Index, ReadFault};
+use crate::parts::parts_of;
+use crate::read::ReadFault;
 use crate::sections::{Section, are_ordered, split};
-use crate::skimmed::{SkimmedCode, SkimmedElement, SkimmedGlobal, SkimmedSegment};
 use std::alloc::Global;
 
 // 1 MiB.
 const MOST_BYTES: usize = 1_048_576;
 
-const MOST_FUNCTIONS: usize = 10_000;
+const MOST_FUNCTIONS: u64 = 10_000;
 
 const OPENING: [u8; 8] = [0x00, 0x61, 0x73, 0x6d, 0x01, 0x00, 0x00, 0x00];
 
@@ -104,56 +99,29 @@ fn module_of(alloc: Global, sections: &[Section]) -> Result<Module, ReadFault>
     ensures found { IfOk result (λ found. AreOf SpellsLimited (map section_view sections.now) (module_view found)) }
     ensures malformed { IfErr result (λ e. e ≡ ReadFault.Malformed → (m : Syntax Ops) → AreOf SpellsLimited (map section_view sections.now) m → ⊥) }
 {
-    let types = held::<FunctionType>(alloc, sections, 1)?;
-    let imports = held::<ImportEntry>(alloc, sections, 2)?;
-    let funcs = held::<Index>(alloc, sections, 3)?;
-    let tables = held::<TableType>(alloc, sections, 4)?;
-    let memories = held::<MemoryType>(alloc, sections, 5)?;
-    let globals = held::<GlobalEntry>(alloc, sections, 6)?;
-    let exports = held::<ExportEntry>(alloc, sections, 7)?;
-    let start = start_of(sections)?;
-    let elements = held::<ElementEntry>(alloc, sections, 9)?;
-    let codes = held::<CodeEntry>(alloc, sections, 10)?;
-    let segments = held::<SegmentEntry>(alloc, sections, 11)?;
-    if funcs.len() != codes.len() {
-        return Err(ReadFault::Malformed);
-    }
+    let parts = parts_of::<Limited>(alloc, sections)?;
     Ok(Module {
-        types: Entries::of(types),
-        imports: Entries::of(imports),
-        funcs: Entries::of(funcs),
-        tables: Entries::of(tables),
-        memories: Entries::of(memories),
-        globals: Entries::of(globals),
-        exports: Entries::of(exports),
-        start,
-        elements: Entries::of(elements),
-        codes: Entries::of(codes),
-        segments: Entries::of(segments),
+        types: parts.types,
+        imports: parts.imports,
+        funcs: parts.funcs,
+        tables: parts.tables,
+        memories: parts.memories,
+        globals: parts.globals,
+        exports: parts.exports,
+        start: parts.start,
+        elements: parts.elements,
+        codes: parts.codes,
+        segments: parts.segments,
     })
 }
 
 // Passes over what the sections hold, and counts the codes.
-fn skim_module(alloc: Global, sections: &[Section]) -> Result<usize, ReadFault>
+fn skim_module(alloc: Global, sections: &[Section]) -> Result<u64, ReadFault>
     ensures found { IfOk result (λ count. (m : Syntax (Unit {0})) × AreOf SpellsSome (map section_view sections.now) m × (length m.codes ≡ count)) }
     ensures malformed { IfErr result (λ e. e ≡ ReadFault.Malformed → (m : Syntax (Unit {0})) → AreOf SpellsSome (map section_view sections.now) m → ⊥) }
 {
-    let _types = held::<FunctionType>(alloc, sections, 1)?;
-    let _imports = held::<ImportEntry>(alloc, sections, 2)?;
-    let funcs = held::<Index>(alloc, sections, 3)?;
-    let _tables = held::<TableType>(alloc, sections, 4)?;
-    let _memories = held::<MemoryType>(alloc, sections, 5)?;
-    let _globals = held::<SkimmedGlobal>(alloc, sections, 6)?;
-    let _exports = held::<ExportEntry>(alloc, sections, 7)?;
-    let _start = start_of(sections)?;
-    let _elements = held::<SkimmedElement>(alloc, sections, 9)?;
-    let codes = held::<SkimmedCode>(alloc, sections, 10)?;
-    let _segments = held::<SkimmedSegment>(alloc, sections, 11)?;
-    if funcs.len() == codes.len() {
-        Ok(codes.len())
-    } else {
-        Err(ReadFault::Malformed)
-    }
+    let parts = parts_of::<Skimmed>(alloc, sections)?;
+    Ok(parts.codes.len())
 }
 
 // Why sections are refused that hold no module within the limit of nesting.

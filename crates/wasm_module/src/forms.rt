@@ -1,32 +1,19 @@
 // The forms of the entries of lists.
-ghost use Rattle.std.specs.Prelude.{◌≡◌, List, ℕ, Option, IfOk, OnOk, IfErr, IfSome, IfNone};
+ghost use Rattle.std.specs.Prelude.{◌≡◌, List, Option, IfOk, IfErr, IfSome, IfNone};
 ghost use Rattle.byte_fields.specs.Front.{Begins, BeginsNone, BeginsOnly};
 ghost use Rattle.wasm_module.specs.Spelling.{SpellsList};
-ghost use Rattle.wasm_module.specs.Entries.{SpellsLocalRun, code_view};
-ghost use Rattle.wasm_module.specs.Nested.{SpellsLimited};
-ghost use Rattle.wasm_module.specs.Spelling.{Then};
 ghost use Rattle.wasm_module.specs.Values.{IsResult, SpellsResult, SpellsValType};
 ghost use Rattle.wasm_module.specs.declared.types.ValType.{ValType};
 
-use crate::codes::{Code, LocalRun, LocalRuns};
-use crate::elements::Element;
+use crate::codes::LocalRun;
 use crate::entry_lists::Entries;
 use crate::exports::Export;
-use crate::globals::GlobalDef;
 use crate::imports::Import;
-use crate::leaves::indices;
-use crate::nested::inner;
 use crate::read::{Form, ReadFault, entries};
-use crate::segments::Segment;
 use crate::types::{Bounds, FuncType, ValType, ValTypes};
-use crate::values::{
-    blob, bounds, counted, export_desc, global_type, import_desc, mark, name, table_type, val_type,
-};
+use crate::values::{bounds, export_desc, import_desc, mark, name, table_type, val_type};
 use byte_fields::Cursor;
 use std::alloc::Global;
-
-// The expression itself, and 200 blocks in it.
-const MAX_DEPTH: u32 = 201;
 
 /// A value type.
 pub(crate) enum ValueType {}
@@ -210,137 +197,5 @@ impl Form for LocalEntry {
         let count = cursor.leb_u32()?;
         let value = val_type(cursor)?;
         Ok(LocalRun { count, value })
-    }
-}
-
-/// A global, within the limit of nesting.
-pub(crate) enum GlobalEntry {}
-
-impl Form for GlobalEntry {
-    type Value = GlobalDef;
-
-    ghost use Rattle.wasm_module.specs.declared.globals.GlobalDef.{GlobalDef};
-    ghost use Rattle.wasm_module.specs.Entries.{Global, SpellsGlobal, global_view};
-    ghost use Rattle.wasm_module.specs.Nested.{SpellsLimited};
-    ghost use Rattle.wasm_module.specs.Syntax.{Ops};
-
-    ghost Seen = { Global Ops };
-
-    ghost seen = { global_view };
-
-    ghost spells = { SpellsGlobal SpellsLimited };
-
-    fn read(alloc: Global, cursor: &mut Cursor) -> Result<GlobalDef, ReadFault> {
-        let kind = global_type(cursor)?;
-        let init = inner(alloc, cursor, MAX_DEPTH)?;
-        Ok(GlobalDef { kind, init })
-    }
-}
-
-/// An element segment, within the limit of nesting.
-pub(crate) enum ElementEntry {}
-
-impl Form for ElementEntry {
-    type Value = Element;
-
-    ghost use Rattle.wasm_module.specs.declared.elements.Element.{Element};
-    ghost use Rattle.wasm_module.specs.Entries.{Elements, SpellsElement, element_view};
-    ghost use Rattle.wasm_module.specs.Nested.{SpellsLimited};
-    ghost use Rattle.wasm_module.specs.Syntax.{Ops};
-
-    ghost Seen = { Elements Ops };
-
-    ghost seen = { element_view };
-
-    ghost spells = { SpellsElement SpellsLimited };
-
-    fn read(alloc: Global, cursor: &mut Cursor) -> Result<Element, ReadFault> {
-        let table = cursor.leb_u32()?;
-        let offset = inner(alloc, cursor, MAX_DEPTH)?;
-        let funcs = indices(alloc, cursor)?;
-        Ok(Element {
-            table,
-            offset,
-            funcs,
-        })
-    }
-}
-
-/// A data segment, within the limit of nesting.
-pub(crate) enum SegmentEntry {}
-
-impl Form for SegmentEntry {
-    type Value = Segment;
-
-    ghost use Rattle.wasm_module.specs.declared.segments.Segment.{Segment};
-    ghost use Rattle.wasm_module.specs.Entries.{Data, SpellsSegment, segment_view};
-    ghost use Rattle.wasm_module.specs.Nested.{SpellsLimited};
-    ghost use Rattle.wasm_module.specs.Syntax.{Ops};
-
-    ghost Seen = { Data Ops };
-
-    ghost seen = { segment_view };
-
-    ghost spells = { SpellsSegment SpellsLimited };
-
-    fn read(alloc: Global, cursor: &mut Cursor) -> Result<Segment, ReadFault> {
-        let memory = cursor.leb_u32()?;
-        let offset = inner(alloc, cursor, MAX_DEPTH)?;
-        let bytes = blob(alloc, cursor)?;
-        Ok(Segment {
-            memory,
-            offset,
-            bytes,
-        })
-    }
-}
-
-// Reads the runs of a function's locals.
-fn local_runs(alloc: Global, cursor: &mut Cursor) -> Result<LocalRuns, ReadFault>
-    ensures found { IfOk result (λ value. Begins (SpellsList SpellsLocalRun) cursor.old.0 value cursor.new.0) }
-    ensures only { IfOk result (λ value. BeginsOnly (SpellsList SpellsLocalRun) cursor.old.0 value cursor.new.0) }
-    ensures malformed { IfErr result (λ e. e ≡ ReadFault.Malformed → BeginsNone (SpellsList SpellsLocalRun) cursor.old.0) }
-{
-    let list = entries::<LocalEntry>(alloc, cursor)?;
-    Ok(Entries::of(list))
-}
-
-// Reads the locals and the body of a function, within the limit of nesting.
-fn function(alloc: Global, cursor: &mut Cursor) -> Result<Code, ReadFault>
-    ensures found { IfOk result (λ value. Begins (Then (SpellsList SpellsLocalRun) SpellsLimited) cursor.old.0 (code_view value) cursor.new.0) }
-    ensures only { IfOk result (λ value. BeginsOnly (Then (SpellsList SpellsLocalRun) SpellsLimited) cursor.old.0 (code_view value) cursor.new.0) }
-    ensures malformed { IfErr result (λ e. e ≡ ReadFault.Malformed → BeginsNone (Then (SpellsList SpellsLocalRun) SpellsLimited) cursor.old.0) }
-{
-    let locals = local_runs(alloc, cursor)?;
-    let body = inner(alloc, cursor, MAX_DEPTH)?;
-    Ok(Code { locals, body })
-}
-
-/// A code, within the limit of nesting.
-pub(crate) enum CodeEntry {}
-
-impl Form for CodeEntry {
-    type Value = Code;
-
-    ghost use Rattle.wasm_module.specs.declared.codes.Code.{Code};
-    ghost use Rattle.wasm_module.specs.Entries.{Function, SpellsCode, code_view};
-    ghost use Rattle.wasm_module.specs.Nested.{SpellsLimited};
-    ghost use Rattle.wasm_module.specs.Syntax.{Ops};
-
-    ghost Seen = { Function Ops };
-
-    ghost seen = { code_view };
-
-    ghost spells = { SpellsCode SpellsLimited };
-
-    fn read(alloc: Global, cursor: &mut Cursor) -> Result<Code, ReadFault> {
-        let content = counted(cursor)?;
-        let mut inside = Cursor::over(content);
-        let code = function(alloc, &mut inside)?;
-        if inside.left() == 0 {
-            Ok(code)
-        } else {
-            Err(ReadFault::Malformed)
-        }
     }
 }

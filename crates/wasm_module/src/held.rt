@@ -44,6 +44,7 @@ pub(crate) fn held<F: Form>(
 fn whole_index(content: &[u8]) -> Result<u32, ReadFault>
     ensures found { IfOk result (λ index. SpellsStart content.now (Some index)) }
     ensures malformed { IfErr result (λ e. e ≡ ReadFault.Malformed → (other : Option ℕ) → SpellsStart content.now other → ⊥) }
+    ensures cause { IfErr result (λ e. e ≡ ReadFault.Malformed) }
 {
     let mut cursor = Cursor::over(content);
     let index = cursor.leb_u32()?;
@@ -58,6 +59,7 @@ fn whole_index(content: &[u8]) -> Result<u32, ReadFault>
 pub(crate) fn start_of(sections: &[Section]) -> Result<Option<u32>, ReadFault>
     ensures found { IfOk result (λ start. Holds SpellsStart None (content_of_number 8 (map section_view sections.now)) start) }
     ensures malformed { IfErr result (λ e. e ≡ ReadFault.Malformed → (other : Option ℕ) → Holds SpellsStart None (content_of_number 8 (map section_view sections.now)) other → ⊥) }
+    ensures cause { IfErr result (λ e. e ≡ ReadFault.Malformed) }
 {
     match content_of(sections, 8) {
         Some(content) => {

@@ -21,6 +21,7 @@ pub(crate) fn variable(cursor: &mut Cursor, code: u8) -> Result<Instr, ReadFault
     ensures only { IfOk result (λ instr. BeginsOnly SpellsOp (code ∷ cursor.old.0) (instr_view instr) cursor.new.0) }
     ensures flat { IfOk result (λ instr. nesting (instr_view instr) ≡ 0) }
     ensures malformed { IfErr result (λ e. e ≡ ReadFault.Malformed → BeginsNone SpellsOp (code ∷ cursor.old.0)) }
+    ensures cause { IfErr result (λ e. e ≡ ReadFault.Malformed) }
 {
     match code {
         0x20 => {
@@ -122,6 +123,7 @@ pub(crate) fn memory(cursor: &mut Cursor, code: u8) -> Result<Instr, ReadFault>
     ensures only { IfOk result (λ instr. BeginsOnly SpellsOp (code ∷ cursor.old.0) (instr_view instr) cursor.new.0) }
     ensures flat { IfOk result (λ instr. nesting (instr_view instr) ≡ 0) }
     ensures malformed { IfErr result (λ e. e ≡ ReadFault.Malformed → BeginsNone SpellsOp (code ∷ cursor.old.0)) }
+    ensures cause { IfErr result (λ e. e ≡ ReadFault.Malformed) }
 {
     let align = cursor.leb_u32()?;
     let offset = cursor.leb_u32()?;
@@ -136,6 +138,7 @@ pub(crate) fn constant(cursor: &mut Cursor, code: u8) -> Result<Instr, ReadFault
     ensures only { IfOk result (λ instr. BeginsOnly SpellsOp (code ∷ cursor.old.0) (instr_view instr) cursor.new.0) }
     ensures flat { IfOk result (λ instr. nesting (instr_view instr) ≡ 0) }
     ensures malformed { IfErr result (λ e. e ≡ ReadFault.Malformed → BeginsNone SpellsOp (code ∷ cursor.old.0)) }
+    ensures cause { IfErr result (λ e. e ≡ ReadFault.Malformed) }
 {
     match code {
         0x3f => {

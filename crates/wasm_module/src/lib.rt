@@ -2,13 +2,16 @@
 #![tactic(auto)]
 
 pub mod codes;
+mod combined;
 mod decoding;
 pub mod elements;
 pub mod entry_lists;
 pub mod exports;
+mod expressions;
 mod forms;
 pub mod globals;
 mod held;
+mod holders;
 pub mod imports;
 pub mod instr;
 mod leaves;
@@ -17,11 +20,11 @@ pub mod module;
 #[cfg(test)]
 mod module_tests;
 mod nested;
+mod parts;
 mod read;
 mod sections;
 pub mod segments;
 mod skim;
-mod skimmed;
 #[cfg(test)]
 mod tests;
 pub mod types;

@@ -23,6 +23,7 @@ fn next_section<'a>(cursor: &mut Cursor<'a>) -> Result<Section<'a>, ReadFault>
     ensures found { IfOk result (λ section. Begins SpellsSection cursor.old.0 (section_view section) cursor.new.0) }
     ensures only { IfOk result (λ section. BeginsOnly SpellsSection cursor.old.0 (section_view section) cursor.new.0) }
     ensures malformed { IfErr result (λ e. e ≡ ReadFault.Malformed → BeginsNone SpellsSection cursor.old.0) }
+    ensures cause { IfErr result (λ e. e ≡ ReadFault.Malformed) }
 {
     let number = cursor.u8()?;
     let content = counted(cursor)?;

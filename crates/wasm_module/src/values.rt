@@ -19,6 +19,7 @@ pub(crate) fn mark(cursor: &mut Cursor, byte: u8) -> Result<(), ReadFault>
     ensures found { OnOk result (Begins (SpellsMark byte) cursor.old.0 tt cursor.new.0) }
     ensures only { OnOk result (BeginsOnly (SpellsMark byte) cursor.old.0 tt cursor.new.0) }
     ensures malformed { IfErr result (λ e. e ≡ ReadFault.Malformed → BeginsNone (SpellsMark byte) cursor.old.0) }
+    ensures cause { IfErr result (λ e. e ≡ ReadFault.Malformed) }
 {
     if cursor.u8()? == byte {
         Ok(())
@@ -46,6 +47,7 @@ pub(crate) fn val_type(cursor: &mut Cursor) -> Result<ValType, ReadFault>
     ensures found { IfOk result (λ value. Begins SpellsValType cursor.old.0 value cursor.new.0) }
     ensures only { IfOk result (λ value. BeginsOnly SpellsValType cursor.old.0 value cursor.new.0) }
     ensures malformed { IfErr result (λ e. e ≡ ReadFault.Malformed → BeginsNone SpellsValType cursor.old.0) }
+    ensures cause { IfErr result (λ e. e ≡ ReadFault.Malformed) }
 {
     let byte = cursor.u8()?;
     match val_type_of(byte) {
@@ -59,6 +61,7 @@ pub(crate) fn block_type(cursor: &mut Cursor) -> Result<Option<ValType>, ReadFau
     ensures found { IfOk result (λ kind. Begins SpellsBlockType cursor.old.0 kind cursor.new.0) }
     ensures only { IfOk result (λ kind. BeginsOnly SpellsBlockType cursor.old.0 kind cursor.new.0) }
     ensures malformed { IfErr result (λ e. e ≡ ReadFault.Malformed → BeginsNone SpellsBlockType cursor.old.0) }
+    ensures cause { IfErr result (λ e. e ≡ ReadFault.Malformed) }
 {
     let byte = cursor.u8()?;
     if byte == 0x40 {
@@ -75,6 +78,7 @@ pub(crate) fn bounds(cursor: &mut Cursor) -> Result<Bounds, ReadFault>
     ensures found { IfOk result (λ bounds. Begins SpellsBounds cursor.old.0 bounds cursor.new.0) }
     ensures only { IfOk result (λ bounds. BeginsOnly SpellsBounds cursor.old.0 bounds cursor.new.0) }
     ensures malformed { IfErr result (λ e. e ≡ ReadFault.Malformed → BeginsNone SpellsBounds cursor.old.0) }
+    ensures cause { IfErr result (λ e. e ≡ ReadFault.Malformed) }
 {
     let tag = cursor.u8()?;
     match tag {
@@ -99,6 +103,7 @@ pub(crate) fn table_type(cursor: &mut Cursor) -> Result<Bounds, ReadFault>
     ensures found { IfOk result (λ bounds. Begins SpellsTableType cursor.old.0 bounds cursor.new.0) }
     ensures only { IfOk result (λ bounds. BeginsOnly SpellsTableType cursor.old.0 bounds cursor.new.0) }
     ensures malformed { IfErr result (λ e. e ≡ ReadFault.Malformed → BeginsNone SpellsTableType cursor.old.0) }
+    ensures cause { IfErr result (λ e. e ≡ ReadFault.Malformed) }
 {
     mark(cursor, 0x70)?;
     let limits = bounds(cursor)?;
@@ -110,6 +115,7 @@ fn mutable(cursor: &mut Cursor) -> Result<bool, ReadFault>
     ensures found { IfOk result (λ value. Begins SpellsMutable cursor.old.0 value cursor.new.0) }
     ensures only { IfOk result (λ value. BeginsOnly SpellsMutable cursor.old.0 value cursor.new.0) }
     ensures malformed { IfErr result (λ e. e ≡ ReadFault.Malformed → BeginsNone SpellsMutable cursor.old.0) }
+    ensures cause { IfErr result (λ e. e ≡ ReadFault.Malformed) }
 {
     let byte = cursor.u8()?;
     match byte {
@@ -124,6 +130,7 @@ pub(crate) fn global_type(cursor: &mut Cursor) -> Result<GlobalType, ReadFault>
     ensures found { IfOk result (λ value. Begins SpellsGlobalType cursor.old.0 value cursor.new.0) }
     ensures only { IfOk result (λ value. BeginsOnly SpellsGlobalType cursor.old.0 value cursor.new.0) }
     ensures malformed { IfErr result (λ e. e ≡ ReadFault.Malformed → BeginsNone SpellsGlobalType cursor.old.0) }
+    ensures cause { IfErr result (λ e. e ≡ ReadFault.Malformed) }
 {
     let value = val_type(cursor)?;
     let mutable = mutable(cursor)?;
@@ -135,6 +142,7 @@ pub(crate) fn import_desc(cursor: &mut Cursor) -> Result<ImportDesc, ReadFault>
     ensures found { IfOk result (λ value. Begins SpellsImportDesc cursor.old.0 value cursor.new.0) }
     ensures only { IfOk result (λ value. BeginsOnly SpellsImportDesc cursor.old.0 value cursor.new.0) }
     ensures malformed { IfErr result (λ e. e ≡ ReadFault.Malformed → BeginsNone SpellsImportDesc cursor.old.0) }
+    ensures cause { IfErr result (λ e. e ≡ ReadFault.Malformed) }
 {
     let tag = cursor.u8()?;
     match tag {
@@ -163,6 +171,7 @@ pub(crate) fn export_desc(cursor: &mut Cursor) -> Result<ExportDesc, ReadFault>
     ensures found { IfOk result (λ value. Begins SpellsExportDesc cursor.old.0 value cursor.new.0) }
     ensures only { IfOk result (λ value. BeginsOnly SpellsExportDesc cursor.old.0 value cursor.new.0) }
     ensures malformed { IfErr result (λ e. e ≡ ReadFault.Malformed → BeginsNone SpellsExportDesc cursor.old.0) }
+    ensures cause { IfErr result (λ e. e ≡ ReadFault.Malformed) }
 {
     let tag = cursor.u8()?;
     match tag {

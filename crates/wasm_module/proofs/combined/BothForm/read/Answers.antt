@@ -1,6 +1,6 @@
 use Rattle.std.proofs.lemmas.Result.{err_from_is_err_and}
 use Rattle.wasm_module.proofs.Fronts.{then_begins, then_only, then_none_first, then_none_second}
-use Rattle.wasm_module.proofs.skimmed.BothForm.read.Goals as goal
+use Rattle.wasm_module.proofs.combined.BothForm.read.Goals as goal
 
 pub returns-in_err-first-clause-malformed : goal.returns-in_err-first-clause-malformed
 returns-in_err-first-clause-malformed g c = let p = err_from_is_err_and c.from_residual.result c.from_residual.ensures.1 in rw (p.1, p.2) (λ is. then_none_first g.A.Form.spells g.B.Form.spells c.args.cursor.now.0 (c.in_err-first.ensures.malformed is))

@@ -2,7 +2,7 @@ use Rattle.std.proofs.Common.{◌≡◌, ℕ, List, length, ap, ◌∙◌, subst
 use Rattle.std.proofs.lemmas.Result.{err_from_is_err_and}
 use Rattle.byte_fields.specs.Front.{BeginsNone, BeginsOnly}
 use Rattle.wasm_module.proofs.Sizes.{sized_short, sized_none, sized_only, sized_left}
-use Rattle.wasm_module.proofs.skimmed.MeasuredForm.read.Goals as goal
+use Rattle.wasm_module.proofs.combined.MeasuredForm.read.Goals as goal
 
 pub returns-in_err-content-clause-malformed : goal.returns-in_err-content-clause-malformed
 returns-in_err-content-clause-malformed g c = let p = err_from_is_err_and c.from_residual.result c.from_residual.ensures.1 in rw (p.1, p.2) (λ is. sized_short g.F.Form.spells c.args.cursor.now.0 (c.in_err-content.ensures.malformed is))
