@@ -3,6 +3,7 @@ pub mod Lists
 pub mod Tags
 pub mod Spelled
 pub mod Opcodes
+pub mod Fixed
 pub mod Views
 pub mod Bodies
 pub mod Nests

@@ -19,7 +19,8 @@ use Rattle.wasm_module.proofs.Lists.{list_later, list_parts, bytes_parts, bytes_
 use Rattle.wasm_module.proofs.Sizes.{sized_only}
 use Rattle.wasm_module.proofs.Tags.{IsTag, tag_only}
 use Rattle.wasm_module.proofs.Spelled.{global_type_of, export_of, import_of, bounds_open, bounds_closed, import_func, import_table, import_memory, import_global, export_func, export_table, export_memory, export_global}
-use Rattle.wasm_module.proofs.Opcodes.{SpellsNothing, SpellsLittle, little_only}
+use Rattle.wasm_module.proofs.Fixed.{little_only}
+use Rattle.wasm_module.proofs.Opcodes.{SpellsNothing, SpellsLittle}
 
 -- Bytes that begin with a text of a value begin with no other value, and leave one rest.
 pub record IsFrontOne (V : Type 0) (Spells : List ℕ → V → Type 0) : Type 0 where

@@ -1,8 +1,5 @@
 // The forms of the entries that hold expressions, for any form of these.
-ghost use Rattle.std.specs.Prelude.{◌≡◌, List, IfOk, IfErr};
 ghost use Rattle.byte_fields.specs.Front.{Begins, BeginsNone, BeginsOnly};
-ghost use Rattle.wasm_module.specs.Spelling.{SpellsList};
-ghost use Rattle.wasm_module.specs.Entries.{SpellsLocalRun};
 
 use crate::codes::LocalRuns;
 use crate::combined::{Both, Measured};
@@ -16,16 +13,6 @@ use crate::values::{blob, global_type};
 use byte_fields::Cursor;
 use std::alloc::Global;
 use std::marker::PhantomData;
-
-// Reads the runs of a function's locals.
-fn local_runs(alloc: Global, cursor: &mut Cursor) -> Result<LocalRuns, ReadFault>
-    ensures found { IfOk result (λ value. Begins (SpellsList SpellsLocalRun) cursor.old.0 value cursor.new.0) }
-    ensures only { IfOk result (λ value. BeginsOnly (SpellsList SpellsLocalRun) cursor.old.0 value cursor.new.0) }
-    ensures malformed { IfErr result (λ e. e ≡ ReadFault.Malformed → BeginsNone (SpellsList SpellsLocalRun) cursor.old.0) }
-{
-    let list = entries::<LocalEntry>(alloc, cursor)?;
-    Ok(Entries::of(list))
-}
 
 /// The runs of a function's locals.
 pub(crate) enum Runs {}
@@ -45,7 +32,8 @@ impl Form for Runs {
     ghost spells = { SpellsList SpellsLocalRun };
 
     fn read(alloc: Global, cursor: &mut Cursor) -> Result<LocalRuns, ReadFault> {
-        local_runs(alloc, cursor)
+        let list = entries::<LocalEntry>(alloc, cursor)?;
+        Ok(Entries::of(list))
     }
 }
 

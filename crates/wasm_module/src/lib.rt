@@ -1,33 +1,31 @@
 // WebAssembly modules: their tree, the grammar of their binary form, and the reader of it.
 #![tactic(auto)]
 
-pub mod codes;
+mod codes;
 mod combined;
 mod decoding;
-pub mod elements;
-pub mod entry_lists;
-pub mod exports;
+mod elements;
+mod entry_lists;
+mod exports;
 mod expressions;
 mod forms;
-pub mod globals;
+mod globals;
 mod held;
 mod holders;
-pub mod imports;
-pub mod instr;
+mod imports;
+mod instr;
 mod leaves;
 mod limits;
-pub mod module;
-#[cfg(test)]
-mod module_tests;
+mod module;
 mod nested;
 mod parts;
 mod read;
 mod sections;
-pub mod segments;
+mod segments;
 mod skim;
 #[cfg(test)]
 mod tests;
-pub mod types;
+mod types;
 mod values;
 
 pub use codes::{Code, Codes, LocalRun, LocalRuns};

@@ -7,7 +7,7 @@ use byte_fields::{BadLeb, Cursor, Short};
 use std::alloc::{AllocError, AllocFailed, Global};
 
 /// Why no value was read.
-#[derive(Clone, Copy, Debug, PartialEq, Eq)]
+#[derive(Clone, Copy)]
 pub(crate) enum ReadFault {
     /// None is spelled at the front.
     Malformed,

@@ -1,7 +1,8 @@
 use Rattle.std.proofs.Common.{◌≡◌, arith, rules}
 use Rattle.std.proofs.lemmas.Result.{err_from_is_err_and}
 use Rattle.wasm_module.specs.declared.instr.FloatBytes.TheVariants.{Four, Eight}
-use Rattle.wasm_module.proofs.Opcodes.{op_found, op_only, op_none, op_memory_size, op_memory_grow, op_i32_const, op_i64_const, op_f32_const, op_f64_const, little_begins, little_only, little_none}
+use Rattle.wasm_module.proofs.Opcodes.{op_found, op_only, op_none, op_memory_size, op_memory_grow, op_i32_const, op_i64_const, op_f32_const, op_f64_const}
+use Rattle.wasm_module.proofs.Fixed.{little_begins, little_only, little_none}
 use Rattle.wasm_module.proofs.Views.{view_memory_size, view_memory_grow, view_signed_32, view_signed_64, view_float_const}
 use Rattle.wasm_module.proofs.leaves.constant.Goals as goal
 

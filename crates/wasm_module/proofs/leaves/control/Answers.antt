@@ -1,7 +1,8 @@
 use Rattle.std.proofs.lemmas.Result.{err_from_is_err_and}
 use Rattle.wasm_module.specs.Spelling.{SpellsU32, SpellsMark, SpellsList}
 use Rattle.wasm_module.proofs.Fronts.{then_begins, then_only, then_none_first, then_none_second}
-use Rattle.wasm_module.proofs.Opcodes.{op_found, op_only, op_none, nothing_begins, nothing_only, op_unreachable, op_nop, op_br, op_br_if, op_br_table, op_return, op_call, op_call_indirect, op_drop, op_select}
+use Rattle.wasm_module.proofs.Fixed.{nothing_begins, nothing_only}
+use Rattle.wasm_module.proofs.Opcodes.{op_found, op_only, op_none, op_unreachable, op_nop, op_br, op_br_if, op_br_table, op_return, op_call, op_call_indirect, op_drop, op_select}
 use Rattle.wasm_module.proofs.Views.{view_unreachable, view_nop, view_br, view_br_if, view_br_table, view_return, view_call, view_call_indirect, view_drop_value, view_select}
 use Rattle.wasm_module.proofs.leaves.control.Goals as goal
 
