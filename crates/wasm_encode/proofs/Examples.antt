@@ -80,10 +80,10 @@ pub pushed : {A : Type 0} (old new : List A) (entry : A) → old ≡ [] → new 
 pushed old new entry none e = e ∙ ap (λ z. z ++ entry ∷ []) none
 
 -- one instruction, and none
-view_one : (instrs : Instrs) (instr : Instr) → instrs.list.items ≡ instr ∷ [] → instrs_view instrs ≡ next (instr_view instr) no_ops
+view_one : (instrs : Instrs) (instr : Instr) → instrs.list ≡ instr ∷ [] → instrs_view instrs ≡ next (instr_view instr) no_ops
 view_one instrs instr e = view_instrs instrs ∙ ap items_view e
 
-view_none : (instrs : Instrs) → instrs.list.items ≡ [] → instrs_view instrs ≡ no_ops
+view_none : (instrs : Instrs) → instrs.list ≡ [] → instrs_view instrs ≡ no_ops
 view_none instrs e = view_instrs instrs ∙ ap items_view e
 
 loop_spelled : (text : List ℕ) × SpellsOps text (next (loop None (next (br 0) no_ops)) no_ops) × (length text ≤ 90)
@@ -97,7 +97,7 @@ if_spelled =
     (_, body, omega arith)
 
 -- The module of a function that loops, exported by a name.
-pub loop_module : (whole : Syntax Ops) (exports : List Export) (inside body : Instrs) → whole ≡ one_function exports (instrs_view body) → exports ≡ loop_entry ∷ [] → inside.list.items ≡ code.Br 0 ∷ [] → body.list.items ≡ code.Loop None inside ∷ [] → IsSpelled Spells whole
+pub loop_module : (whole : Syntax Ops) (exports : List Export) (inside body : Instrs) → whole ≡ one_function exports (instrs_view body) → exports ≡ loop_entry ∷ [] → inside.list ≡ code.Br 0 ∷ [] → body.list ≡ code.Loop None inside ∷ [] → IsSpelled Spells whole
 loop_module whole exports inside body is exported here there =
     let inner : instr_view (code.Loop None inside) ≡ loop None (next (br 0) no_ops) = view_loop None inside ∙ ap (loop None) (view_one inside (code.Br 0) here ∙ ap (λ z. next z no_ops) (view_br 0)) in
     let ops : instrs_view body ≡ next (loop None (next (br 0) no_ops)) no_ops = view_one body (code.Loop None inside) there ∙ ap (λ z. next z no_ops) inner in
@@ -106,7 +106,7 @@ loop_module whole exports inside body is exported here there =
     subst P (sym same) (function_spelled (loop_entry ∷ []) _ loop_spelled.0 loop_export loop_spelled.1 loop_spelled.2)
 
 -- The module of a function with an `if` whose second part is empty.
-pub if_module : (whole : Syntax Ops) (exports : List Export) (first second body : Instrs) → whole ≡ one_function exports (instrs_view body) → exports ≡ [] → first.list.items ≡ code.Nop ∷ [] → second.list.items ≡ [] → body.list.items ≡ code.If None first second ∷ [] → IsSpelled Spells whole
+pub if_module : (whole : Syntax Ops) (exports : List Export) (first second body : Instrs) → whole ≡ one_function exports (instrs_view body) → exports ≡ [] → first.list ≡ code.Nop ∷ [] → second.list ≡ [] → body.list ≡ code.If None first second ∷ [] → IsSpelled Spells whole
 if_module whole exports first second body is exported here none there =
     let one : instrs_view first ≡ next nop no_ops = view_one first code.Nop here ∙ ap (λ z. next z no_ops) view_nop in
     let inner : instr_view (code.If None first second) ≡ if_else None (next nop no_ops) no_ops = view_if None first second ∙ ap (λ z. if_else None z (instrs_view second)) one ∙ ap (if_else None (next nop no_ops)) (view_none second none) in
