@@ -27,14 +27,14 @@ each_ops : (list : List Op) {text : List ℕ} → SpellsEach SpellsOp text list 
 each_ops [] each_none = spells_none
 each_ops (op ∷ ops) (each_next s ss) = spells_next s (each_ops ops ss)
 
-pub instrs_spelled : (instrs : Instrs) → IsSpelled SpellsOps (instrs_view instrs) → IsSpelled (SpellsEach SpellsOp) (map instr_view instrs.list.items)
+pub instrs_spelled : (instrs : Instrs) → IsSpelled SpellsOps (instrs_view instrs) → IsSpelled (SpellsEach SpellsOp) (map instr_view instrs.list)
 instrs_spelled instrs (text, s) =
     let P : Ops → Type 0 = λ z. SpellsOps text z in
-    (text, ops_each (map instr_view instrs.list.items) (subst P (view_instrs instrs) s))
+    (text, ops_each (map instr_view instrs.list) (subst P (view_instrs instrs) s))
 
-pub gains_instrs : (instrs : Instrs) (a b : List ℕ) → Gains (SpellsEach SpellsOp) (map instr_view instrs.list.items) a b → Gains SpellsOps (instrs_view instrs) a b
+pub gains_instrs : (instrs : Instrs) (a b : List ℕ) → Gains (SpellsEach SpellsOp) (map instr_view instrs.list) a b → Gains SpellsOps (instrs_view instrs) a b
 gains_instrs instrs a b (text, s, e) =
-    let list : List Op = map instr_view instrs.list.items in
+    let list : List Op = map instr_view instrs.list in
     let P : Ops → Type 0 = λ z. SpellsShortest SpellsOps text z in
     let shortest : SpellsShortest SpellsOps text (ops_of list) = (each_ops list s.0, λ other t. s.1 other (ops_each list t)) in
     (text, subst P (sym (view_instrs instrs)) shortest, e)
@@ -110,14 +110,14 @@ some_of : (list : List Instr) → items_view list ≡ no_ops → length list ≡
 some_of [] e = refl
 some_of (i ∷ is) e = absurd (cc)
 
-pub gains_if_one : (kind : Option ValType) (first : Ops) (second : Instrs) (view : Op) (a b c d : List ℕ) → view ≡ if_else kind first (instrs_view second) → length second.list.items ≡ 0 → Gains SpellsBlockType kind (a ++ 0x04 ∷ []) b → Gains SpellsOps first b c → d ≡ c ++ 0x0b ∷ [] → Gains SpellsOp view a d
+pub gains_if_one : (kind : Option ValType) (first : Ops) (second : Instrs) (view : Op) (a b c d : List ℕ) → view ≡ if_else kind first (instrs_view second) → length second.list ≡ 0 → Gains SpellsBlockType kind (a ++ 0x04 ∷ []) b → Gains SpellsOps first b c → d ≡ c ++ 0x0b ∷ [] → Gains SpellsOp view a d
 gains_if_one kind first second view a b c d is none s t e =
-    let empty : instrs_view second ≡ no_ops = view_instrs second ∙ none_of second.list.items none in
+    let empty : instrs_view second ≡ no_ops = view_instrs second ∙ none_of second.list none in
     gains_if kind first no_ops view a b d (is ∙ ap (if_else kind first) empty) s (gains_alone_part first b c d t e)
 
-pub gains_if_both : (kind : Option ValType) (first : Ops) (second : Instrs) (view : Op) (a b c d e f : List ℕ) → view ≡ if_else kind first (instrs_view second) → suc 0 ≤ length second.list.items → Gains SpellsBlockType kind (a ++ 0x04 ∷ []) b → Gains SpellsOps first b c → d ≡ c ++ 0x05 ∷ [] → Gains SpellsOps (instrs_view second) d e → f ≡ e ++ 0x0b ∷ [] → Gains SpellsOp view a f
+pub gains_if_both : (kind : Option ValType) (first : Ops) (second : Instrs) (view : Op) (a b c d e f : List ℕ) → view ≡ if_else kind first (instrs_view second) → suc 0 ≤ length second.list → Gains SpellsBlockType kind (a ++ 0x04 ∷ []) b → Gains SpellsOps first b c → d ≡ c ++ 0x05 ∷ [] → Gains SpellsOps (instrs_view second) d e → f ≡ e ++ 0x0b ∷ [] → Gains SpellsOp view a f
 gains_if_both kind first second view a b c d e f is some s t g u h =
-    let never : instrs_view second ≡ no_ops → ⊥ = λ none. let zero = some_of second.list.items (sym (view_instrs second) ∙ none) in omega (arith, zero) in
+    let never : instrs_view second ≡ no_ops → ⊥ = λ none. let zero = some_of second.list (sym (view_instrs second) ∙ none) in omega (arith, zero) in
     gains_if kind first (instrs_view second) view a b f is s (gains_both first (instrs_view second) b c d e f never t g u h)
 
 -- An instruction that is its opcode alone.

@@ -72,10 +72,10 @@ pub pushed : {A : Type 0} (old new : List A) (entry : A) → old ≡ [] → new 
 pushed old new entry none e = e ∙ ap (λ z. z ++ entry ∷ []) none
 
 -- one instruction, and none
-view_one : (instrs : Instrs) (instr : Instr) → instrs.list.items ≡ instr ∷ [] → instrs_view instrs ≡ next (instr_view instr) no_ops
+view_one : (instrs : Instrs) (instr : Instr) → instrs.list ≡ instr ∷ [] → instrs_view instrs ≡ next (instr_view instr) no_ops
 view_one instrs instr e = view_instrs instrs ∙ ap items_view e
 
-view_none : (instrs : Instrs) → instrs.list.items ≡ [] → instrs_view instrs ≡ no_ops
+view_none : (instrs : Instrs) → instrs.list ≡ [] → instrs_view instrs ≡ no_ops
 view_none instrs e = view_instrs instrs ∙ ap items_view e
 
 abbrev loop_body : Ops
@@ -94,7 +94,7 @@ if_encodable : IsEncodable (one_function [] if_body)
 if_encodable = function_encodable [] if_body nothing_encodable.exports (((tt, tt), tt), tt) (omega arith)
 
 -- The module of a function that loops, exported by a name.
-pub loop_module : (whole : Syntax Ops) (exports : List Export) (inside body : Instrs) → whole ≡ one_function exports (instrs_view body) → exports ≡ loop_entry ∷ [] → inside.list.items ≡ code.Br 0 ∷ [] → body.list.items ≡ code.Loop None inside ∷ [] → IsSpelled Spells whole
+pub loop_module : (whole : Syntax Ops) (exports : List Export) (inside body : Instrs) → whole ≡ one_function exports (instrs_view body) → exports ≡ loop_entry ∷ [] → inside.list ≡ code.Br 0 ∷ [] → body.list ≡ code.Loop None inside ∷ [] → IsSpelled Spells whole
 loop_module whole exports inside body is exported here there =
     let inner : instr_view (code.Loop None inside) ≡ loop None (next (br 0) no_ops) = view_loop None inside ∙ ap (loop None) (view_one inside (code.Br 0) here ∙ ap (λ z. next z no_ops) (view_br 0)) in
     let ops : instrs_view body ≡ next (loop None (next (br 0) no_ops)) no_ops = view_one body (code.Loop None inside) there ∙ ap (λ z. next z no_ops) inner in
@@ -103,7 +103,7 @@ loop_module whole exports inside body is exported here there =
     subst P (sym same) (encodable_spelled (one_function (loop_entry ∷ []) loop_body) loop_encodable)
 
 -- The module of a function with an `if` whose second part is empty.
-pub if_module : (whole : Syntax Ops) (exports : List Export) (first second body : Instrs) → whole ≡ one_function exports (instrs_view body) → exports ≡ [] → first.list.items ≡ code.Nop ∷ [] → second.list.items ≡ [] → body.list.items ≡ code.If None first second ∷ [] → IsSpelled Spells whole
+pub if_module : (whole : Syntax Ops) (exports : List Export) (first second body : Instrs) → whole ≡ one_function exports (instrs_view body) → exports ≡ [] → first.list ≡ code.Nop ∷ [] → second.list ≡ [] → body.list ≡ code.If None first second ∷ [] → IsSpelled Spells whole
 if_module whole exports first second body is exported here none there =
     let one : instrs_view first ≡ next nop no_ops = view_one first code.Nop here ∙ ap (λ z. next z no_ops) view_nop in
     let inner : instr_view (code.If None first second) ≡ if_else None (next nop no_ops) no_ops = view_if None first second ∙ ap (λ z. if_else None z (instrs_view second)) one ∙ ap (if_else None (next nop no_ops)) (view_none second none) in

@@ -23,7 +23,7 @@ entry_height (instr ∷ list) zero d h = omega arith
 entry_height (instr ∷ list) (suc i) d h = let rest = entry_height list i d (omega arith) in omega arith
 
 -- an instruction in others
-pub item_height : (instrs : Instrs) (list : List Instr) (i : ℕ) (item : Instr) → list ≡ instrs.list.items → i < length list → item ≡ get_or list i item → op_height (instr_view item) < ops_height (instrs_view instrs)
+pub item_height : (instrs : Instrs) (list : List Instr) (i : ℕ) (item : Instr) → list ≡ instrs.list → i < length list → item ≡ get_or list i item → op_height (instr_view item) < ops_height (instrs_view instrs)
 item_height instrs list i item same h is =
     let here : op_height (instr_view item) ≡ op_height (instr_view (get_or list i item)) = ap (λ z. op_height (instr_view z)) is in
     let all : ops_height (instrs_view instrs) ≡ ops_height (items_view list) = ap ops_height (view_instrs instrs) ∙ ap (λ z. ops_height (items_view z)) (sym same) in

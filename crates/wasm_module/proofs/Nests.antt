@@ -70,7 +70,7 @@ branches_only_two depth end bytes middle rest first second some not only inner =
       (pair_is both.0 both.1 first second (ap (λ (z : Ops × ℕ). z.0) one.0) two.0 both refl, two.1)
 ]
 
-pub view_empty : (is : Instrs) → is.list.items ≡ [] → instrs_view is ≡ no_ops
+pub view_empty : (is : Instrs) → is.list ≡ [] → instrs_view is ≡ no_ops
 view_empty is e = view_instrs is ∙ ap (λ z. ops_of z) (ap (λ z. map instr_view z) e)
 
 block_spell : (depth : ℕ) (text : List ℕ) (inner : Option ValType × Ops) → Then SpellsBlockType (SpellsInner depth) text inner → SpellsShallow depth (0x02 ∷ text) (block inner.0 inner.1)

@@ -97,7 +97,7 @@ pub view_if : (kind : Option ValType) (is js : Instrs) → instr_view (code.If k
 view_if kind is js = ap instr_view (sym (code.rolls-If kind is js)) ∙ fold-roll-Instr Op Ops op_step instrs_step (Instr-F.If kind is js)
 
 -- a list of instructions stands for what each stands for
-pub view_instrs : (is : Instrs) → instrs_view is ≡ items_view is.list.items
+pub view_instrs : (is : Instrs) → instrs_view is ≡ items_view is.list
 view_instrs is = fold_out-Instrs Op Ops op_step instrs_step is
 
 -- signed constants are kept as their bits

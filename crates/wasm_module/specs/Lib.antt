@@ -1,3 +1,5 @@
+pub mod formers
+pub mod Listed
 pub mod Spelling
 pub mod Syntax
 pub mod View

@@ -42,7 +42,7 @@ op_step (Instr-F.FloatConst bytes) = float_const bytes
 op_step (Instr-F.FloatPlain op) = float_plain op
 
 abbrev pub instrs_step : Instrs-F Op Ops → Ops
-instrs_step instrs = ops_of instrs.list.items
+instrs_step instrs = ops_of instrs.list
 
 -- The instruction that a value of `Instr` stands for.
 abbrev pub instr_view : Instr → Op

@@ -1,13 +1,14 @@
 // Lists of entries.
-ghost use Rattle.std.specs.Prelude.{◌≡◌, [], ◌∷◌, ◌++◌, length, slice_get, option_copied, OnOk, OnErr};
+ghost use Rattle.std.specs.Prelude.{◌≡◌, [], ◌∷◌, ◌++◌, length, slice_get, option_copied, IfOk, OnOk, OnErr};
 
+use optional_box::OptionalBox;
 use std::alloc::{AllocError as NoMemory, Global};
 use std::marker::Model;
 
-/// Entries in the order of the binary form. Contracts see the list of them.
+/// Entries in the order of the binary form, in the room of one pointer. Contracts see the list of them.
 #[derive(Drop)]
 pub struct Entries<E> {
-    list: Vec<E>,
+    list: OptionalBox<Vec<E>>,
 }
 
 /// Indices, of functions, types or labels.
@@ -21,10 +22,11 @@ pub type Blob = Entries<u8>;
 
 impl<E> Model for Entries<E> {
     ghost use Rattle.std.specs.Prelude.{List};
+    ghost use Rattle.wasm_module.specs.Listed.{listed};
 
     ghost Value = { List E };
 
-    ghost view = { λ entries. entries.list.items };
+    ghost view = { λ entries. listed entries.list };
 }
 
 impl<E> Entries<E> {
@@ -33,29 +35,41 @@ impl<E> Entries<E> {
         ensures { result ≡ [] }
     {
         Entries {
-            list: Vec::new(alloc),
+            list: OptionalBox::none(alloc),
         }
     }
 
-    /// The list of a vector's entries. It takes no memory.
-    pub fn of(list: Vec<E>) -> Entries<E>
-        ensures { result ≡ list.items }
+    /// The list of a vector's entries, without the room that the vector holds beyond them.
+    pub fn of(mut list: Vec<E>) -> Result<Entries<E>, NoMemory>
+    where
+        E: Drop,
+        ensures { IfOk result (λ entries. entries ≡ list.items) }
     {
-        Entries { list }
+        let alloc = *list.allocator();
+        if list.is_empty() {
+            return Ok(Entries::new(alloc));
+        }
+        list.shrink_to_fit();
+        Ok(Entries {
+            list: OptionalBox::of(Box::new(alloc, list)?),
+        })
     }
 
     /// The number of entries.
     pub fn len(&self) -> u64
         ensures { result ≡ length self.now }
     {
-        self.list.len() as u64
+        match self.list.get() {
+            Some(list) => list.len() as u64,
+            None => 0,
+        }
     }
 
     /// The entry at a place, from 0 on.
     pub fn nth(&self, i: u64) -> Option<&E>
         ensures { option_copied result ≡ slice_get self.now i }
     {
-        self.list.get(i as usize)
+        self.as_slice().get(i as usize)
     }
 
     /// Adds an entry at the end.
@@ -65,13 +79,23 @@ impl<E> Entries<E> {
         ensures added { OnOk result (self.new ≡ self.old ++ entry ∷ []) }
         ensures unchanged { OnErr result (self.new ≡ self.old) }
     {
-        Ok(self.list.push(entry)?)
+        let alloc = self.list.allocator();
+        let mut list = match self.list.take() {
+            Some(list) => list,
+            None => Box::new(alloc, Vec::new(alloc))?,
+        };
+        let pushed = list.push(entry);
+        self.list = OptionalBox::of(list);
+        Ok(pushed?)
     }
 
     /// The whole list.
     pub fn as_slice(&self) -> &[E]
         ensures { result.now ≡ self.now }
     {
-        &self.list
+        match self.list.get() {
+            Some(list) => list,
+            None => &[],
+        }
     }
 }

@@ -54,7 +54,8 @@ fn value_types(alloc: Global, cursor: &mut Cursor) -> Result<ValTypes, ReadFault
     ensures malformed { IfErr result (λ e. e ≡ ReadFault.Malformed → BeginsNone (SpellsList SpellsValType) cursor.old.0) }
 {
     let list = entries::<ValueType>(alloc, cursor)?;
-    Ok(Entries::of(list))
+    let kept = Entries::of(list)?;
+    Ok(kept)
 }
 
 // Reads the result of a function's type.

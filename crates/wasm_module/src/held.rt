@@ -4,21 +4,23 @@ ghost use Rattle.wasm_module.specs.Spelling.{SpellsList};
 ghost use Rattle.wasm_module.specs.Sections.{Holds, SpellsStart, content_of as content_of_number};
 ghost use Rattle.wasm_module.specs.Parts.{section_view};
 
+use crate::entry_lists::Entries;
 use crate::read::{Form, ReadFault, entries};
 use crate::sections::{Section, content_of};
 use byte_fields::Cursor;
 use std::alloc::Global;
 
 // Reads the list that the content of a section is.
-fn whole_entries<F: Form>(alloc: Global, content: &[u8]) -> Result<Vec<F::Value>, ReadFault>
-    ensures found { IfOk result (λ list. SpellsList F.spells content.now (map F.seen list.items)) }
-    ensures only { IfOk result (λ list. (other : List F.Seen) → SpellsList F.spells content.now other → other ≡ map F.seen list.items) }
+fn whole_entries<F: Form>(alloc: Global, content: &[u8]) -> Result<Entries<F::Value>, ReadFault>
+    ensures found { IfOk result (λ list. SpellsList F.spells content.now (map F.seen list)) }
+    ensures only { IfOk result (λ list. (other : List F.Seen) → SpellsList F.spells content.now other → other ≡ map F.seen list) }
     ensures malformed { IfErr result (λ e. e ≡ ReadFault.Malformed → (other : List F.Seen) → SpellsList F.spells content.now other → ⊥) }
 {
     let mut cursor = Cursor::over(content);
     let list = entries::<F>(alloc, &mut cursor)?;
     if cursor.left() == 0 {
-        Ok(list)
+        let kept = Entries::of(list)?;
+        Ok(kept)
     } else {
         Err(ReadFault::Malformed)
     }
@@ -29,14 +31,14 @@ pub(crate) fn held<F: Form>(
     alloc: Global,
     sections: &[Section],
     number: u8,
-) -> Result<Vec<F::Value>, ReadFault>
-    ensures found { IfOk result (λ list. Holds (SpellsList F.spells) [] (content_of_number number (map section_view sections.now)) (map F.seen list.items)) }
-    ensures only { IfOk result (λ list. (other : List F.Seen) → Holds (SpellsList F.spells) [] (content_of_number number (map section_view sections.now)) other → other ≡ map F.seen list.items) }
+) -> Result<Entries<F::Value>, ReadFault>
+    ensures found { IfOk result (λ list. Holds (SpellsList F.spells) [] (content_of_number number (map section_view sections.now)) (map F.seen list)) }
+    ensures only { IfOk result (λ list. (other : List F.Seen) → Holds (SpellsList F.spells) [] (content_of_number number (map section_view sections.now)) other → other ≡ map F.seen list) }
     ensures malformed { IfErr result (λ e. e ≡ ReadFault.Malformed → (other : List F.Seen) → Holds (SpellsList F.spells) [] (content_of_number number (map section_view sections.now)) other → ⊥) }
 {
     match content_of(sections, number) {
         Some(content) => whole_entries::<F>(alloc, content),
-        None => Ok(Vec::new(alloc)),
+        None => Ok(Entries::new(alloc)),
     }
 }
 

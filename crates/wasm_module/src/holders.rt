@@ -33,7 +33,8 @@ impl Form for Runs {
 
     fn read(alloc: Global, cursor: &mut Cursor) -> Result<LocalRuns, ReadFault> {
         let list = entries::<LocalEntry>(alloc, cursor)?;
-        Ok(Entries::of(list))
+        let kept = Entries::of(list)?;
+        Ok(kept)
     }
 }
 

@@ -1,9 +1,10 @@
 // The tree of instructions: WebAssembly Core 1.0, chapter 2.4, with the instructions on floats as marked leaves.
 ghost use Rattle.std.specs.Prelude.{◌≡◌, [], ◌∷◌, ◌++◌, length, slice_get, option_copied, OnOk, OnErr};
 
-use crate::entry_lists::Indices;
+use crate::entry_lists::{Entries, Indices};
 use crate::types::ValType;
 use std::alloc::{AllocError as NoMemory, Global};
+use std::mem::size_of;
 
 /// The bytes of a constant float as a number, the lowest byte first.
 #[derive(Clone, Copy, Debug, PartialEq, Eq)]
@@ -53,49 +54,51 @@ pub enum Instr {
     FloatPlain(u8),
 }
 
-/// Instructions, in order.
+/// Instructions, in order, in the room of one pointer.
 #[cycle(instr)]
 #[derive(Drop)]
 pub struct Instrs {
-    pub list: Vec<Instr>,
+    pub list: Entries<Instr>,
 }
 
 impl Instrs {
     /// The empty list. It takes no memory before the first entry.
     pub fn new(alloc: Global) -> Instrs
-        ensures { result.list.items ≡ [] }
+        ensures { result.list ≡ [] }
     {
         Instrs {
-            list: Vec::new(alloc),
+            list: Entries::new(alloc),
         }
     }
 
     /// The number of instructions, those inside of blocks not counted.
     pub fn len(&self) -> u64
-        ensures { result ≡ length self.now.list.items }
+        ensures { result ≡ length self.now.list }
     {
-        self.list.len() as u64
+        self.list.len()
     }
 
     /// The instruction at a place, from 0 on.
     pub fn nth(&self, i: u64) -> Option<&Instr>
-        ensures { option_copied result ≡ slice_get self.now.list.items i }
+        ensures { option_copied result ≡ slice_get self.now.list i }
     {
-        self.list.get(i as usize)
+        self.list.nth(i)
     }
 
     /// Adds an instruction at the end.
     pub fn push(&mut self, entry: Instr) -> Result<(), NoMemory>
-        ensures added { OnOk result (self.new.list.items ≡ self.old.list.items ++ entry ∷ []) }
-        ensures unchanged { OnErr result (self.new.list.items ≡ self.old.list.items) }
+        ensures added { OnOk result (self.new.list ≡ self.old.list ++ entry ∷ []) }
+        ensures unchanged { OnErr result (self.new.list ≡ self.old.list) }
     {
-        Ok(self.list.push(entry)?)
+        self.list.push(entry)
     }
 
     /// The whole list.
     pub fn as_slice(&self) -> &[Instr]
-        ensures { result.now ≡ self.now.list.items }
+        ensures { result.now ≡ self.now.list }
     {
-        &self.list
+        self.list.as_slice()
     }
 }
+
+const _: () = prove!(size_of::<Instr>() <= 32);

@@ -54,7 +54,8 @@ pub(crate) fn indices(alloc: Global, cursor: &mut Cursor) -> Result<Indices, Rea
     ensures malformed { IfErr result (λ e. e ≡ ReadFault.Malformed → BeginsNone (SpellsList SpellsU32) cursor.old.0) }
 {
     let list = entries::<Index>(alloc, cursor)?;
-    Ok(Entries::of(list))
+    let kept = Entries::of(list)?;
+    Ok(kept)
 }
 
 /// Reads what is behind the opcode of a control instruction that holds no others, or of `drop` or

@@ -4,6 +4,7 @@ ghost use Rattle.byte_fields.specs.Front.{Begins, BeginsNone, BeginsOnly};
 ghost use Rattle.wasm_module.specs.View.{instr_view, instrs_view};
 ghost use Rattle.wasm_module.specs.Nested.{SpellsBody, SpellsBranches, SpellsInner, SpellsShallow};
 
+use crate::entry_lists::Entries;
 use crate::instr::{Instr, Instrs};
 use crate::leaves::leaf;
 use crate::read::ReadFault;
@@ -36,8 +37,9 @@ fn body(alloc: Global, cursor: &mut Cursor, depth: u32) -> Result<Ended, ReadFau
     loop {
         let code = cursor.u8()?;
         if code == 0x0b || code == 0x05 {
+            let kept = Entries::of(list)?;
             return Ok(Ended {
-                instrs: Instrs { list },
+                instrs: Instrs { list: kept },
                 end: code,
             });
         }

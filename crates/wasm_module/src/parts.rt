@@ -62,16 +62,16 @@ pub(crate) fn parts_of<X: Expression>(
         return Err(ReadFault::Malformed);
     }
     Ok(Parts {
-        types: Entries::of(types),
-        imports: Entries::of(imports),
-        funcs: Entries::of(funcs),
-        tables: Entries::of(tables),
-        memories: Entries::of(memories),
-        globals: Entries::of(globals),
-        exports: Entries::of(exports),
+        types,
+        imports,
+        funcs,
+        tables,
+        memories,
+        globals,
+        exports,
         start,
-        elements: Entries::of(elements),
-        codes: Entries::of(codes),
-        segments: Entries::of(segments),
+        elements,
+        codes,
+        segments,
     })
 }

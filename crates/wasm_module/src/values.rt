@@ -218,7 +218,8 @@ pub(crate) fn name(alloc: Global, cursor: &mut Cursor) -> Result<Name, ReadFault
         return Err(ReadFault::Malformed);
     };
     let list = Vec::from_slice(alloc, text)?;
-    Ok(Entries::of(list))
+    let kept = Entries::of(list)?;
+    Ok(kept)
 }
 
 /// Reads a list of bytes.
@@ -229,5 +230,6 @@ pub(crate) fn blob(alloc: Global, cursor: &mut Cursor) -> Result<Blob, ReadFault
 {
     let content = counted(cursor)?;
     let list = Vec::from_slice(alloc, content)?;
-    Ok(Entries::of(list))
+    let kept = Entries::of(list)?;
+    Ok(kept)
 }

@@ -11,6 +11,6 @@ encode-requires g c =
     let oo = c.in_ok-push-3.ensures.added ∙ ap (λ z. z ++ 0x6f ∷ []) o in
     let name : c.push-4.new.self ≡ loop_name = c.in_ok-push-4.ensures.added ∙ ap (λ z. z ++ 0x70 ∷ []) oo in
     let exports = pushed _ c.push-5.new.self _ c.new-exports.ensures c.in_ok-push-5.ensures.added in
-    let inside = pushed _ c.push-6.new.self.list.items (code.Br 0) c.new-inside.ensures c.in_ok-push-6.ensures.added in
-    let body = pushed _ c.push-7.new.self.list.items (code.Loop None c.push-6.new.self) c.new-body.ensures c.in_ok-push-7.ensures.added in
+    let inside = pushed _ c.push-6.new.self.list (code.Br 0) c.new-inside.ensures c.in_ok-push-6.ensures.added in
+    let body = pushed _ c.push-7.new.self.list (code.Loop None c.push-6.new.self) c.new-body.ensures c.in_ok-push-7.ensures.added in
     loop_module (module_view c.in_ok-whole.whole) c.push-5.new.self c.push-6.new.self c.push-7.new.self c.in_ok-whole.ensures (rw name at exports) inside body

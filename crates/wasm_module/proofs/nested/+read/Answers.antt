@@ -31,13 +31,13 @@ pub body-returns-then-code-eq11-clause-found : goal.body-returns-then-code-eq11-
 body-returns-then-code-eq11-clause-found t c =
     let i = c.loop-list.invariant in
     let is : IsEnd c.in_ok-code.code = (elim c.then-code-eq11.branch [ body-then-code-eq11-via-then-code-eq11 w ↦ inl w.if-code-eq11.true | body-then-code-eq11-via-else-code-eq11+then-code-eq5 w ↦ inr w.if-code-eq5.true ]) in
-    let seen : instrs_view (roll-Instrs record { list = c.loop-list.list }) ≡ items_view c.loop-list.list.items = fold-roll-Instrs Op Ops op_step instrs_step record { list = c.loop-list.list } in
+    let seen : instrs_view (roll-Instrs record { list = c.in_ok-kept.kept }) ≡ items_view c.loop-list.list.items = fold-roll-Instrs Op Ops op_step instrs_step record { list = c.in_ok-kept.kept } ∙ ap (λ z. items_view z) c.in_ok-kept.ensures in
     rw seen (body_found c.args.depth c.in_ok-code.code c.args.cursor.now.0 i.text c.loop-list.cursor.0 c.u8.new.self.0 (items_view c.loop-list.list.items) i.spelled is i.depth i.whole c.in_ok-code.ensures.found)
 
 pub body-returns-then-code-eq11-clause-only : goal.body-returns-then-code-eq11-clause-only
 body-returns-then-code-eq11-clause-only t c = λ value rest b.
     let is : IsEnd c.in_ok-code.code = (elim c.then-code-eq11.branch [ body-then-code-eq11-via-then-code-eq11 w ↦ inl w.if-code-eq11.true | body-then-code-eq11-via-else-code-eq11+then-code-eq5 w ↦ inr w.if-code-eq5.true ]) in
-    let seen : instrs_view (roll-Instrs record { list = c.loop-list.list }) ≡ items_view c.loop-list.list.items = fold-roll-Instrs Op Ops op_step instrs_step record { list = c.loop-list.list } in
+    let seen : instrs_view (roll-Instrs record { list = c.in_ok-kept.kept }) ≡ items_view c.loop-list.list.items = fold-roll-Instrs Op Ops op_step instrs_step record { list = c.in_ok-kept.kept } ∙ ap (λ z. items_view z) c.in_ok-kept.ensures in
     rw seen (later_ops_end c.args.depth value (map instr_view c.loop-list.list.items) c.loop-list.cursor.0 rest c.u8.new.self.0 c.in_ok-code.code (c.loop-list.invariant.later value rest b) c.in_ok-code.ensures.found is)
 
 pub body-returns-in_err-next-clause-malformed : goal.body-returns-in_err-next-clause-malformed

@@ -1,3 +1,5 @@
+use Rattle.std.proofs.Common.{ap, sym, ◌∙◌, length}
+use Rattle.std.proofs.lemmas.List.{length-map}
 use Rattle.std.proofs.lemmas.Result.{err_from_is_err_and}
 use Rattle.wasm_module.proofs.parts.parts_of.Goals as goal
 
@@ -33,3 +35,9 @@ returns-in_err-codes-clause-malformed g c = let p = err_from_is_err_and c.from_r
 
 pub returns-in_err-segments-clause-malformed : goal.returns-in_err-segments-clause-malformed
 returns-in_err-segments-clause-malformed g c = let p = err_from_is_err_and c.from_residual-in_err-segments.result c.from_residual-in_err-segments.ensures.1 in rw (p.1, p.2) (λ is m a. c.in_err-segments.ensures.malformed is m.segments a.segments)
+
+pub returns-then-len-clause-malformed : goal.returns-then-len-clause-malformed
+returns-then-len-clause-malformed g c = λ is m a.
+    let funcs = ap length (c.in_ok-funcs.ensures.only m.funcs a.funcs) ∙ length-map c.in_ok-funcs.funcs _ in
+    let codes = ap length (c.in_ok-codes.ensures.only m.codes a.codes) ∙ length-map c.in_ok-codes.codes _ in
+    c.if-len.true (c.len.ensures ∙ sym funcs ∙ a.functions ∙ codes ∙ sym c.len-2.ensures)

@@ -3,4 +3,4 @@ use Rattle.std.proofs.lemmas.List.{map-id}
 use Rattle.wasm_module.proofs.holders.RunsForm.read.Goals as goal
 
 pub returns-clause-only : goal.returns-clause-only
-returns-clause-only c = λ other more b. let one = c.in_ok-list.ensures.only other more b in (one.0 ∙ map-id c.in_ok-list.list.items ∙ sym c.of.ensures, one.1)
+returns-clause-only c = λ other more b. let one = c.in_ok-list.ensures.only other more b in (one.0 ∙ map-id c.in_ok-list.list.items ∙ sym c.in_ok-kept.ensures, one.1)
