@@ -1,0 +1,15 @@
+pub mod Stacks
+pub mod Images
+pub mod Instructions
+pub mod Lists
+pub mod Seen
+pub mod Applied
+pub mod Entries
+pub mod Ends
+pub mod Parts
+pub mod Plain
+pub mod OneConstant
+pub mod Imported
+pub mod Named
+pub mod Gathered
+pub mod Whole
