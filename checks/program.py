@@ -420,7 +420,7 @@ def padded(length):
 
 def check_modules():
     path = "module.wasm"
-    decoded = [
+    valid = [
         ("the loop module", LOOP),
         ("the least module", OPENING),
         ("a module of one mebibyte", padded(MIB)),
@@ -429,11 +429,10 @@ def check_modules():
         ("65,536 locals", module([b"\x0b"], b"\1" + leb(65_536) + b"\x7f")),
         ("256 pages", OPENING + section(5, b"\1\0" + leb(256))),
         ("65,536 entries", OPENING + section(4, b"\1\x70\0" + leb(65_536))),
-        ("floats", module([b"\x43\0\0\0\0\x1a\x0b"], b"\1\1\x7d")),
     ]
-    for name, content in decoded:
+    for name, content in valid:
         files = {path: content, "other.wasm": b"other"}
-        check(name, ["check", path], files, 0, b"decoded\n")
+        check(name, ["check", path], files, 0, b"valid\n")
         with open(FULL, "wb") as sink:
             check(f"{name}, to a full standard output", ["check", path], files, 6, err=refused(6, "WriteFault"), stdout=sink)
     malformed = [
@@ -463,10 +462,27 @@ def check_modules():
     for name, content in too_large:
         files = {path: content, "other.wasm": LOOP}
         check(name, ["check", path], files, 12, b"refused TooLarge\n", refused(12, "Refused TooLarge"))
+    floats = [
+        ("a type with a float", bytes.fromhex("0061736D01000000010501 60017D00")),
+        ("a constant that is a float", module([b"\x43\0\0\0\0\x1a\x0b"])),
+        ("no local of a float type", module([b"\x0b"], b"\1\0\x7d")),
+        ("a float in a module that is not valid", module([b"\x43\0\0\0\0\x0b"])),
+    ]
+    invalid = [
+        ("a value left", module([b"\x41\0\x0b"])),
+        ("no value to drop", module([b"\x1a\x0b"])),
+        ("an export of no function", OPENING + section(7, b"\1\1x\0\0")),
+        ("an unknown label", module([b"\x0c\1\x0b"])),
+    ]
+    for refusal, list_ in (("FloatRefused", floats), ("Invalid", invalid)):
+        for name, content in list_:
+            files = {path: content, "other.wasm": LOOP}
+            line = f"refused {refusal}\n".encode()
+            check(name, ["check", path], files, 12, line, refused(12, f"Refused {refusal}"))
     fault = refused(5, "ReadFault")
     check("no module", ["check", path], {"other.wasm": LOOP}, 5, err=fault)
     check("a folder as the module", ["check", path], {path: None}, 5, err=fault)
-    check("a path that begins with -", ["check", "-m"], {"-m": LOOP}, 0, b"decoded\n")
+    check("a path that begins with -", ["check", "-m"], {"-m": LOOP}, 0, b"valid\n")
 
 
 # ---- the documents

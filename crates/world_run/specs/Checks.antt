@@ -4,6 +4,8 @@ use Rattle.wasm_module.specs.Syntax.{Ops}
 use Rattle.wasm_module.specs.Sections.{Syntax, Spells}
 use Rattle.wasm_module.specs.Limits.{WithinBytes, IsWithin, IsTooLarge}
 use Rattle.wasm_module.specs.declared.module.Limit.{Limit}
+use Rattle.wasm_validate.specs.Floats.{HasNoFloat}
+use Rattle.wasm_validate.specs.Modules.{IsValid}
 use Rattle.world_io.specs.Told.{GaveAll, Gave}
 use Rattle.world_run.specs.declared.status.Refusal.TheVariants as refusals
 use Rattle.world_run.specs.declared.status.Status.{Status}
@@ -11,18 +13,30 @@ use Rattle.world_run.specs.declared.status.Status.TheVariants as statuses
 
 -- ---- the answer
 
--- The answer that these bytes call for: they spell a module within the limits, they spell none, or they pass a limit.
+-- The answer that a module calls for: a float stands in it, or none does and it is valid, or not.
+abbrev pub Judged : Syntax Ops → Status → Type 0
+Judged m statuses.Done = HasNoFloat m × IsValid m
+Judged m (statuses.Refused refusals.FloatRefused) = HasNoFloat m → ⊥
+Judged m (statuses.Refused refusals.Invalid) = HasNoFloat m × (IsValid m → ⊥)
+Judged m status = ⊥
+
+-- These bytes spell this module, which is within the limits.
+abbrev pub SpellsWithin : List ℕ → Syntax Ops → Type 0
+SpellsWithin bytes m = Spells bytes m × WithinBytes bytes × IsWithin m
+
+-- The answer that these bytes call for: they spell none, they pass a limit, or they spell a module within the limits that calls for it.
 abbrev pub Checks : List ℕ → Status → Type 0
-Checks bytes statuses.Done = (m : Syntax Ops) × Spells bytes m × WithinBytes bytes × IsWithin m
 Checks bytes (statuses.Refused refusals.Malformed) = WithinBytes bytes × ((m : Syntax Ops) → Spells bytes m → ⊥)
 Checks bytes (statuses.Refused refusals.TooLarge) = (limit : Limit) × IsTooLarge bytes limit
-Checks bytes status = ⊥
+Checks bytes status = (m : Syntax Ops) × SpellsWithin bytes m × Judged m status
 
 -- The line that is printed for an answer, and nothing for any other status.
 abbrev pub answer_line : Status → List ℕ
-answer_line statuses.Done = codes "decoded\n"
+answer_line statuses.Done = codes "valid\n"
 answer_line (statuses.Refused refusals.Malformed) = codes "refused Malformed\n"
 answer_line (statuses.Refused refusals.TooLarge) = codes "refused TooLarge\n"
+answer_line (statuses.Refused refusals.FloatRefused) = codes "refused FloatRefused\n"
+answer_line (statuses.Refused refusals.Invalid) = codes "refused Invalid\n"
 answer_line status = []
 
 -- The source was read to its end, and its bytes call for this answer; or it gave one byte more than 1 MiB, which is too large whatever comes behind.

@@ -89,6 +89,8 @@ world_fault_text faults.Memory = codes "Memory"
 abbrev pub refusal_name : Refusal → List ℕ
 refusal_name refusals.Malformed = codes "Malformed"
 refusal_name refusals.TooLarge = codes "TooLarge"
+refusal_name refusals.FloatRefused = codes "FloatRefused"
+refusal_name refusals.Invalid = codes "Invalid"
 
 abbrev pub status_number : Status → ℕ
 status_number statuses.Done = 0

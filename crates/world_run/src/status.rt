@@ -14,6 +14,10 @@ pub enum Refusal {
     Malformed,
     /// They pass a limit.
     TooLarge,
+    /// A float type or an instruction on floats stands in the module.
+    FloatRefused,
+    /// The module has no typing.
+    Invalid,
 }
 
 /// How a call of the program ends, with its exit status.
@@ -206,6 +210,8 @@ fn name_of_refusal(refusal: Refusal) -> &'static str
     match refusal {
         Refusal::Malformed => "Malformed",
         Refusal::TooLarge => "TooLarge",
+        Refusal::FloatRefused => "FloatRefused",
+        Refusal::Invalid => "Invalid",
     }
 }
 
@@ -247,6 +253,14 @@ mod tests {
             (
                 Status::Refused(Refusal::TooLarge),
                 "fault 12 Refused TooLarge\n",
+            ),
+            (
+                Status::Refused(Refusal::FloatRefused),
+                "fault 12 Refused FloatRefused\n",
+            ),
+            (
+                Status::Refused(Refusal::Invalid),
+                "fault 12 Refused Invalid\n",
             ),
         ] {
             let Ok(line) = status.fault_line(rt.alloc()) else {

@@ -3,7 +3,8 @@ ghost use Rattle.std.specs.Prelude.{◌≡◌, ◌≢◌, ◌⊎◌, ℕ, ◌≤
 ghost use Rattle.std.specs.Io.KnownBytes.{Appends};
 ghost use Rattle.world_io.specs.Causes.{Rose};
 ghost use Rattle.world_io.specs.Told.{AppendsPrefix};
-ghost use Rattle.world_run.specs.Checks.{Checks, answer_line, ReadsAnswer, IsAnswer, IsBeforeLine, IsOfCheck, IsOfReading};
+ghost use Rattle.wasm_module.specs.Sections.{module_view};
+ghost use Rattle.world_run.specs.Checks.{Checks, Judged, answer_line, ReadsAnswer, IsAnswer, IsBeforeLine, IsOfCheck, IsOfReading};
 ghost use Rattle.world_run.specs.Runs.{IsPastWords};
 ghost use Rattle.world_run.specs.Stages.{IsOfWords};
 ghost use Rattle.world_run.specs.Words.{AreCheck};
@@ -12,7 +13,8 @@ ghost use Rattle.world_run.specs.declared.status.Status.{Status as StatusView};
 use crate::status::{Refusal, Status};
 use crate::words::{Command, WordsFault, read_words};
 use std::alloc::Global;
-use wasm_module::{DecodeFault, decode};
+use wasm_module::{DecodeFault, Module, decode};
+use wasm_validate::{ValidFault, validate};
 use world_io::{Disk, ReadStop, Sink, Source, read_all, write_all};
 
 /// The most bytes of a module, 1 MiB.
@@ -20,9 +22,9 @@ const MOST_BYTES: u64 = 1_048_576;
 
 /// Runs a command that only reads: so far `check MODULE`.
 ///
-/// The module is read to its end, or to one byte past 1 MiB. What is printed is one line: `decoded`
-/// where the bytes spell a module within the limits, and else `refused` and why. The disk is left
-/// as it is.
+/// The module is read to its end, or to one byte past 1 MiB. What is printed is one line: `valid`
+/// where the bytes spell a valid module without floats, within the limits, and else `refused` and
+/// why. The disk is left as it is.
 pub fn tool_main<S: Source, O: Sink, D: Disk>(
     alloc: Global,
     words: &[String],
@@ -112,10 +114,22 @@ fn verdict(alloc: Global, bytes: &[u8]) -> Status
     ensures { (result ≡ Status.Memory) ⊎ Checks bytes.now result }
 {
     match decode(alloc, bytes) {
-        Ok(_) => Status::Done,
+        Ok(found) => judge(alloc, found),
         Err(DecodeFault::Malformed) => Status::Refused(Refusal::Malformed),
         Err(DecodeFault::TooLarge(_)) => Status::Refused(Refusal::TooLarge),
         Err(DecodeFault::Memory) => Status::Memory,
+    }
+}
+
+// What a module calls for.
+fn judge(alloc: Global, found: Module) -> Status
+    ensures { (result ≡ Status.Memory) ⊎ Judged (module_view found) result }
+{
+    match validate(alloc, found) {
+        Ok(_) => Status::Done,
+        Err(ValidFault::FloatRefused(_)) => Status::Refused(Refusal::FloatRefused),
+        Err(ValidFault::Invalid(_)) => Status::Refused(Refusal::Invalid),
+        Err(ValidFault::Memory(_)) => Status::Memory,
     }
 }
 
@@ -140,9 +154,11 @@ fn line_of(answer: Status) -> &'static str
     ensures { result.now ≡ answer_line answer }
 {
     match answer {
-        Status::Done => "decoded\n",
+        Status::Done => "valid\n",
         Status::Refused(Refusal::Malformed) => "refused Malformed\n",
         Status::Refused(Refusal::TooLarge) => "refused TooLarge\n",
+        Status::Refused(Refusal::FloatRefused) => "refused FloatRefused\n",
+        Status::Refused(Refusal::Invalid) => "refused Invalid\n",
         _ => "",
     }
 }

@@ -11,6 +11,12 @@ const OPENING: &[u8] = b"\x00asm\x01\x00\x00\x00";
 // A module with a memory of 257 pages.
 const MEMORY_OF_257: &[u8] = b"\x00asm\x01\x00\x00\x00\x05\x04\x01\x00\x81\x02";
 
+// A module with a type of one parameter, an f32.
+const TYPE_OF_A_FLOAT: &[u8] = b"\x00asm\x01\x00\x00\x00\x01\x05\x01\x60\x01\x7d\x00";
+
+// A module that exports function 0, and has none.
+const EXPORT_OF_NOTHING: &[u8] = b"\x00asm\x01\x00\x00\x00\x07\x05\x01\x01x\x00\x00";
+
 // How a check ended, and what it printed.
 #[derive(Drop)]
 struct Ended {
@@ -57,10 +63,26 @@ fn check(alloc: Global, module: Vec<u8>) -> Result<Ended, AllocError> {
 }
 
 #[test]
-fn a_module_is_decoded(rt: HostRuntime) -> Result<(), Fail> {
-    let ended = check(rt.alloc(), OPENING.to_vec(rt.alloc())?)?;
-    assert_eq!(rt; ended.status, Status::Done);
-    assert_eq!(rt; ended.printed.as_slice(), b"decoded\n".as_slice());
+fn a_module_is_judged(rt: HostRuntime) -> Result<(), Fail> {
+    let alloc = rt.alloc();
+    let cases: [(&[u8], Status, &[u8]); 3] = [
+        (OPENING, Status::Done, b"valid\n"),
+        (
+            TYPE_OF_A_FLOAT,
+            Status::Refused(Refusal::FloatRefused),
+            b"refused FloatRefused\n",
+        ),
+        (
+            EXPORT_OF_NOTHING,
+            Status::Refused(Refusal::Invalid),
+            b"refused Invalid\n",
+        ),
+    ];
+    for (module, status, line) in cases {
+        let ended = check(alloc, module.to_vec(alloc)?)?;
+        assert_eq!(rt; ended.status, status);
+        assert_eq!(rt; ended.printed.as_slice(), line);
+    }
     Ok(())
 }
 
