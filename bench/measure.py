@@ -12,6 +12,8 @@ import sys
 import tempfile
 import time
 
+from modules import module
+
 PROGRAM = os.path.abspath("crates/world_server/out/world_server")
 
 
@@ -31,29 +33,11 @@ def world():
     return json.dumps({"version": 1, "tick": 0, "rooms": rooms, "players": []}).encode()
 
 
-def leb(number):
-    out = b""
-    while number >= 0x80:
-        out += bytes([number & 0x7F | 0x80])
-        number >>= 7
-    return out + bytes([number])
-
-
-def module(bodies):
-    """A module of functions with these bodies, which take and give nothing."""
-    codes = b"".join(leb(len(body) + 1) + b"\0" + body for body in bodies)
-    funcs = leb(len(bodies)) + b"\0" * len(bodies)
-    codes = leb(len(bodies)) + codes
-    return b"".join(
-        [b"\0asm\1\0\0\0", b"\1\4\1\x60\0\0", b"\3", leb(len(funcs)), funcs, b"\x0a", leb(len(codes)), codes]
-    )
-
-
 def main():
     if not os.path.isfile(PROGRAM):
         sys.exit("no program: see README.md")
-    flat = module([b"\x41\0\x1a" * 30 + b"\x0b"] * 10_000)
-    deep = module([b"\x02\x40" * 300_000 + b"\x0b" * 300_001])
+    flat = module([b"\x41\0\x1a" * 30] * 10_000)
+    deep = module([b"\x02\x40" * 300_000 + b"\x0b" * 300_000])
     with tempfile.TemporaryDirectory() as folder:
         paths = {}
         for name, content in [("world", world()), ("uploads", b""), ("flat", flat), ("deep", deep)]:
