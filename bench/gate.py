@@ -4,11 +4,12 @@ by crate and kind of work: the proof of the crate, that of its tests, its must-f
 
 Run it in the repository's top folder. Only what the run proves anew takes time: `bench/gate.py --anew` measures
 the gate from nothing. The times are read from /proc four times a second, so what a process does in its last
-quarter of a second is lost.
+quarter of a second is lost. Where it is ended early, by SIGTERM or an interrupt, it prints what was used so far.
 """
 
 import collections
 import os
+import signal
 import subprocess
 import sys
 import time
@@ -40,6 +41,8 @@ def work_of(pid):
 def main():
     began = time.monotonic()
     gate = subprocess.Popen(["rt", "ci", *sys.argv[1:]], start_new_session=True)
+    for number in (signal.SIGINT, signal.SIGTERM):
+        signal.signal(number, lambda *_: os.killpg(gate.pid, signal.SIGTERM))
     works, ticks = {}, {}
     while gate.poll() is None:
         for pid in filter(str.isdigit, os.listdir("/proc")):
