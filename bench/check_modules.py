@@ -14,7 +14,7 @@ import sys
 import tempfile
 import time
 
-from modules import leb, listed, module, section
+from modules import OPENING, leb, listed, module, section
 
 PROGRAM = os.path.abspath("crates/world_server/out/world_server")
 MIB = 1 << 20
@@ -23,6 +23,14 @@ MIB = 1 << 20
 def const(number):
     # (of one byte, from 0 to 63)
     return b"\x41" + bytes([number])
+
+
+def calls(params, body):
+    """A module that imports a function of so many parameters, and has one that takes and gives nothing, with this body."""
+    types = section(1, listed([b"\x60" + leb(params) + b"\x7f" * params + b"\0", b"\x60\0\0"]))
+    imports = section(2, listed([b"\1m\1f\0\0"]))
+    code = b"\0" + body + b"\x0b"
+    return OPENING + types + imports + section(3, listed([b"\1"])) + section(10, listed([leb(len(code)) + code]))
 
 
 def shapes():
@@ -47,9 +55,9 @@ def shapes():
     yield "300,000 operands", module([const(0) * 300_000 + b"\x1a" * 300_000])
     globals_ = listed([b"\x7f\0\x41\0\x0b"] * 200_000)
     yield "200,000 globals", module([b""], before=section(6, globals_))
-    yield "unreachable calls of 500,000 parameters", module([b"\0" + b"\x10\0" * 250_000], params=b"\x7f" * 500_000)
-    behind = b"\0" + (b"\x1a\x41\0" + b"\x10\0") * 100_000
-    yield "unreachable calls of 300,000 parameters, one operand at a time", module([behind], params=b"\x7f" * 300_000)
+    yield "unreachable calls of 500,000 parameters", calls(500_000, b"\0" + b"\x10\0" * 250_000)
+    one_by_one = b"\0" + (b"\x41\0" + b"\x10\0") * 120_000
+    yield "unreachable calls of 500,000 parameters, an operand at each", calls(500_000, one_by_one)
     blocks = b"\2\x40\x0b" * 340_000
     yield "340,000 empty blocks", module([blocks])
     ifs = (const(1) + b"\4\x7f\x41\1\5\x41\2\x0b\x1a") * 95_000
