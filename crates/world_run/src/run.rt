@@ -412,6 +412,3 @@ fn record<O: Sink, D: Disk>(
     };
     Ok(end)
 }
-
-#[cfg(test)]
-mod tests;

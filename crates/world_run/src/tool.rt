@@ -162,6 +162,3 @@ fn line_of(answer: Status) -> &'static str
         _ => "",
     }
 }
-
-#[cfg(test)]
-mod tests;

@@ -1,11 +1,10 @@
 // Runs over devices in memory, and the calls that fail.
 ghost use Rattle.std.specs.Prelude.{◌≡◌, ◌<◌, ◌^◌, length, IfOk};
 
-use super::run_alone;
-use crate::status::Status;
 use std::alloc::{AllocError, Global};
 use std::test::Fail;
 use world_io::{Disk, Failed, MemoryDisk, MemorySink, MemorySource};
+use world_run::{Status, run_alone};
 use world_text::WorldFault;
 
 const START: &[u8] = b"start tick 0 rooms 1 objects 2 players 0\n";
@@ -44,6 +43,19 @@ fn small_world(alloc: Global) -> Result<Vec<u8>, AllocError> {
     }
     let text = format!(in alloc;
         "{{\"version\":1,\"tick\":0,\"rooms\":[{{\"name\":\"E0S0\",\"terrain\":\"{terrain}\",\"next\":3,\"objects\":[{{\"id\":1,\"kind\":\"source\",\"x\":10,\"y\":10,\"timer\":1}},{{\"id\":2,\"kind\":\"pile\",\"x\":20,\"y\":20,\"energy\":1001}}]}}]}}"
+    )?;
+    Ok(text.into_bytes())
+}
+
+// Two rooms, with two piles in the first and one in the second, at tick 41.
+fn two_rooms(alloc: Global) -> Result<Vec<u8>, AllocError> {
+    let mut terrain = String::new(alloc);
+    for at in 0..2500_usize {
+        let corner = at == 0 || at == 49 || at == 2450 || at == 2499;
+        terrain.push(if corner { '1' } else { '0' })?;
+    }
+    let text = format!(in alloc;
+        "{{\"version\":1,\"tick\":41,\"rooms\":[{{\"name\":\"E0S0\",\"terrain\":\"{terrain}\",\"next\":3,\"objects\":[{{\"id\":1,\"kind\":\"pile\",\"x\":10,\"y\":10,\"energy\":1000000000}},{{\"id\":2,\"kind\":\"pile\",\"x\":20,\"y\":20,\"energy\":1}}]}},{{\"name\":\"E1S0\",\"terrain\":\"{terrain}\",\"next\":2,\"objects\":[{{\"id\":4294967297,\"kind\":\"pile\",\"x\":1,\"y\":1,\"energy\":7}}]}}]}}"
     )?;
     Ok(text.into_bytes())
 }
@@ -104,6 +116,21 @@ fn one_tick_is_recorded_and_printed(rt: HostRuntime) -> Result<(), Fail> {
     assert_eq!(rt; none.printed.as_slice(), START);
     assert!(rt; ended.journal.starts_with(&none.journal));
     assert!(rt; ended.journal.len() > none.journal.len());
+    Ok(())
+}
+
+#[test]
+fn objects_of_all_rooms_are_counted(rt: HostRuntime) -> Result<(), Fail> {
+    let inputs = Inputs {
+        world: two_rooms(rt.alloc())?,
+        ..small_inputs(rt.alloc())?
+    };
+    let ended = run(rt.alloc(), inputs, "1")?;
+    assert_eq!(rt; ended.status, Status::Done);
+    assert_eq!(rt;
+        ended.printed.as_slice(),
+        b"start tick 41 rooms 2 objects 3 players 0\ntick 42 objects 2 intents 0 energy 999000006\n".as_slice()
+    );
     Ok(())
 }
 

@@ -1,9 +1,8 @@
 // Checks of modules over devices in memory, and the calls that fail.
-use super::tool_main;
-use crate::status::{Refusal, Status};
 use std::alloc::{AllocError, Global};
 use std::test::Fail;
 use world_io::{MemoryDisk, MemorySink, MemorySource};
+use world_run::{Refusal, Status, tool_main};
 
 // The shortest module.
 const OPENING: &[u8] = b"\x00asm\x01\x00\x00\x00";
