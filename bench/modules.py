@@ -1,4 +1,4 @@
-"""Modules of WebAssembly by their parts, for the measures."""
+"""Modules of WebAssembly by their parts, for the measures and the checks."""
 
 OPENING = b"\0asm\1\0\0\0"
 

@@ -17,6 +17,9 @@ import sys
 import tempfile
 
 TOP = os.path.dirname(os.path.dirname(os.path.abspath(__file__)))
+sys.path.insert(0, os.path.join(TOP, "bench"))
+from modules import OPENING, leb, section  # noqa: E402
+
 PROGRAM = os.path.join(TOP, "crates/world_server/out/world_server")
 MIB = 1 << 20
 FULL = "/dev/full"
@@ -380,21 +383,6 @@ def check_words():
 
 
 # ---- modules
-
-
-def leb(number):
-    out = b""
-    while number >= 0x80:
-        out += bytes([number & 0x7F | 0x80])
-        number >>= 7
-    return out + bytes([number])
-
-
-def section(number, content):
-    return bytes([number]) + leb(len(content)) + content
-
-
-OPENING = b"\0asm\1\0\0\0"
 
 
 def module(bodies, locals=b"\0", before=b""):
