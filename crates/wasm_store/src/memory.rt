@@ -1,5 +1,5 @@
 // A memory in pages of 65,536 bytes.
-ghost use Rattle.std.specs.Prelude.{◌≡◌, ◌+◌, ◌*◌, ◌<◌, ◌≤◌, ◌↔◌, min, IfOk, IfSome, IsSome, IsNone, IsTrue, false, length, vec_capacity, []};
+ghost use Rattle.std.specs.Prelude.{◌≡◌, ◌+◌, ◌*◌, ◌^◌, ◌<◌, ◌≤◌, ◌↔◌, min, IfOk, IfSome, IsSome, IsNone, IsTrue, false, length, vec_capacity, []};
 ghost use Rattle.wasm_store.specs.Bytes.{IsWidth, le_bytes, le_number};
 ghost use Rattle.wasm_store.specs.Memory.{page_size, most_pages, page_count, fresh, grown, span, written};
 
@@ -94,6 +94,7 @@ impl Pages {
         requires { IsWidth width }
         ensures range { IsNone result ↔ (length self.now.bytes < at + width) }
         ensures value { IfSome result (λ value. value ≡ le_number (span self.now at width)) }
+        ensures narrow { IfSome result (λ value. value < 2 ^ (8 * width)) }
     {
         let bytes = self.read_span(at, u64::from(width))?;
         Some(match width {

@@ -1,0 +1,7 @@
+pub mod Values
+pub mod Pending
+pub mod Plain
+pub mod Blocks
+pub mod Branches
+pub mod Calls
+pub mod Ends

@@ -1,0 +1,9 @@
+// The stack of WebAssembly Core 1.0, chapter 4.2.12: values, labels and frames.
+#![tactic(auto)]
+
+mod control;
+mod place;
+mod stack;
+
+pub use place::Place;
+pub use stack::{MOST_CONTROLS, Stack};
