@@ -102,6 +102,7 @@ host_called type answer t a v fits = record {
 can_call : {base : Context} (program : Program) (func : ℕ) (found : Function) (t : Thread) → IsTypedProgram base program → slice_get program.functions func ≡ Some found → IsAtCall base (type_of found) t → CanCall base found t
 can_call {base} program func found t typed known a = record {
   there = arguments_there (type_of found).params a.below t.operands a.operands;
+  values = first_locals (type_of found).params a.below t.operands a.operands;
   own = λ type more body e few fits.
       own_called type more body t (subst (λ (z : Function). IsAtCall base (type_of z) t) e a)
       (typed.bodies func type more body (subst (λ (z : Function). slice_get program.functions func ≡ Some z) e known)) few fits;

@@ -1,5 +1,5 @@
 -- What a typed thread offers to the instruction that is next.
-use Rattle.std.specs.Prelude.{◌≡◌, ℕ, zero, suc, ℤ, ◌+◌, ◌-◌, ◌<◌, ◌≤◌, List, [], ◌∷◌, ◌++◌, length, drop, take, Option, Some, None}
+use Rattle.std.specs.Prelude.{◌≡◌, ℕ, zero, suc, ℤ, ◌+◌, ◌-◌, ◌<◌, ◌≤◌, List, [], ◌∷◌, ◌++◌, length, drop, take, Option, Some, None, reverse}
 use Rattle.wasm_module.specs.Syntax.{Op, Ops, next}
 use Rattle.wasm_module.specs.declared.types.ValType.{ValType}
 use Rattle.wasm_validate.specs.Context.{Context}
@@ -56,6 +56,7 @@ open_labels (frame results locals below rest ∷ levels) = 0
 -- The function can be called: its arguments are there, and what the call leads to is typed, where the answer of a host is a value.
 pub record CanCall (base : Context) (found : Function) (thread : Thread) : Type 0 where
   pub there : length (type_of found).params ≤ length thread.operands
+  pub values : AreValues (type_of found).params (reverse (take (length (type_of found).params) thread.operands))
   pub own : (type : FuncType) (more : ℕ) (body : Ops) → found ≡ defined type more body
       → frame_count thread.levels < most_frames → size thread + more ≤ most_values
       → IsTyped base (called type more body thread thread.code)
