@@ -1,0 +1,12 @@
+pub mod Each
+pub mod Known
+pub mod Names
+pub mod Programs
+pub mod Owned
+pub mod Parts
+pub mod Links
+pub mod Uses
+pub mod Places
+pub mod Counts
+pub mod Stores
+pub mod Begun

@@ -1,0 +1,5 @@
+pub mod Linking
+pub mod Callee
+pub mod Made
+pub mod Kept
+pub mod Learned
