@@ -71,6 +71,20 @@ impl Values {
         })
     }
 
+    /// Drops all frames, and leaves one with no locals and no operands.
+    pub fn reset(&mut self)
+        ensures { self.new ≡ empty }
+    {
+        self.waiting.clear();
+        self.top = Span {
+            base: 0,
+            near: 0,
+            floor: 0,
+            end: 0,
+            epoch: 0,
+        };
+    }
+
     /// The number of locals and operands of all frames.
     #[inline]
     pub fn size(&self) -> usize

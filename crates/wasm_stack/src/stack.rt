@@ -56,6 +56,15 @@ impl<'a> Stack<'a> {
         })
     }
 
+    /// Drops all that is held.
+    pub fn reset(&mut self)
+        ensures { held self.new ≡ nothing }
+    {
+        self.controls.clear();
+        self.depth = 0;
+        self.values.reset();
+    }
+
     /// The number of locals and operands of all frames.
     #[inline]
     pub fn size(&self) -> usize
