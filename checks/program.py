@@ -385,15 +385,22 @@ def check_words():
 # ---- modules
 
 
-def module(bodies, locals=b"\0", before=b""):
-    """A module of functions with these bodies, which take and give nothing."""
+NOTHING = b"\1\x60\0\0"
+
+
+def exported(name):
+    """Function 0 under this name."""
+    return section(7, b"\1" + leb(len(name)) + name + b"\0\0")
+
+
+def module(bodies, locals=b"\0", types=NOTHING, imports=b"", before=b"", exports=exported(b"loop"), elements=b"", data=b""):
+    """A module of functions with these bodies, which take and give nothing but where there are other types."""
     codes = b"".join(leb(len(locals + body)) + locals + body for body in bodies)
-    types = section(1, b"\1\x60\0\0")
     funcs = section(3, leb(len(bodies)) + b"\0" * len(bodies))
-    return OPENING + types + funcs + before + section(10, leb(len(bodies)) + codes)
+    return OPENING + section(1, types) + imports + funcs + before + exports + elements + section(10, leb(len(bodies)) + codes) + data
 
 
-LOOP = module([b"\3\x40\x0c\0\x0b\x0b"], before=section(7, b"\1\4loop\0\0"))
+LOOP = module([b"\3\x40\x0c\0\x0b\x0b"])
 
 
 def nest(depth):
@@ -401,26 +408,44 @@ def nest(depth):
 
 
 def padded(length):
-    """A module of a custom section, so many bytes long."""
-    rest = length - len(OPENING) - 4
-    return OPENING + b"\0" + leb(rest).rjust(3, b"\0") + b"\1x" + bytes(rest - 2)
+    """The loop module and a custom section, so many bytes long."""
+    rest = length - len(LOOP) - 4
+    return LOOP + b"\0" + leb(rest).rjust(3, b"\0") + b"\1x" + bytes(rest - 2)
+
+
+def with_data(offset, count):
+    """A module of a memory of one page and a segment of so many bytes from here on."""
+    segment = b"\1\0\x41" + offset + b"\x0b" + leb(count) + bytes(count)
+    return module([b"\x0b"], before=section(5, b"\1\0\1"), data=section(11, segment))
+
+
+def with_elements(offset, count):
+    """A module of a table of ten entries and a segment of so many functions from here on."""
+    segment = b"\1\0\x41" + offset + b"\x0b" + leb(count) + bytes(count)
+    return module([b"\x0b"], before=section(4, b"\1\x70\0\x0a"), elements=section(9, segment))
+
+
+def importing(entry, **others):
+    return module([b"\x0b"], imports=section(2, b"\1" + entry), **others)
 
 
 def check_modules():
     path = "module.wasm"
-    valid = [
+    accepted = [
         ("the loop module", LOOP),
-        ("the least module", OPENING),
         ("a module of one mebibyte", padded(MIB)),
         ("a nest of 200", nest(200)),
         ("10,000 functions", module([b"\x0b"] * 10_000)),
         ("65,536 locals", module([b"\x0b"], b"\1" + leb(65_536) + b"\x7f")),
-        ("256 pages", OPENING + section(5, b"\1\0" + leb(256))),
-        ("65,536 entries", OPENING + section(4, b"\1\x70\0" + leb(65_536))),
+        ("256 pages", module([b"\x0b"], before=section(5, b"\1\0" + leb(256)))),
+        ("65,536 entries", module([b"\x0b"], before=section(4, b"\1\x70\0" + leb(65_536)))),
+        ("data up to the end", with_data(leb(65_535), 1)),
+        ("no data at the end", with_data(leb(65_536), 0)),
+        ("elements up to the end", with_elements(b"\5", 5)),
     ]
-    for name, content in valid:
+    for name, content in accepted:
         files = {path: content, "other.wasm": b"other"}
-        check(name, ["check", path], files, 0, b"valid\n")
+        check(name, ["check", path], files, 0, b"accepted\n")
         with open(FULL, "wb") as sink:
             check(f"{name}, to a full standard output", ["check", path], files, 6, err=refused(6, "WriteFault"), stdout=sink)
     malformed = [
@@ -461,8 +486,36 @@ def check_modules():
         ("no value to drop", module([b"\x1a\x0b"])),
         ("an export of no function", OPENING + section(7, b"\1\1x\0\0")),
         ("an unknown label", module([b"\x0c\1\x0b"])),
+        ("an import and a value left", module([b"\x41\0\x0b"], imports=section(2, b"\1\1m\1f\0\0"))),
     ]
-    for refusal, list_ in (("FloatRefused", floats), ("Invalid", invalid)):
+    unknown = [
+        ("an import of a function", importing(b"\1m\1f\0\0")),
+        ("an import of a memory", importing(b"\1m\1f\2\0\1")),
+        ("an import of the host's module", importing(b"\7screeps\1f\0\0")),
+        ("an import and no loop", importing(b"\1m\1f\0\0", exports=b"")),
+    ]
+    no_loop = [
+        ("the least module", OPENING),
+        ("a function that is not exported", module([b"\x0b"], exports=b"")),
+        ("a function that is exported as Loop", module([b"\x0b"], exports=exported(b"Loop"))),
+        ("a loop with a parameter", module([b"\x0b"], types=b"\1\x60\1\x7f\0")),
+        ("a loop with a result", module([b"\x41\0\x0b"], types=b"\1\x60\0\1\x7f")),
+        ("a memory that is exported as loop", module([b"\x0b"], before=section(5, b"\1\0\1"), exports=section(7, b"\1\4loop\2\0"))),
+    ]
+    segments = [
+        ("data a byte past the end", with_data(leb(65_536), 1)),
+        ("no data past the end", with_data(leb(65_537), 0)),
+        ("data at the last number", with_data(b"\x7f", 1)),
+        ("elements past the end", with_elements(b"\5", 6)),
+    ]
+    refusals = {
+        "FloatRefused": floats,
+        "Invalid": invalid,
+        "UnknownImport": unknown,
+        "NoLoop": no_loop,
+        "Segment": segments,
+    }
+    for refusal, list_ in refusals.items():
         for name, content in list_:
             files = {path: content, "other.wasm": LOOP}
             line = f"refused {refusal}\n".encode()
@@ -470,7 +523,7 @@ def check_modules():
     fault = refused(5, "ReadFault")
     check("no module", ["check", path], {"other.wasm": LOOP}, 5, err=fault)
     check("a folder as the module", ["check", path], {path: None}, 5, err=fault)
-    check("a path that begins with -", ["check", "-m"], {"-m": LOOP}, 0, b"valid\n")
+    check("a path that begins with -", ["check", "-m"], {"-m": LOOP}, 0, b"accepted\n")
 
 
 # ---- the documents

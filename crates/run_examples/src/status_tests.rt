@@ -47,6 +47,22 @@ fn faults_are_printed(rt: HostRuntime) {
             Status::Refused(Refusal::Invalid),
             "fault 12 Refused Invalid\n",
         ),
+        (
+            Status::Refused(Refusal::UnknownImport),
+            "fault 12 Refused UnknownImport\n",
+        ),
+        (
+            Status::Refused(Refusal::ImportKind),
+            "fault 12 Refused ImportKind\n",
+        ),
+        (
+            Status::Refused(Refusal::NoLoop),
+            "fault 12 Refused NoLoop\n",
+        ),
+        (
+            Status::Refused(Refusal::Segment),
+            "fault 12 Refused Segment\n",
+        ),
     ] {
         let Ok(line) = status.fault_line(rt.alloc()) else {
             panic!(rt; "no memory");

@@ -16,6 +16,16 @@ const TYPE_OF_A_FLOAT: &[u8] = b"\x00asm\x01\x00\x00\x00\x01\x05\x01\x60\x01\x7d
 // A module that exports function 0, and has none.
 const EXPORT_OF_NOTHING: &[u8] = b"\x00asm\x01\x00\x00\x00\x07\x05\x01\x01x\x00\x00";
 
+// A module whose function `loop` loops for ever.
+const LOOP: &[u8] = b"\x00asm\x01\x00\x00\x00\x01\x04\x01\x60\x00\x00\x03\x02\x01\x00\x07\x08\x01\x04loop\x00\x00\x0a\x09\x01\x07\x00\x03\x40\x0c\x00\x0b\x0b";
+
+// The same with a memory of one page and one byte of data, its last and one behind it.
+const DATA_AT_THE_END: &[u8] = b"\x00asm\x01\x00\x00\x00\x01\x04\x01\x60\x00\x00\x03\x02\x01\x00\x05\x03\x01\x00\x01\x07\x08\x01\x04loop\x00\x00\x0a\x09\x01\x07\x00\x03\x40\x0c\x00\x0b\x0b\x0b\x09\x01\x00\x41\xff\xff\x03\x0b\x01x";
+const DATA_PAST_THE_END: &[u8] = b"\x00asm\x01\x00\x00\x00\x01\x04\x01\x60\x00\x00\x03\x02\x01\x00\x05\x03\x01\x00\x01\x07\x08\x01\x04loop\x00\x00\x0a\x09\x01\x07\x00\x03\x40\x0c\x00\x0b\x0b\x0b\x09\x01\x00\x41\x80\x80\x04\x0b\x01x";
+
+// A module that imports a function `f` of a module `m`, and has no other.
+const IMPORT_OF_F: &[u8] = b"\x00asm\x01\x00\x00\x00\x01\x04\x01\x60\x00\x00\x02\x07\x01\x01m\x01f\x00\x00";
+
 // How a check ended, and what it printed.
 #[derive(Drop)]
 struct Ended {
@@ -64,8 +74,9 @@ fn check(alloc: Global, module: Vec<u8>) -> Result<Ended, AllocError> {
 #[test]
 fn a_module_is_judged(rt: HostRuntime) -> Result<(), Fail> {
     let alloc = rt.alloc();
-    let cases: [(&[u8], Status, &[u8]); 3] = [
-        (OPENING, Status::Done, b"valid\n"),
+    let cases: [(&[u8], Status, &[u8]); 7] = [
+        (LOOP, Status::Done, b"accepted\n"),
+        (DATA_AT_THE_END, Status::Done, b"accepted\n"),
         (
             TYPE_OF_A_FLOAT,
             Status::Refused(Refusal::FloatRefused),
@@ -75,6 +86,21 @@ fn a_module_is_judged(rt: HostRuntime) -> Result<(), Fail> {
             EXPORT_OF_NOTHING,
             Status::Refused(Refusal::Invalid),
             b"refused Invalid\n",
+        ),
+        (
+            IMPORT_OF_F,
+            Status::Refused(Refusal::UnknownImport),
+            b"refused UnknownImport\n",
+        ),
+        (
+            OPENING,
+            Status::Refused(Refusal::NoLoop),
+            b"refused NoLoop\n",
+        ),
+        (
+            DATA_PAST_THE_END,
+            Status::Refused(Refusal::Segment),
+            b"refused Segment\n",
         ),
     ];
     for (module, status, line) in cases {

@@ -4,6 +4,9 @@ use Rattle.wasm_module.specs.Syntax.{Ops}
 use Rattle.wasm_module.specs.Sections.{Syntax, Spells}
 use Rattle.wasm_module.specs.Limits.{WithinBytes, IsWithin, IsTooLarge}
 use Rattle.wasm_module.specs.declared.module.Limit.{Limit}
+use Rattle.wasm_link.specs.Linking.{IsFault, IsLinkable}
+use Rattle.wasm_link.specs.declared.fault.LinkFault.{LinkFault}
+use Rattle.wasm_link.specs.declared.fault.LinkFault.TheVariants as fault
 use Rattle.wasm_validate.specs.Floats.{HasNoFloat}
 use Rattle.wasm_validate.specs.Modules.{IsValid}
 use Rattle.world_io.specs.Told.{GaveAll, Gave}
@@ -13,11 +16,19 @@ use Rattle.world_run.specs.declared.status.Status.TheVariants as statuses
 
 -- ---- the answer
 
--- The answer that a module calls for: a float stands in it, or none does and it is valid, or not.
+-- It has no float and is valid, and this is why it is not linked where a host offers no calls.
+abbrev pub IsUnlinked : Syntax Ops → LinkFault → Type 0
+IsUnlinked m why = HasNoFloat m × IsValid m × IsFault [] m why
+
+-- The answer that a module calls for: a float stands in it; or none does, and it is not valid; or it is, and links where a host offers no calls, or not.
 abbrev pub Judged : Syntax Ops → Status → Type 0
-Judged m statuses.Done = HasNoFloat m × IsValid m
+Judged m statuses.Done = HasNoFloat m × IsValid m × IsLinkable [] m
 Judged m (statuses.Refused refusals.FloatRefused) = HasNoFloat m → ⊥
 Judged m (statuses.Refused refusals.Invalid) = HasNoFloat m × (IsValid m → ⊥)
+Judged m (statuses.Refused refusals.UnknownImport) = (place : ℕ) × IsUnlinked m (fault.UnknownImport place)
+Judged m (statuses.Refused refusals.ImportKind) = (place : ℕ) × IsUnlinked m (fault.ImportKind place)
+Judged m (statuses.Refused refusals.NoLoop) = IsUnlinked m fault.NoLoop
+Judged m (statuses.Refused refusals.Segment) = (place : ℕ) × IsUnlinked m (fault.Segment place)
 Judged m status = ⊥
 
 -- These bytes spell this module, which is within the limits.
@@ -32,11 +43,15 @@ Checks bytes status = (m : Syntax Ops) × SpellsWithin bytes m × Judged m statu
 
 -- The line that is printed for an answer, and nothing for any other status.
 abbrev pub answer_line : Status → List ℕ
-answer_line statuses.Done = codes "valid\n"
+answer_line statuses.Done = codes "accepted\n"
 answer_line (statuses.Refused refusals.Malformed) = codes "refused Malformed\n"
 answer_line (statuses.Refused refusals.TooLarge) = codes "refused TooLarge\n"
 answer_line (statuses.Refused refusals.FloatRefused) = codes "refused FloatRefused\n"
 answer_line (statuses.Refused refusals.Invalid) = codes "refused Invalid\n"
+answer_line (statuses.Refused refusals.UnknownImport) = codes "refused UnknownImport\n"
+answer_line (statuses.Refused refusals.ImportKind) = codes "refused ImportKind\n"
+answer_line (statuses.Refused refusals.NoLoop) = codes "refused NoLoop\n"
+answer_line (statuses.Refused refusals.Segment) = codes "refused Segment\n"
 answer_line status = []
 
 -- The source was read to its end, and its bytes call for this answer; or it gave one byte more than 1 MiB, which is too large whatever comes behind.

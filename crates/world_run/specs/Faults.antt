@@ -91,6 +91,10 @@ refusal_name refusals.Malformed = codes "Malformed"
 refusal_name refusals.TooLarge = codes "TooLarge"
 refusal_name refusals.FloatRefused = codes "FloatRefused"
 refusal_name refusals.Invalid = codes "Invalid"
+refusal_name refusals.UnknownImport = codes "UnknownImport"
+refusal_name refusals.ImportKind = codes "ImportKind"
+refusal_name refusals.NoLoop = codes "NoLoop"
+refusal_name refusals.Segment = codes "Segment"
 
 abbrev pub status_number : Status → ℕ
 status_number statuses.Done = 0

@@ -18,6 +18,14 @@ pub enum Refusal {
     FloatRefused,
     /// The module has no typing.
     Invalid,
+    /// An import names no call of the host.
+    UnknownImport,
+    /// An import names a call of the host, and is no function, or one of another type.
+    ImportKind,
+    /// No function of no parameters and no result is exported as `loop`.
+    NoLoop,
+    /// A segment passes the end of the table or the memory.
+    Segment,
 }
 
 /// How a call of the program ends, with its exit status.
@@ -212,5 +220,9 @@ fn name_of_refusal(refusal: Refusal) -> &'static str
         Refusal::TooLarge => "TooLarge",
         Refusal::FloatRefused => "FloatRefused",
         Refusal::Invalid => "Invalid",
+        Refusal::UnknownImport => "UnknownImport",
+        Refusal::ImportKind => "ImportKind",
+        Refusal::NoLoop => "NoLoop",
+        Refusal::Segment => "Segment",
     }
 }

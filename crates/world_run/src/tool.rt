@@ -3,7 +3,10 @@ ghost use Rattle.std.specs.Prelude.{◌≡◌, ◌≢◌, ◌⊎◌, ℕ, ◌≤
 ghost use Rattle.std.specs.Io.KnownBytes.{Appends};
 ghost use Rattle.world_io.specs.Causes.{Rose};
 ghost use Rattle.world_io.specs.Told.{AppendsPrefix};
-ghost use Rattle.wasm_module.specs.Sections.{module_view};
+ghost use Rattle.wasm_module.specs.Limits.{WithinBytes, IsWithin};
+ghost use Rattle.wasm_module.specs.Sections.{Spells, module_view};
+ghost use Rattle.wasm_validate.specs.Floats.{HasNoFloat};
+ghost use Rattle.wasm_validate.specs.Modules.{IsValid};
 ghost use Rattle.world_run.specs.Checks.{Checks, Judged, answer_line, ReadsAnswer, IsAnswer, IsBeforeLine, IsOfCheck, IsOfReading};
 ghost use Rattle.world_run.specs.Runs.{IsPastWords};
 ghost use Rattle.world_run.specs.Stages.{IsOfWords};
@@ -13,8 +16,9 @@ ghost use Rattle.world_run.specs.declared.status.Status.{Status as StatusView};
 use crate::status::{Refusal, Status};
 use crate::words::{Command, WordsFault, read_words};
 use std::alloc::Global;
+use wasm_link::{LinkFault, link};
 use wasm_module::{DecodeFault, Module, decode};
-use wasm_validate::{ValidFault, validate};
+use wasm_validate::{Valid, ValidFault, validate};
 use world_io::{Disk, ReadStop, Sink, Source, read_all, write_all};
 
 /// The most bytes of a module, 1 MiB.
@@ -22,9 +26,9 @@ const MOST_BYTES: u64 = 1_048_576;
 
 /// Runs a command that only reads: so far `check MODULE`.
 ///
-/// The module is read to its end, or to one byte past 1 MiB. What is printed is one line: `valid`
-/// where the bytes spell a valid module without floats, within the limits, and else `refused` and
-/// why. The disk is left as it is.
+/// The module is read to its end, or to one byte past 1 MiB. What is printed is one line: `accepted`
+/// where the bytes spell a valid module without floats, within the limits, that links where a host
+/// offers no calls, and else `refused` and why. The disk is left as it is.
 pub fn tool_main<S: Source, O: Sink, D: Disk>(
     alloc: Global,
     words: &[String],
@@ -123,13 +127,33 @@ fn verdict(alloc: Global, bytes: &[u8]) -> Status
 
 // What a module calls for.
 fn judge(alloc: Global, found: Module) -> Status
+    requires spelled { (bytes : List ℕ) × WithinBytes bytes × Spells bytes (module_view found) }
+    requires within { IsWithin (module_view found) }
     ensures { (result ≡ Status.Memory) ⊎ Judged (module_view found) result }
 {
     match validate(alloc, found) {
-        Ok(_) => Status::Done,
+        Ok(valid) => judge_links(alloc, valid),
         Err(ValidFault::FloatRefused(_)) => Status::Refused(Refusal::FloatRefused),
         Err(ValidFault::Invalid(_)) => Status::Refused(Refusal::Invalid),
         Err(ValidFault::Memory(_)) => Status::Memory,
+    }
+}
+
+// What a valid module calls for: no host offers it a call.
+fn judge_links(alloc: Global, valid: Valid) -> Status
+    requires spelled { (bytes : List ℕ) × WithinBytes bytes × Spells bytes (module_view valid) }
+    requires within { IsWithin (module_view valid) }
+    requires no_float { HasNoFloat (module_view valid) }
+    requires valid { IsValid (module_view valid) }
+    ensures { (result ≡ Status.Memory) ⊎ Judged (module_view valid) result }
+{
+    match link(alloc, valid, &[]) {
+        Ok(_) => Status::Done,
+        Err(LinkFault::UnknownImport(_)) => Status::Refused(Refusal::UnknownImport),
+        Err(LinkFault::ImportKind(_)) => Status::Refused(Refusal::ImportKind),
+        Err(LinkFault::NoLoop) => Status::Refused(Refusal::NoLoop),
+        Err(LinkFault::Segment(_)) => Status::Refused(Refusal::Segment),
+        Err(LinkFault::Memory) => Status::Memory,
     }
 }
 
@@ -154,11 +178,15 @@ fn line_of(answer: Status) -> &'static str
     ensures { result.now ≡ answer_line answer }
 {
     match answer {
-        Status::Done => "valid\n",
+        Status::Done => "accepted\n",
         Status::Refused(Refusal::Malformed) => "refused Malformed\n",
         Status::Refused(Refusal::TooLarge) => "refused TooLarge\n",
         Status::Refused(Refusal::FloatRefused) => "refused FloatRefused\n",
         Status::Refused(Refusal::Invalid) => "refused Invalid\n",
+        Status::Refused(Refusal::UnknownImport) => "refused UnknownImport\n",
+        Status::Refused(Refusal::ImportKind) => "refused ImportKind\n",
+        Status::Refused(Refusal::NoLoop) => "refused NoLoop\n",
+        Status::Refused(Refusal::Segment) => "refused Segment\n",
         _ => "",
     }
 }

@@ -139,7 +139,10 @@ fn each_path_is_the_one_of_its_word(rt: HostRuntime) -> Result<(), Fail> {
             ],
             Status::DiskFault,
         ),
-        (&["check", "words_module"], Status::Done),
+        (
+            &["check", "words_module"],
+            Status::Refused(Refusal::NoLoop),
+        ),
         (
             &["check", "words_text"],
             Status::Refused(Refusal::Malformed),
