@@ -139,10 +139,7 @@ fn each_path_is_the_one_of_its_word(rt: HostRuntime) -> Result<(), Fail> {
             ],
             Status::DiskFault,
         ),
-        (
-            &["check", "words_module"],
-            Status::Refused(Refusal::NoLoop),
-        ),
+        (&["check", "words_module"], Status::Refused(Refusal::NoLoop)),
         (
             &["check", "words_text"],
             Status::Refused(Refusal::Malformed),

@@ -1,0 +1,15 @@
+// The machine that runs WebAssembly modules for a budget of instructions.
+#![tactic(auto)]
+
+mod calls;
+mod control;
+mod execute;
+mod host_calls;
+mod instance;
+mod outcomes;
+mod run;
+
+pub use instance::Instance;
+pub use std::alloc::AllocError as NoMemory;
+pub use wasm_link::{LinkFault, Linked, link};
+pub use wasm_steps::{Host, Outcome, Trap};
