@@ -53,7 +53,7 @@ fn enter_function<'a>(
 }
 
 /// Calls a function of the module or of the host, whose end leads to `here`.
-#[inline]
+#[inline(always)]
 pub(crate) fn call_function<'a, H: Host>(
     linked: &'a Linked,
     stack: &mut Stack<'a>,
