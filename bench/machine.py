@@ -5,7 +5,8 @@ Run it in the repository's top folder once the program machine_bench is built (d
 installed. The first table has ordinary modules, and beside each what `wasm-interp` of wabt takes for all of it, where that is installed.
 The second has the modules that a player would write to hurt, with a fuel of 5,000,000, and how many times the plain loop they take. What a
 run pays at its start, which is decoding, validating, linking and a new instance, is taken off, and stands in a column of its own; of
-`wasm-interp` the time of an empty module is taken off.
+`wasm-interp` the time of an empty module is taken off. Where `rustc` is installed, the plain loop is also run by `tree_loop.rs`, which is
+the loop of the machine in Rust.
 
 The times depend on the machine and on what else it does: compare figures of one run alone. An argument says how many rounds; else 5.
 """
@@ -157,6 +158,15 @@ class Runs:
         return whole
 
 
+def in_rust(folder):
+    """Nanoseconds for an instruction of the plain loop in Rust."""
+    source = pathlib.Path(__file__).resolve().parent / "tree_loop.rs"
+    program = pathlib.Path(folder) / "tree_loop"
+    subprocess.run(["rustc", "--edition", "2021", "-O", source, "-o", program], check=True)
+    _, said = seconds([program])
+    return float(said.split()[1])
+
+
 def ordinary(runs):
     has_interpreter = shutil.which("wasm-interp")
     empty = runs.interpreter(runs.module(EMPTY)) if has_interpreter else 0
@@ -169,6 +179,9 @@ def ordinary(runs):
             other = (runs.interpreter(path) - empty) * 1e9 / used
             row += f"{other:13.2f}{other / each:7.2f}"
         print(row)
+        if name == "plain" and shutil.which("rustc"):
+            rust = in_rust(runs.folder)
+            print(f"{'  the same in Rust':46}{'':>4}{rust:9.2f}{'of it':>13}{each / rust:7.2f}")
 
 
 def hostile(runs):
