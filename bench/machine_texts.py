@@ -75,23 +75,22 @@ class Reader:
         self.at += count
         return self.data[self.at - count : self.at]
 
-    def unsigned(self):
-        value = shift = 0
+    def groups(self):
+        """The number that groups of seven bits spell, how many bits they have, and the last byte."""
+        value = bits = 0
         while True:
             byte = self.byte()
-            value |= (byte & 0x7F) << shift
-            shift += 7
+            value |= (byte & 0x7F) << bits
+            bits += 7
             if byte < 0x80:
-                return value
+                return value, bits, byte
+
+    def unsigned(self):
+        return self.groups()[0]
 
     def signed(self, bits):
-        value = shift = 0
-        while True:
-            byte = self.byte()
-            value |= (byte & 0x7F) << shift
-            shift += 7
-            if byte < 0x80:
-                return signed(value | (-(1 << shift) if byte & 0x40 else 0), bits)
+        value, read, last = self.groups()
+        return signed(value | (-(1 << read) if last & 0x40 else 0), bits)
 
     def name(self):
         return self.take(self.unsigned()).decode()
