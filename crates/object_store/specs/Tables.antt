@@ -1,6 +1,8 @@
 -- The objects of a room as they are stored.
-use Rattle.std.specs.Prelude.{ℕ, ◌<◌, ◌==◌, List, [], ◌∷◌, Option}
-use Rattle.std.specs.List.{AllByRecursion, find}
+use Rattle.std.specs.Prelude.{◌≡◌, ◌≢◌, ℕ, ◌<◌, ◌≤◌, ◌==◌, ◌&&◌, nat_lt, Bool, if◌then◌else◌, List, [], ◌∷◌, ◌++◌, map, Option, Some, None, not}
+use Rattle.std.specs.List.{AllByRecursion, find, filter}
+use Rattle.game_tables.specs.Numbers.{kind_number}
+use Rattle.game_tables.specs.declared.kind.Kind.{Kind}
 use Rattle.object_store.specs.declared.object.Object.{Object}
 
 -- The objects stand in rising id, each id once.
@@ -8,12 +10,42 @@ abbrev pub IsRising : List Object → Type 0
 IsRising [] = Unit {0}
 IsRising (o ∷ os) = AllByRecursion (λ later. o.id < later.id) os × IsRising os
 
--- the objects of a room in rising id, the room's index, and the serial of its next new object
+-- the objects of a room in rising id, the room's index, the serial of its next new object, and how many more objects it takes without memory
 pub record Table : Type 0 where
   pub index : ℕ
   pub next : ℕ
   pub objects : List Object
+  pub spare : ℕ
 
 -- the object of an id
 abbrev pub find_object : ℕ → List Object → Option Object
 find_object id = find (λ o. o.id == id)
+
+-- An object of this id stands there.
+abbrev pub HasId : ℕ → List Object → Type 0
+HasId id objects = (object : Object) × (find_object id objects ≡ Some object)
+
+-- No object of this id stands there.
+abbrev pub HasNoId : ℕ → List Object → Type 0
+HasNoId id objects = find_object id objects ≡ None
+
+-- The object's tile is in the room.
+pub record IsOnTile (object : Object) : Type 0 where
+  pub column : object.x ≤ 49
+  pub row : object.y ≤ 49
+
+-- the objects with this one in the place of the one of its id
+abbrev pub with_object : Object → List Object → List Object
+with_object object objects = map (λ o. if o.id == object.id then object else o) objects
+
+-- the objects with this one between those of lesser and those of greater ids
+abbrev pub with_new : Object → List Object → List Object
+with_new object objects = filter (λ o. nat_lt o.id object.id) objects ++ object ∷ filter (λ o. nat_lt object.id o.id) objects
+
+-- the objects but that of this id
+abbrev pub without : ℕ → List Object → List Object
+without id objects = filter (λ o. not (o.id == id)) objects
+
+-- the first object of this kind on this tile, which has the least id there
+abbrev pub first_on : ℕ → ℕ → Kind → List Object → Option Object
+first_on x y kind objects = find (λ o. (o.x == x) && (o.y == y) && (kind_number o.kind == kind_number kind)) objects

@@ -15,28 +15,30 @@ pub struct RoomTable {
     index: u32,
     next: u32,
     objects: Vec<Object>,
+    spare: u32,
 }
 
 impl Model for RoomTable {
-    ghost use Rattle.std.specs.Prelude.{◌<◌, ◌^◌, length};
+    ghost use Rattle.std.specs.Prelude.{◌<◌, ◌≤◌, ◌+◌, ◌^◌, length, vec_capacity};
     ghost use Rattle.object_store.specs.Tables.{Table, IsRising};
 
     ghost Value = { Table };
 
-    ghost view = { λ t. record { index = t.index; next = t.next; objects = t.objects.items } };
+    ghost view = { λ t. record { index = t.index; next = t.next; objects = t.objects.items; spare = t.spare } };
 
-    ghost invariant = { λ t. IsRising t.objects.items × (length t.objects.items < 2 ^ 32) };
+    ghost invariant = { λ t. IsRising t.objects.items × (length t.objects.items + t.spare < 2 ^ 32) × (length t.objects.items + t.spare ≤ vec_capacity t.objects) };
 }
 
 impl RoomTable {
     /// An empty table.
     pub fn new(alloc: Global, index: u32, next: u32) -> RoomTable
-        ensures { result ≡ record { index = index; next = next; objects = [] } }
+        ensures { result ≡ record { index = index; next = next; objects = []; spare = 0 } }
     {
         RoomTable {
             index,
             next,
             objects: Vec::new(alloc),
+            spare: 0,
         }
     }
 
@@ -44,12 +46,13 @@ impl RoomTable {
     pub fn of(index: u32, next: u32, objects: Vec<Object>) -> RoomTable
         requires rising { IsRising objects.items }
         requires within { length objects.items < 2 ^ 32 }
-        ensures { result ≡ record { index = index; next = next; objects = objects.items } }
+        ensures { result ≡ record { index = index; next = next; objects = objects.items; spare = 0 } }
     {
         RoomTable {
             index,
             next,
             objects,
+            spare: 0,
         }
     }
 
