@@ -1,7 +1,7 @@
 -- What is true of an object by its kind.
 use Rattle.std.specs.Prelude.{ℕ, ◌+◌, ◌*◌, ◌/◌, ◌==◌, Bool, true, false, if◌then◌else◌, Option, Some, None, List, [], length}
 use Rattle.game_tables.specs.declared.kind.Kind.{Kind}
-use Rattle.game_tables.specs.declared.kind.Kind.TheVariants.{Source, Controller, Creep, Spawn, Extension, Storage, Container, Road, Site}
+use Rattle.game_tables.specs.declared.kind.Kind.TheVariants.{Source, Controller, Creep, Spawn, Extension, Storage, Container, Road, Site, Tower, Rampart, Wall, Tombstone}
 use Rattle.game_tables.specs.declared.kind.Part.{Part}
 
 -- it is built from a site
@@ -30,6 +30,14 @@ owned Extension = true
 owned Storage = true
 owned Site = true
 owned _ = false
+
+-- objects of it stand in a world of these rules: the last four kinds come with the second rules, which are not in force yet
+abbrev pub in_rules : Kind → ℕ → Bool
+in_rules Tower rules = false
+in_rules Rampart rules = false
+in_rules Wall rules = false
+in_rules Tombstone rules = false
+in_rules kind rules = true
 
 -- a site may be of it, under these rules
 abbrev pub site_kind : Kind → ℕ → Bool

@@ -13,3 +13,7 @@ players_bound = 64
 -- sites of one player
 abbrev pub sites_bound : ℕ
 sites_bound = 100
+
+-- bytes of the memory text of one player
+abbrev pub memory_bound : ℕ
+memory_bound = 65536

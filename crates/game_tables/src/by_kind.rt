@@ -1,6 +1,6 @@
 // What is true of an object by its kind.
 ghost use Rattle.std.specs.Prelude.{◌≡◌};
-ghost use Rattle.game_tables.specs.Kinds.{building, building_room, decay_timer, hits_when_built, in_owned_room, most_hits, obstructing, owned, pile_loss, renewal_timer, site_kind, source_room, work_to_build};
+ghost use Rattle.game_tables.specs.Kinds.{building, building_room, decay_timer, hits_when_built, in_owned_room, in_rules, most_hits, obstructing, owned, pile_loss, renewal_timer, site_kind, source_room, work_to_build};
 
 use crate::body::Body;
 use crate::kind::Kind;
@@ -32,6 +32,18 @@ pub fn is_owned(kind: Kind) -> bool
     matches!(
         kind,
         Kind::Creep | Kind::Spawn | Kind::Extension | Kind::Storage | Kind::Site
+    )
+}
+
+/// Whether objects of the kind stand in a world. `rules` is the number of the rules, and does not
+/// matter yet: the last four kinds come with the second rules.
+pub fn is_in_rules(kind: Kind, rules: u8) -> bool
+    ensures { result ≡ in_rules kind rules }
+{
+    let _ = rules;
+    !matches!(
+        kind,
+        Kind::Tower | Kind::Rampart | Kind::Wall | Kind::Tombstone
     )
 }
 
@@ -152,6 +164,8 @@ mod tests {
         assert!(rt; !is_building(Kind::Tower));
         assert!(rt; !obstructs(Kind::Container));
         assert!(rt; is_owned(Kind::Site));
+        assert!(rt; is_in_rules(Kind::Site, 1));
+        assert!(rt; !is_in_rules(Kind::Tower, 1));
         assert!(rt; is_site_kind(Kind::Spawn, 1));
         assert!(rt; !needs_owned_room(Kind::Container));
         let mut body = Body::new();

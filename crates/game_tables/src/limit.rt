@@ -1,6 +1,6 @@
 // How much there may be in a world.
 ghost use Rattle.std.specs.Prelude.{◌≡◌};
-ghost use Rattle.game_tables.specs.Limits.{objects_bound, players_bound, rooms_bound, sites_bound};
+ghost use Rattle.game_tables.specs.Limits.{memory_bound, objects_bound, players_bound, rooms_bound, sites_bound};
 
 /// The most rooms.
 pub fn most_rooms() -> u32
@@ -28,4 +28,11 @@ pub fn most_sites() -> u32
     ensures { result ≡ sites_bound }
 {
     100
+}
+
+/// The most bytes of a player's memory text.
+pub fn most_memory() -> u32
+    ensures { result ≡ memory_bound }
+{
+    65_536
 }
