@@ -21,4 +21,7 @@ pub use code::Code;
 pub use field::{most_energy, most_extra, most_other_ticks, most_timer};
 pub use kind::{Kind, Part};
 pub use level::{LAST_LEVEL, allowed, downgrade_number, total_for_next};
-pub use limit::{most_memory, most_objects, most_players, most_rooms, most_sites};
+pub use limit::{
+    most_bucket, most_limit, most_memory, most_objects, most_players, most_points, most_rooms,
+    most_sites, unit_instructions,
+};

@@ -1,10 +1,14 @@
 -- The rules of a world, and where each is broken.
-use Rattle.std.specs.Prelude.{◌≡◌, ◌≢◌, ℕ, ◌/◌, ◌%◌, ◌^◌, ◌<◌, ◌≤◌, ◌==◌, ◌⊎◌, ◌&&◌, List, [], length, true, false, Some, slice_get}
+use Rattle.std.specs.Prelude.{◌≡◌, ◌≢◌, ℕ, ◌/◌, ◌%◌, ◌^◌, ◌<◌, ◌≤◌, ◌==◌, ◌⊎◌, ◌&&◌, List, [], length, true, false, Option, Some, None, slice_get}
 use Rattle.std.specs.List.{count_by}
 use Rattle.std.specs.FinMap.{get}
 use Rattle.game_tables.specs.declared.kind.Kind.{Kind}
-use Rattle.game_tables.specs.declared.kind.Kind.TheVariants.{Source, Pile}
-use Rattle.game_tables.specs.Fields.{energy_bound, timer_bound}
+use Rattle.game_tables.specs.declared.kind.Kind.TheVariants.{Source, Controller, Creep, Spawn, Extension, Storage, Container, Road, Pile, Site}
+use Rattle.game_tables.specs.Bodies.{parts_bound}
+use Rattle.game_tables.specs.Fields.{energy_bound, timer_bound, extra_bound, other_ticks_bound}
+use Rattle.game_tables.specs.Kinds.{most_hits, site_kind, work_to_build}
+use Rattle.game_tables.specs.Levels.{downgrade_at, total_at}
+use Rattle.game_tables.specs.Numbers.{kind_number}
 use Rattle.game_tables.specs.Limits.{rooms_bound, objects_bound, players_bound, sites_bound}
 use Rattle.room_terrain.specs.declared.terrain.Ground.{Ground}
 use Rattle.room_terrain.specs.declared.terrain.Ground.TheVariants.{Wall}
@@ -68,7 +72,22 @@ HasWrongOwner world object =
     ((object.owner ≢ 0) × (¬ IsPlayer world object.owner ⊎ (may_have_owner object.kind ≡ false)))
     ⊎ ((object.other ≢ 0) × (¬ IsPlayer world object.other ⊎ (is_controller object.kind ≡ false)))
 
--- A source has an energy and a timer alone, a pile an energy alone; a field that is not used is 0, and a body empty.
+-- ---- the fields of each kind, with their ranges between ticks: one that a kind doesn't use is 0, and a body empty
+
+-- From 1 to the most.
+abbrev pub IsFrom1To : ℕ → ℕ → Type 0
+IsFrom1To most n = (1 ≤ n) × (n ≤ most)
+
+-- Below the total, and 0 where there is none.
+abbrev pub IsProgress : Option ℕ → ℕ → Type 0
+IsProgress None progress = progress ≡ 0
+IsProgress (Some total) progress = progress < total
+
+-- A controller's timer: from 1 to the level's number, and 0 at the level that has none.
+abbrev pub IsDowngradeTimer : Option ℕ → ℕ → Type 0
+IsDowngradeTimer None timer = timer ≡ 0
+IsDowngradeTimer (Some full) timer = IsFrom1To full timer
+
 pub record IsSource (object : Object) : Type 0 where
   pub owner : object.owner ≡ 0
   pub hits : object.hits ≡ 0
@@ -80,11 +99,52 @@ pub record IsSource (object : Object) : Type 0 where
   pub other_ticks : object.other_ticks ≡ 0
   pub body : object.body ≡ []
 
-pub record IsPile (object : Object) : Type 0 where
-  pub owner : object.owner ≡ 0
+-- Its level is 0 exactly where nobody owns it, and only then it may be reserved.
+pub record IsController (object : Object) : Type 0 where
+  pub unowned : object.owner ≡ 0 → object.extra ≡ 0
+  pub owned : object.owner ≢ 0 → 1 ≤ object.extra
   pub hits : object.hits ≡ 0
-  pub some : 1 ≤ object.energy
-  pub energy : object.energy ≤ energy_bound Pile object.hits object.body
+  pub energy : object.energy ≡ 0
+  pub timer : IsDowngradeTimer (downgrade_at object.extra) object.timer
+  pub extra : object.extra ≤ extra_bound Controller
+  pub progress : IsProgress (total_at object.extra) object.progress
+  pub other : object.other ≢ 0 → object.extra ≡ 0
+  pub unreserved : object.other ≡ 0 → object.other_ticks ≡ 0
+  pub reserved : object.other ≢ 0 → IsFrom1To (other_ticks_bound Controller) object.other_ticks
+  pub body : object.body ≡ []
+
+-- Its load is at most what its live parts carry.
+pub record IsCreep (object : Object) : Type 0 where
+  pub owner : 1 ≤ object.owner
+  pub hits : IsFrom1To (most_hits Creep object.body) object.hits
+  pub energy : object.energy ≤ energy_bound Creep object.hits object.body
+  pub timer : IsFrom1To (timer_bound Creep object.extra object.body) object.timer
+  pub extra : object.extra ≤ extra_bound Creep
+  pub progress : object.progress ≡ 0
+  pub other : object.other ≡ 0
+  pub other_ticks : object.other_ticks ≡ 0
+  pub some_parts : 1 ≤ length object.body
+  pub parts : length object.body ≤ parts_bound
+
+-- It makes a creep of the body exactly while the timer runs.
+pub record IsSpawn (object : Object) : Type 0 where
+  pub owner : 1 ≤ object.owner
+  pub hits : IsFrom1To (most_hits Spawn object.body) object.hits
+  pub energy : object.energy ≤ energy_bound Spawn object.hits object.body
+  pub timer : object.timer ≤ timer_bound Spawn object.extra object.body
+  pub idle : object.timer ≡ 0 → object.body ≡ []
+  pub busy : object.timer ≢ 0 → 1 ≤ length object.body
+  pub extra : object.extra ≡ 0
+  pub progress : object.progress ≡ 0
+  pub other : object.other ≡ 0
+  pub other_ticks : object.other_ticks ≡ 0
+  pub parts : length object.body ≤ parts_bound
+
+-- An extension or a storage.
+pub record IsStore (kind : Kind) (object : Object) : Type 0 where
+  pub owner : 1 ≤ object.owner
+  pub hits : IsFrom1To (most_hits kind object.body) object.hits
+  pub energy : object.energy ≤ energy_bound kind object.hits object.body
   pub timer : object.timer ≡ 0
   pub extra : object.extra ≡ 0
   pub progress : object.progress ≡ 0
@@ -92,11 +152,55 @@ pub record IsPile (object : Object) : Type 0 where
   pub other_ticks : object.other_ticks ≡ 0
   pub body : object.body ≡ []
 
--- The fields are in the kind's ranges. The kinds that are not built yet have none.
+-- A container or a road, which nobody owns and which decays. A road holds no energy.
+pub record IsDecaying (kind : Kind) (object : Object) : Type 0 where
+  pub owner : object.owner ≡ 0
+  pub hits : IsFrom1To (most_hits kind object.body) object.hits
+  pub energy : object.energy ≤ energy_bound kind object.hits object.body
+  pub timer : IsFrom1To (timer_bound kind object.extra object.body) object.timer
+  pub extra : object.extra ≡ 0
+  pub progress : object.progress ≡ 0
+  pub other : object.other ≡ 0
+  pub other_ticks : object.other_ticks ≡ 0
+  pub body : object.body ≡ []
+
+pub record IsPile (object : Object) : Type 0 where
+  pub owner : object.owner ≡ 0
+  pub hits : object.hits ≡ 0
+  pub energy : IsFrom1To (energy_bound Pile object.hits object.body) object.energy
+  pub timer : object.timer ≡ 0
+  pub extra : object.extra ≡ 0
+  pub progress : object.progress ≡ 0
+  pub other : object.other ≡ 0
+  pub other_ticks : object.other_ticks ≡ 0
+  pub body : object.body ≡ []
+
+-- It tells the number of the kind that is built, and how far.
+pub record IsSite (object : Object) : Type 0 where
+  pub owner : 1 ≤ object.owner
+  pub hits : object.hits ≡ 0
+  pub energy : object.energy ≡ 0
+  pub timer : object.timer ≡ 0
+  pub built : (kind : Kind) × (site_kind kind 1 ≡ true) × (object.extra ≡ kind_number kind) × IsProgress (work_to_build kind) object.progress
+  pub other : object.other ≡ 0
+  pub other_ticks : object.other_ticks ≡ 0
+  pub body : object.body ≡ []
+
+-- The fields are in the kind's ranges. The kinds of the second rules have none.
 abbrev pub IsInRangeAs : Kind → Object → Type 0
 IsInRangeAs Source object = IsSource object
+IsInRangeAs Controller object = IsController object
+IsInRangeAs Creep object = IsCreep object
+IsInRangeAs Spawn object = IsSpawn object
+IsInRangeAs Extension object = IsStore Extension object
+IsInRangeAs Storage object = IsStore Storage object
+IsInRangeAs Container object = IsDecaying Container object
+IsInRangeAs Road object = IsDecaying Road object
 IsInRangeAs Pile object = IsPile object
+IsInRangeAs Site object = IsSite object
 IsInRangeAs _ object = ⊥
+
+-- ---- the rules
 
 -- Where a rule is broken: the number is a room's index for rooms and controllers, an id for objects, a player for players, and 0 for counts.
 abbrev pub Broken : Rule → ℕ → Listing → Type 0
@@ -113,6 +217,27 @@ Broken rules.Controllers n listing = (one : ℕ) × (other : ℕ) × (first : Pl
 Broken rules.Range n listing = (object : Placed) × Stands (world_listed listing) n object × ¬ IsInRangeAs object.object.kind object.object
 Broken rules.PlayerTwice n listing = 2 ≤ count_by (λ account. account.player == n) listing.accounts
 Broken rules.Sites n listing = IsPlayer (world_listed listing) n × (sites_bound < count_by (λ entry. is_site entry.1.object.kind && (entry.1.object.owner == n)) (placed listing))
+
+-- the place of a rule in the order of the tests
+abbrev pub rule_place : Rule → ℕ
+rule_place rules.Counts = 1
+rule_place rules.RoomTwice = 2
+rule_place rules.Corner = 3
+rule_place rules.Serial = 4
+rule_place rules.IdTwice = 5
+rule_place rules.Tile = 6
+rule_place rules.Shared = 7
+rule_place rules.Owner = 8
+rule_place rules.Controllers = 9
+rule_place rules.Range = 10
+rule_place rules.PlayerTwice = 11
+rule_place rules.Sites = 12
+
+-- No earlier rule is broken anywhere, and this one at no lesser number.
+pub record IsFirstBroken (rule : Rule) (n : ℕ) (listing : Listing) : Type 0 where
+  pub broken : Broken rule n listing
+  pub earlier : (other : Rule) (m : ℕ) → rule_place other < rule_place rule → Broken other m listing → ⊥
+  pub least : (m : ℕ) → m < n → Broken rule m listing → ⊥
 
 -- No rule is broken anywhere.
 abbrev pub KeepsRules : Listing → Type 0

@@ -1,5 +1,5 @@
 -- A world between ticks.
-use Rattle.std.specs.Prelude.{◌≡◌, ◌≢◌, ℕ, Some, slice_get}
+use Rattle.std.specs.Prelude.{◌≡◌, ◌≢◌, ℕ, List, map, Some, slice_get}
 use Rattle.object_store.specs.declared.world.Room.{Room}
 use Rattle.object_store.specs.Stored.{Stored, HaveRisingTables, AreRising}
 use Rattle.world_rules.specs.declared.rule.Rule.{Rule}
@@ -13,3 +13,10 @@ pub record IsSound (stored : Stored) : Type 0 where
   pub tables : HaveRisingTables stored.rooms
   pub accounts : AreRising stored.accounts
   pub rules : (rule : Rule) (n : ℕ) → rule ≢ Counts → rule ≢ Sites → Broken rule n (listing_of stored) → ⊥
+
+-- what is stored, but for the room that tables keep for new objects
+abbrev pub without_spare : Room → Room
+without_spare room = record room { table = record room.table { spare = 0 } }
+
+abbrev pub bare : Stored → Stored
+bare stored = record stored { rooms = map without_spare stored.rooms }
