@@ -1,4 +1,7 @@
 pub mod Keys
+pub mod Digits
+pub mod Facts
+pub mod FirstFaults
 pub mod Reading
 pub mod Form
 pub mod Files

@@ -1,7 +1,7 @@
 -- The keys of a world file.
 use Rattle.std.specs.Prelude.{ℕ, List, codes}
-use Rattle.world_text.specs.declared.field.Field.{Field}
-use Rattle.world_text.specs.declared.field.Field.TheVariants as fields
+use Rattle.world_form.specs.declared.field.Field.{Field}
+use Rattle.world_form.specs.declared.field.Field.TheVariants as fields
 
 abbrev pub key : Field → List ℕ
 key fields.Version = codes "version"

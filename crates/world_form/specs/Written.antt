@@ -1,18 +1,21 @@
 -- The text that is written for a world.
-use Rattle.std.specs.Prelude.{◌≡◌, ℕ, ◌+◌, ◌/◌, ◌%◌, ◌^◌, ◌<◌, ◌≤◌, List, [], ◌∷◌, map, codes, nat_lt, if◌then◌else◌}
-use Rattle.std.specs.List.{AllByRecursion, flat_map}
+use Rattle.std.specs.Prelude.{◌≡◌, ℕ, ◌^◌, ◌<◌, ◌≤◌, List, [], ◌∷◌, length, map, codes}
+use Rattle.std.specs.List.{AllByRecursion}
 use Rattle.serde_json.specs.Data.{Data, number, unsigned, string, array, object, no_members, member}
 use Rattle.serde_json.specs.View.{items_of}
 use Rattle.serde_json.specs.Written.{compact_text}
 use Rattle.game_tables.specs.Texts.{kind_text, part_text}
-use Rattle.room_terrain.specs.declared.terrain.Ground.{Ground}
-use Rattle.room_terrain.specs.declared.terrain.Ground.TheVariants.{Plain, Wall, Swamp}
 use Rattle.room_terrain.specs.Names.{name_text, IsInRange}
 use Rattle.object_store.specs.declared.object.Object.{Object}
 use Rattle.object_store.specs.declared.account.Account.{Account}
 use Rattle.object_store.specs.declared.world.Room.{Room}
 use Rattle.object_store.specs.Stored.{Stored}
-use Rattle.world_rules.specs.World.{listing_of}
+use Rattle.object_store.specs.Tables.{IsOnTile}
+use Rattle.game_tables.specs.Limits.{limit_bound, bucket_bound, points_bound, memory_bound}
+use Rattle.world_rules.specs.Sound.{IsSound}
+use Rattle.world_rules.specs.World.{listed_room, listing_of}
+use Rattle.world_form.specs.Digits.{ground_digit, hex}
+use Rattle.world_form.specs.Facts.{Filed}
 use Rattle.world_rules.specs.Rules.{KeepsRules}
 
 abbrev pub whole_data : ℕ → Data
@@ -38,12 +41,6 @@ object_data o = object (
     member (codes "x") (whole_data o.x) (
     member (codes "y") (whole_data o.y) no_members)))))))))))))
 
--- 0 is plain, 1 is wall, 2 is swamp
-abbrev pub ground_digit : Ground → ℕ
-ground_digit Plain = 48
-ground_digit Wall = 49
-ground_digit Swamp = 50
-
 -- a room with its objects in rising id
 unfoldable pub room_data : Room → Data
 room_data room = object (
@@ -51,14 +48,6 @@ room_data room = object (
     member (codes "next") (whole_data room.table.next) (
     member (codes "objects") (list_data object_data room.table.objects) (
     member (codes "terrain") (string (map ground_digit room.terrain)) no_members))))
-
--- a digit of lower case hexadecimal
-abbrev pub hex_digit : ℕ → ℕ
-hex_digit n = if nat_lt n 10 then 48 + n else 87 + n
-
--- bytes in lower case hexadecimal, two digits each
-abbrev pub hex : List ℕ → List ℕ
-hex bytes = flat_map (λ byte. hex_digit (byte / 16) ∷ hex_digit (byte % 16) ∷ []) bytes
 
 -- an account, without the token, which no world has
 unfoldable pub account_data : Account → Data
@@ -81,20 +70,41 @@ world_data world = object (
 abbrev pub written : Stored → List ℕ
 written world = compact_text (world_data world)
 
--- The object's tile is in the room.
-pub record IsOnTile (o : Object) : Type 0 where
-  pub column : o.x ≤ 49
-  pub row : o.y ≤ 49
+-- ---- the worlds whose text is read back
 
+-- The name, the serial and the tiles are in a file's ranges.
 pub record IsWritableRoom (room : Room) : Type 0 where
   pub name : IsInRange room.name
   pub next : 1 ≤ room.table.next
   pub below : room.table.next < 2 ^ 32
   pub objects : AllByRecursion IsOnTile room.table.objects
 
--- A world whose text is read back: it keeps the rules, and its numbers are in a file's ranges. Players can't be read yet.
+-- The account's numbers and its memory text are in a file's ranges.
+pub record IsWritableAccount (account : Account) : Type 0 where
+  pub player : 1 ≤ account.player
+  pub below : account.player < 2 ^ 32
+  pub limit : account.limit ≤ limit_bound
+  pub bucket : account.bucket ≤ bucket_bound
+  pub points : account.points ≤ points_bound
+  pub memory : length account.memory ≤ memory_bound
+
+-- It keeps all rules, each table's index is its room's place, and its numbers are in a file's ranges.
 pub record IsWritable (world : Stored) : Type 0 where
   pub tick : world.tick ≤ 2 ^ 53
   pub rooms : AllByRecursion IsWritableRoom world.rooms
+  pub accounts : AllByRecursion IsWritableAccount world.accounts
+  pub sound : IsSound world
   pub rules : KeepsRules (listing_of world)
-  pub accounts : world.accounts ≡ []
+
+-- What the types hold of every stored world: each room has 2,500 grounds, and memory texts are bytes.
+pub record IsOfTypes (world : Stored) : Type 0 where
+  pub grounds : AllByRecursion (λ room. length room.terrain ≡ 2500) world.rooms
+  pub bytes : AllByRecursion (λ account. AllByRecursion (λ byte. byte < 2 ^ 8) account.memory) world.accounts
+
+-- what its text says: the world, and players without tokens
+abbrev pub filed_of : Stored → Filed
+filed_of world = record {
+  tick = world.tick;
+  rooms = map listed_room world.rooms;
+  players = map (λ account. record { account = account; token = [] }) world.accounts;
+}

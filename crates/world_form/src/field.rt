@@ -1,6 +1,6 @@
 // The keys of a world file.
 ghost use Rattle.std.specs.Prelude.{◌≡◌};
-ghost use Rattle.world_text.specs.Keys.{key};
+ghost use Rattle.world_form.specs.Keys.{key};
 
 /// A key of a world file.
 #[derive(Clone, Copy, Debug, PartialEq, Eq)]

@@ -1,6 +1,6 @@
 // Why a world file is refused.
 ghost use Rattle.std.specs.Prelude.{◌≡◌};
-ghost use Rattle.world_text.specs.declared.fault.WorldFault.TheVariants.{Memory};
+ghost use Rattle.world_form.specs.declared.fault.WorldFault.TheVariants.{Memory};
 
 use crate::field::Field;
 use game_tables::Kind;
