@@ -5,5 +5,5 @@ mod tick;
 mod upkeep;
 
 pub use std::alloc::AllocError as NoMemory;
-pub use tick::tick_plain;
+pub use tick::{tick_plain, tick_rested};
 pub use upkeep::tick_table;

@@ -1,7 +1,7 @@
 // One tick of the whole world.
 ghost use Rattle.std.specs.Prelude.{◌≡◌, ◌<◌, ◌-◌, ◌+◌, ◌^◌, [], map, length, IfOk, OnOk};
 ghost use Rattle.world_rules.specs.World.{world_of};
-ghost use Rattle.world_rules.specs.Tick.{ruled};
+ghost use Rattle.world_rules.specs.Tick.{ruled, next_world};
 ghost use Rattle.world_rules.specs.Sound.{IsSound};
 ghost use Rattle.ruled_tick.specs.Ticked.{ticked, ticked_room, AreInPlace};
 
@@ -9,14 +9,25 @@ use crate::upkeep::tick_table;
 use object_store::World;
 use std::alloc::{AllocError, Global};
 
-/// The world after one tick without intents.
+/// The world after one tick without intents, with the accounts as they were.
 pub fn tick_plain(alloc: Global, world: &World) -> Result<World, AllocError>
     requires tick { world.now.tick < 2 ^ 64 - 1 }
     requires sound { IsSound world.now }
-    ensures ruled { IfOk result (λ next. world_of next ≡ ruled (world_of world.now)) }
+    ensures ruled { IfOk result (λ next. world_of next ≡ ruled (world_of world.now) []) }
     ensures sound { IfOk result IsSound }
 {
     tick_stored(alloc, world)
+}
+
+/// The world after one tick in which no player runs: its rooms are ruled without intents, and each
+/// account gets its limit into its bucket.
+pub fn tick_rested(alloc: Global, world: &World) -> Result<World, AllocError>
+    requires tick { world.now.tick < 2 ^ 64 - 1 }
+    requires sound { IsSound world.now }
+    ensures next { IfOk result (λ next. world_of next ≡ next_world (world_of world.now)) }
+    ensures sound { IfOk result IsSound }
+{
+    tick_plain(alloc, world)
 }
 
 // The same, of what is stored.

@@ -1,5 +1,7 @@
 pub mod Kinds
 pub mod World
+pub mod RoomParts
+pub mod Intents
 pub mod Upkeep
 pub mod Tick
 pub mod Rules

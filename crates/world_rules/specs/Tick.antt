@@ -1,16 +1,122 @@
 -- The tick of the game.
-use Rattle.std.specs.Prelude.{◌+◌}
-use Rattle.world_rules.specs.World.{World}
-use Rattle.world_rules.specs.Upkeep.{upkeep}
+use Rattle.std.specs.Prelude.{ℕ, ◌+◌, ◌-◌, ◌/◌, ◌==◌, ◌&&◌, ◌||◌, min, nat_lt, Bool, if◌then◌else◌, List, [], ◌∷◌, ◌++◌, map, Option, Some, None, slice_get}
+use Rattle.std.specs.List.{filter, sum_by}
+use Rattle.std.specs.FinMap.{from_entries, entries}
+use Rattle.game_tables.specs.Actions.{action_number}
+use Rattle.game_tables.specs.Limits.{bucket_bound, unit_size}
+use Rattle.game_tables.specs.declared.action.Action.{Action}
+use Rattle.object_store.specs.declared.account.Account.{Account}
+use Rattle.world_rules.specs.World.{Frame, World}
+use Rattle.world_rules.specs.RoomParts.{RoomPart, part_of, with_part, in_every_room}
+use Rattle.world_rules.specs.Intents.{Intent, Effect, all_actions, room_of, rule_of}
+use Rattle.world_rules.specs.Upkeep.{Sums, upkeep}
 
--- What happens inside the rooms. No kind of action and no movement is in force yet, so this is upkeep alone.
-abbrev pub inner : World → World
-inner world = record world { objects = upkeep world.objects }
+-- ---- the entries of a tick
 
--- Creeps that moved onto a border tile cross to the next room. There are no creeps yet.
+-- the world in the course of a tick, the points that players gained so far, and the damage and healing that was done to objects so far
+pub record Course : Type 0 where
+  pub world : World
+  pub gains : List (ℕ × ℕ)
+  pub damage : List (ℕ × ℕ)
+  pub healing : List (ℕ × ℕ)
+
+abbrev pub begun : World → Course
+begun world = record { world = world; gains = []; damage = []; healing = [] }
+
+-- the course after an effect in the room of this index
+abbrev pub after_effect : Course → ℕ → ℕ → Effect → Course
+after_effect course player index effect = record {
+  world = with_part course.world index effect.part;
+  gains = course.gains ++ (player, effect.points) ∷ [];
+  damage = course.damage ++ effect.damage;
+  healing = course.healing ++ effect.healing;
+}
+
+-- the course after the rule of an entry, in the room of this index and frame
+abbrev pub after_rule : Course → Intent → ℕ → Option Frame → Course
+after_rule course intent index (Some frame) = after_effect course intent.player index (rule_of intent.action intent (part_of course.world index frame))
+after_rule course intent index None = course
+
+abbrev pub after_rule_in : Course → Intent → Option ℕ → Course
+after_rule_in course intent (Some index) = after_rule course intent index (slice_get course.world.rooms index)
+after_rule_in course intent None = course
+
+-- the course after an entry, whose rule changes the part of its actor's room alone
+abbrev pub after_entry : Course → Intent → Course
+after_entry course intent = after_rule_in course intent (room_of course.world intent.action intent.actor)
+
+abbrev pub after_entries : Course → List Intent → Course
+after_entries course [] = course
+after_entries course (intent ∷ later) = after_entries (after_entry course intent) later
+
+-- by player, then by actor
+abbrev pub comes_before : Intent → Intent → Bool
+comes_before one other = nat_lt one.player other.player || ((one.player == other.player) && nat_lt one.actor other.actor)
+
+abbrev pub put_in_order : Intent → List Intent → List Intent
+put_in_order intent [] = intent ∷ []
+put_in_order intent (first ∷ later) = if comes_before intent first then intent ∷ first ∷ later else first ∷ put_in_order intent later
+
+abbrev pub in_order : List Intent → List Intent
+in_order [] = []
+in_order (intent ∷ later) = put_in_order intent (in_order later)
+
+-- the entries of an action, in their order
+abbrev pub entries_of : Action → List Intent → List Intent
+entries_of action intents = in_order (filter (λ intent. action_number intent.action == action_number action) intents)
+
+-- the course after all entries, action by action
+abbrev pub after_actions : List Action → List Intent → Course → Course
+after_actions [] intents course = course
+after_actions (action ∷ later) intents course = after_actions later intents (after_entries course (entries_of action intents))
+
+-- ---- the tick
+
+-- the entries that count. Which drop others will matter with the first action.
+abbrev pub counting : World → List Intent → List Intent
+counting world intents = intents
+
+-- The movers of a room move all at once. Movement is not in force yet.
+abbrev pub moved : List Intent → RoomPart → RoomPart
+moved intents part = part
+
+-- the sum that a list of ids and numbers has for an id
+abbrev pub sum_for : List (ℕ × ℕ) → ℕ → ℕ
+sum_for list id = sum_by (λ entry. if entry.0 == id then entry.1 else 0) list
+
+abbrev pub sums_of : Course → Sums
+sums_of course = record { damage = sum_for course.damage; healing = sum_for course.healing }
+
+-- what happens inside the rooms: the entries, then movement, then upkeep
+abbrev pub inner : World → List Intent → Course
+inner world intents =
+    let acted : Course = after_actions all_actions (counting world intents) (begun world) in
+    record acted { world = upkeep (sums_of acted) (in_every_room (moved (counting world intents)) acted.world) }
+
+-- Creeps that moved onto a border tile cross to the next room. Crossings are not in force yet.
 abbrev pub crossed : World → World
 crossed world = world
 
--- the world after one tick
-abbrev pub ruled : World → World
-ruled world = let after : World = crossed (inner world) in record after { tick = after.tick + 1 }
+-- the world after a tick with these entries, with the accounts as they were
+abbrev pub ruled : World → List Intent → World
+ruled world intents = let after : World = crossed (inner world intents).world in record after { tick = after.tick + 1 }
+
+-- the points that players gain in it
+abbrev pub gained : World → List Intent → List (ℕ × ℕ)
+gained world intents = (inner world intents).gains
+
+-- ---- accounts
+
+-- the CPU units in a bucket after a tick in which so many instructions were used: a unit that was begun counts whole
+abbrev pub bucket_after : Account → ℕ → ℕ
+bucket_after account used = min bucket_bound (account.limit + account.bucket - (used + (unit_size - 1)) / unit_size)
+
+-- an account after a tick in which its player did not run
+abbrev pub rested : Account → Account
+rested account = record account { bucket = bucket_after account 0 }
+
+-- the world after a tick in which no player runs
+abbrev pub next_world : World → World
+next_world world =
+    let after : World = ruled world [] in
+    record after { accounts = from_entries (map (λ entry. (entry.0, rested entry.1)) (entries after.accounts)) }

@@ -1,40 +1,51 @@
--- The steps of upkeep at the end of a tick, each over all objects.
-use Rattle.std.specs.Prelude.{ℕ, ◌-◌, ◌==◌, max, false, nat_lt, if◌then◌else◌, List, Option, Some, None, option_map}
-use Rattle.std.specs.List.{filter_map}
+-- The steps of upkeep at the end of a tick. Each is a change of a room's part, over its objects in rising id.
+use Rattle.std.specs.Prelude.{ℕ, ◌-◌, ◌==◌, ◌||◌, not, max, Bool, false, nat_lt, if◌then◌else◌, List, [], ◌∷◌, map, Option, Some, None, option_map}
+use Rattle.std.specs.List.{find, filter_map}
 use Rattle.std.specs.FinMap.{from_entries, entries}
 use Rattle.game_tables.specs.Kinds.{source_room, renewal_timer, pile_loss}
 use Rattle.game_tables.specs.declared.kind.Kind.{Kind}
 use Rattle.game_tables.specs.declared.kind.Kind.TheVariants.{Source, Pile}
 use Rattle.object_store.specs.declared.object.Object.{Object}
-use Rattle.world_rules.specs.World.{Placed, Objects}
+use Rattle.world_rules.specs.Kinds.{is_controller}
+use Rattle.world_rules.specs.World.{World}
+use Rattle.world_rules.specs.RoomParts.{RoomPart, in_every_room}
 
 -- the entries whose objects a change leaves, as it leaves them
-abbrev pub kept : (Object → Option Object) → List (ℕ × Placed) → List (ℕ × Placed)
-kept change = filter_map (λ entry. option_map (λ object. (entry.0, record entry.1 { object = object })) (change entry.1.object))
+abbrev pub kept : (Object → Option Object) → List (ℕ × Object) → List (ℕ × Object)
+kept change es = filter_map (λ entry. option_map (λ object. (entry.0, object)) (change entry.1)) es
 
--- A step in which each object changes by itself, or goes.
-abbrev pub each : (Object → Option Object) → Objects → Objects
-each change objects = from_entries (kept change (entries objects))
+-- a step in which each object changes by itself, or goes
+abbrev pub each : (Object → Option Object) → RoomPart → RoomPart
+each change part = record part { objects = from_entries (kept change (entries part.objects)) }
 
--- A source's capacity is that of a room whose controller nobody owns or reserves, since there are no controllers yet.
-abbrev pub source_capacity : ℕ
-source_capacity = source_room false
+-- ---- sources
+
+-- Somebody owns or reserves this controller.
+abbrev pub is_taken : Option Object → Bool
+is_taken None = false
+is_taken (Some controller) = not (controller.owner == 0) || not (controller.other == 0)
+
+-- the controller of a room
+abbrev pub controller_of : RoomPart → Option Object
+controller_of part = find (λ object. is_controller object.kind) (map (λ entry. entry.1) (entries part.objects))
 
 -- A timer above 0 falls by 1, and at 0 the energy becomes at least the capacity. A source with timer 0 and less than its capacity gets the timer to its renewal.
-abbrev pub source_renewed : Object → Object
-source_renewed source =
+abbrev pub source_renewed : ℕ → Object → Object
+source_renewed capacity source =
     if nat_lt 1 source.timer then record source { timer = source.timer - 1 }
-    else if source.timer == 1 then record source { timer = 0; energy = max source.energy source_capacity }
-    else if nat_lt source.energy source_capacity then record source { timer = renewal_timer }
+    else if source.timer == 1 then record source { timer = 0; energy = max source.energy capacity }
+    else if nat_lt source.energy capacity then record source { timer = renewal_timer }
     else source
 
-abbrev pub renewed_as : Kind → Object → Option Object
-renewed_as Source object = Some (source_renewed object)
-renewed_as _ object = Some object
+abbrev pub renewed_as : Kind → ℕ → Object → Option Object
+renewed_as Source capacity object = Some (source_renewed capacity object)
+renewed_as _ capacity object = Some object
 
--- Sources are renewed.
-abbrev pub renewed : Object → Option Object
-renewed object = renewed_as object.kind object
+-- Sources are renewed, up to the capacity in a room whose controller somebody owns or reserves, or in another.
+abbrev pub renewed : RoomPart → RoomPart
+renewed part = each (λ object. renewed_as object.kind (source_room (is_taken (controller_of part))) object) part
+
+-- ---- piles
 
 -- A pile loses a part of its energy; at 0 it is removed.
 abbrev pub pile_decayed : Object → Option Object
@@ -45,9 +56,39 @@ decayed_as Pile object = pile_decayed object
 decayed_as _ object = Some object
 
 -- Piles decay.
-abbrev pub decayed : Object → Option Object
-decayed object = decayed_as object.kind object
+abbrev pub decayed : RoomPart → RoomPart
+decayed part = each (λ object. decayed_as object.kind object) part
 
--- the steps in force, in their order
-abbrev pub upkeep : Objects → Objects
-upkeep objects = each decayed (each renewed objects)
+-- ---- all steps
+
+-- what the actions of a tick did to an object, by its id
+pub record Sums : Type 0 where
+  pub damage : ℕ → ℕ
+  pub healing : ℕ → ℕ
+
+-- a step that is not in force yet
+abbrev pub unchanged : RoomPart → RoomPart
+unchanged part = part
+
+-- the ten steps, in their order
+abbrev pub steps : Sums → List (RoomPart → RoomPart)
+steps sums =
+    unchanged -- hits change by healing and damage, and what has none left is gone
+    ∷ unchanged -- loads above the capacity fall
+    ∷ unchanged -- creeps age and die
+    ∷ unchanged -- fatigue falls
+    ∷ unchanged -- spawns gain energy
+    ∷ unchanged -- spawns make creeps
+    ∷ unchanged -- controllers lose time
+    ∷ renewed
+    ∷ unchanged -- containers and roads decay
+    ∷ decayed
+    ∷ []
+
+-- steps one after the other, each in every room
+abbrev pub in_turn : List (RoomPart → RoomPart) → World → World
+in_turn [] world = world
+in_turn (step ∷ later) world = in_turn later (in_every_room step world)
+
+abbrev pub upkeep : Sums → World → World
+upkeep sums world = in_turn (steps sums) world

@@ -5,11 +5,13 @@ ghost use Rattle.world_rules.specs.Examples.{Renews, Decays, Vanishes};
 /// contract is what the check has computed.
 pub fn upkeep_examples()
     // A source is renewed as its timer comes to 0, up to its capacity and never down to it.
-    ensures timer_falls { Renews 0 300 0 299 }
-    ensures renewed { Renews 0 1 1500 0 }
-    ensures never_cut { Renews 3000 1 3000 0 }
-    ensures timer_starts { Renews 1499 0 1499 300 }
-    ensures full_rests { Renews 1500 0 1500 0 }
+    ensures timer_falls { Renews 1500 0 300 0 299 }
+    ensures renewed { Renews 1500 0 1 1500 0 }
+    ensures never_cut { Renews 1500 3000 1 3000 0 }
+    ensures timer_starts { Renews 1500 1499 0 1499 300 }
+    ensures full_rests { Renews 1500 1500 0 1500 0 }
+    ensures taken_room_holds_more { Renews 3000 0 1 3000 0 }
+    ensures not_full_there { Renews 3000 2999 0 2999 300 }
 
     // A pile loses a thousandth, rounded up.
     ensures loses_two { Decays 1001 999 }
