@@ -9,7 +9,8 @@ use Rattle.world_io.specs.Disk.{LengthIs}
 use Rattle.world_io.specs.Told.{Gave, AppendsPrefix}
 use Rattle.world_io.proofs.Known.{appends_more}
 use Rattle.world_rules.specs.World.{world_of}
-use Rattle.world_rules.specs.Tick.{ruled}
+use Rattle.world_rules.specs.Tick.{next_world}
+use Rattle.world_rules.proofs.Ticks.{next_world-tick}
 use Rattle.world_rules.specs.Sound.{IsSound}
 use Rattle.world_run.specs.Lines.{start_line, tick_line}
 use Rattle.world_run.specs.Runs.{Follow, frame, Fills, IsEmpty, Leaves, LeavesPart}
@@ -65,7 +66,7 @@ pub last_more : (first : Stored) (later : List Stored) (next : Stored) → last_
 last_more first [] next = refl
 last_more first (x ∷ later) next = last_more x later next
 
-pub follow_more : (first : Stored) (later : List Stored) (next : Stored) → Follow first later → world_of next ≡ ruled (world_of (last_of first later)) → IsSound next → Follow first (later ++ next ∷ [])
+pub follow_more : (first : Stored) (later : List Stored) (next : Stored) → Follow first later → world_of next ≡ next_world (world_of (last_of first later)) → IsSound next → Follow first (later ++ next ∷ [])
 follow_more first [] next h e sound = (h, e, sound)
 follow_more first (x ∷ later) next h e sound = (h.0, h.1, follow_more x later next h.2 e sound)
 
@@ -88,10 +89,10 @@ along_none disk sink first sound = record {
 }
 
 -- The next world follows the last one.
-follow_last : (first : Stored) (later : List Stored) (last next : Stored) → last_of first later ≡ last → world_of next ≡ ruled (world_of last) → world_of next ≡ ruled (world_of (last_of first later))
-follow_last first later last next e h = h ∙ ap (λ w. ruled (world_of w)) (sym e)
+follow_last : (first : Stored) (later : List Stored) (last next : Stored) → last_of first later ≡ last → world_of next ≡ next_world (world_of last) → world_of next ≡ next_world (world_of (last_of first later))
+follow_last first later last next e h = h ∙ ap (λ w. next_world (world_of w)) (sym e)
 
-pub along_more : (disk_old disk disk_new sink_old sink sink_new : Option (List ℕ)) (first : Stored) (count : ℕ) (last next : Stored) → Along disk_old disk sink_old sink first count last → world_of next ≡ ruled (world_of last) → IsSound next → Appends disk disk_new (frame next) → Appends sink sink_new (tick_line next) → Along disk_old disk_new sink_old sink_new first (count + 1) next
+pub along_more : (disk_old disk disk_new sink_old sink sink_new : Option (List ℕ)) (first : Stored) (count : ℕ) (last next : Stored) → Along disk_old disk sink_old sink first count last → world_of next ≡ next_world (world_of last) → IsSound next → Appends disk disk_new (frame next) → Appends sink sink_new (tick_line next) → Along disk_old disk_new sink_old sink_new first (count + 1) next
 along_more disk_old disk disk_new sink_old sink sink_new first count last next so_far rule sound bytes line = record {
   later = so_far.later ++ next ∷ [];
   counted = length_push so_far.later next ∙ ap (λ n. n + 1) so_far.counted;
@@ -103,7 +104,7 @@ along_more disk_old disk disk_new sink_old sink sink_new first count last next s
   ended = last_more first so_far.later next;
 }
 
-pub along_part : (disk_old disk disk_new sink_old sink sink_new : Option (List ℕ)) (first : Stored) (count : ℕ) (last next : Stored) → Along disk_old disk sink_old sink first count last → world_of next ≡ ruled (world_of last) → IsSound next → Appends disk disk_new (frame next) → AppendsPrefix sink sink_new (tick_line next) → (later : List Stored) × (length later ≡ count + 1) × GrowsPart disk_old disk_new sink_old sink_new first later
+pub along_part : (disk_old disk disk_new sink_old sink sink_new : Option (List ℕ)) (first : Stored) (count : ℕ) (last next : Stored) → Along disk_old disk sink_old sink first count last → world_of next ≡ next_world (world_of last) → IsSound next → Appends disk disk_new (frame next) → AppendsPrefix sink sink_new (tick_line next) → (later : List Stored) × (length later ≡ count + 1) × GrowsPart disk_old disk_new sink_old sink_new first later
 along_part disk_old disk disk_new sink_old sink sink_new first count last next so_far rule sound bytes line = (
   so_far.later ++ next ∷ [],
   length_push so_far.later next ∙ ap (λ n. n + 1) so_far.counted,
@@ -114,8 +115,8 @@ along_part disk_old disk disk_new sink_old sink sink_new first count last next s
   },
 )
 
-pub tick_rises : (world next : Stored) → world_of next ≡ ruled (world_of world) → next.tick ≡ world.tick + 1
-tick_rises world next e = ap (λ w. w.tick) e
+pub tick_rises : (world next : Stored) → world_of next ≡ next_world (world_of world) → next.tick ≡ world.tick + 1
+tick_rises world next e = ap (λ w. w.tick) e ∙ next_world-tick (world_of world)
 
 -- ---- a run from an empty disk
 

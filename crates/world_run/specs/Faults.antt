@@ -4,10 +4,10 @@ use Rattle.game_tables.specs.declared.kind.Kind.{Kind}
 use Rattle.game_tables.specs.declared.kind.Kind.TheVariants as kinds
 use Rattle.world_rules.specs.declared.rule.Rule.{Rule}
 use Rattle.world_rules.specs.declared.rule.Rule.TheVariants as rules
-use Rattle.world_text.specs.declared.field.Field.{Field}
-use Rattle.world_text.specs.declared.field.Field.TheVariants as fields
-use Rattle.world_text.specs.declared.fault.WorldFault.{WorldFault}
-use Rattle.world_text.specs.declared.fault.WorldFault.TheVariants as faults
+use Rattle.world_form.specs.declared.field.Field.{Field}
+use Rattle.world_form.specs.declared.field.Field.TheVariants as fields
+use Rattle.world_form.specs.declared.fault.WorldFault.{WorldFault}
+use Rattle.world_form.specs.declared.fault.WorldFault.TheVariants as faults
 use Rattle.world_run.specs.declared.status.Refusal.{Refusal}
 use Rattle.world_run.specs.declared.status.Refusal.TheVariants as refusals
 use Rattle.world_run.specs.declared.status.Status.{Status}

@@ -5,12 +5,12 @@ use Rattle.std.specs.Int.{w64, to_le_bytes}
 use Rattle.std.specs.Io.KnownBytes.{Appends}
 use Rattle.object_store.specs.Stored.{Stored}
 use Rattle.world_rules.specs.World.{World, world_of}
-use Rattle.world_rules.specs.Tick.{ruled}
+use Rattle.world_rules.specs.Tick.{next_world}
 use Rattle.world_rules.specs.Sound.{IsSound}
-use Rattle.world_text.specs.Written.{written}
-use Rattle.world_text.specs.Files.{WorldForm, HasFault}
-use Rattle.world_text.specs.declared.fault.WorldFault.{WorldFault}
-use Rattle.world_text.specs.declared.fault.WorldFault.TheVariants as faults
+use Rattle.world_form.specs.Written.{written}
+use Rattle.world_form.specs.Files.{WorldForm, HasFault}
+use Rattle.world_form.specs.declared.fault.WorldFault.{WorldFault}
+use Rattle.world_form.specs.declared.fault.WorldFault.TheVariants as faults
 use Rattle.world_io.specs.Told.{GaveAll, Gave, AppendsPrefix}
 use Rattle.world_run.specs.Lines.{start_line, tick_line}
 use Rattle.world_run.specs.declared.status.Status.{Status}
@@ -18,10 +18,10 @@ use Rattle.world_run.specs.declared.status.Status.TheVariants as statuses
 
 -- ---- worlds and what is kept of them
 
--- Each world is sound, and each further one is the ruled tick of the one before, without intents.
+-- Each world is sound, and each further one is what a tick without players makes of the one before.
 abbrev pub Follow : Stored → List Stored → Type 0
 Follow world [] = IsSound world
-Follow world (next ∷ later) = IsSound world × (world_of next ≡ ruled (world_of world)) × Follow next later
+Follow world (next ∷ later) = IsSound world × (world_of next ≡ next_world (world_of world)) × Follow next later
 
 -- a frame of the plain journal: a length in 8 bytes, little endian, and that many bytes of a world's text
 abbrev pub frame : Stored → List ℕ

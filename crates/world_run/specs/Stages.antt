@@ -61,7 +61,7 @@ abbrev pub IsOfJournal : Status → Type 0
 IsOfJournal (statuses.NotAJournal at) = Unit {0}
 IsOfJournal status = IsOfTicks status
 
--- Each world is the ruled tick of the one before; their frames came to the disk, and their lines to the sink.
+-- Each world is what a tick without players makes of the one before; their frames came to the disk, and their lines to the sink.
 pub record Grows (disk_old disk_new sink_old sink_new : Option (List ℕ)) (first : Stored) (later : List Stored) : Type 0 where
   pub follow : Follow first later
   pub frames : Appends disk_old disk_new (flat_map frame later)

@@ -6,10 +6,10 @@ ghost use Rattle.world_io.specs.Causes.{Rose};
 ghost use Rattle.world_io.specs.Disk.{LengthIs};
 ghost use Rattle.world_io.specs.Told.{GaveAll, Gave, AppendsPrefix};
 ghost use Rattle.world_rules.specs.Sound.{IsSound};
-ghost use Rattle.world_rules.specs.Tick.{ruled};
+ghost use Rattle.world_rules.specs.Tick.{next_world};
 ghost use Rattle.world_rules.specs.World.{World as GameWorld, world_of};
-ghost use Rattle.world_text.specs.Files.{WorldForm};
-ghost use Rattle.world_text.specs.declared.fault.WorldFault.{WorldFault};
+ghost use Rattle.world_form.specs.Files.{WorldForm};
+ghost use Rattle.world_form.specs.declared.fault.WorldFault.{WorldFault};
 ghost use Rattle.world_run.specs.Lines.{start_line as start_line_of, tick_line as tick_line_of};
 ghost use Rattle.world_run.specs.Stages.{IsOfWords, IsOfWorld, IsOfUploads, IsOfInputs, IsOfRecord, IsOfTick, IsOfTicks, IsOfJournal, Grows, GrowsPart, GrowsLines};
 ghost use Rattle.world_run.specs.Words.{AreRun, Asks, AsksAtLeast};
@@ -20,7 +20,7 @@ use crate::lines::{start_line, tick_line};
 use crate::status::Status;
 use crate::words::{Command, WordsFault, read_words};
 use object_store::World;
-use ruled_tick::tick_plain;
+use ruled_tick::tick_rested;
 use std::alloc::Global;
 use world_io::{Disk, ReadStop, Sink, Source, read_all, write_all};
 use world_text::{WorldFault, read_world};
@@ -347,7 +347,7 @@ fn one_tick<O: Sink, D: Disk>(
     requires sound { IsSound kept.now.world }
     requires tick { kept.now.world.tick < 2 ^ 64 - 1 }
     requires end { LengthIs (D.seen disk.old) kept.now.end }
-    ensures ruled { IfOk result (λ next. world_of next.world ≡ ruled (world_of kept.now.world)) }
+    ensures ruled { IfOk result (λ next. world_of next.world ≡ next_world (world_of kept.now.world)) }
     ensures sound { IfOk result (λ next. IsSound next.world) }
     ensures frame { IfOk result (λ next. Appends (D.seen disk.old) (D.seen disk.new) (frame_bytes next.world)) }
     ensures line { IfOk result (λ next. Appends (O.written out.old) (O.written out.new) (tick_line_of next.world)) }
@@ -356,7 +356,7 @@ fn one_tick<O: Sink, D: Disk>(
     ensures memory { IfErr result (λ status. status ≡ Status.Memory → (D.seen disk.new ≡ D.seen disk.old) × (O.written out.new ≡ O.written out.old)) }
     ensures disk_stopped { IfErr result (λ status. status ≡ Status.DiskFault → O.written out.new ≡ O.written out.old) }
     ensures disk_fault { IfErr result (λ status. status ≡ Status.DiskFault → Rose (D.faults disk.old) (D.faults disk.new)) }
-    ensures write_stopped { IfErr result (λ status. status ≡ Status.WriteFault → (next : Stored) × (world_of next ≡ ruled (world_of kept.now.world)) × IsSound next
+    ensures write_stopped { IfErr result (λ status. status ≡ Status.WriteFault → (next : Stored) × (world_of next ≡ next_world (world_of kept.now.world)) × IsSound next
         × Appends (D.seen disk.old) (D.seen disk.new) (frame_bytes next) × AppendsPrefix (O.written out.old) (O.written out.new) (tick_line_of next)) }
     ensures write_fault { IfErr result (λ status. status ≡ Status.WriteFault → Rose (O.faults out.old) (O.faults out.new)) }
     ensures steady { OnOk result ((O.faults out.new ≡ O.faults out.old) × (D.faults disk.new ≡ D.faults disk.old)) }
@@ -365,7 +365,7 @@ fn one_tick<O: Sink, D: Disk>(
     ensures out_later { O.faults out.old ≤ O.faults out.new }
     ensures disk_later { D.faults disk.old ≤ D.faults disk.new }
 {
-    let Ok(world) = tick_plain(alloc, &kept.world) else {
+    let Ok(world) = tick_rested(alloc, &kept.world) else {
         return Err(Status::Memory);
     };
     let Ok(frame) = frame_of(alloc, &world) else {
