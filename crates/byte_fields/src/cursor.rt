@@ -40,6 +40,16 @@ impl<'a> Cursor<'a> {
         Cursor { bytes, place: 0 }
     }
 
+    /// Another cursor at the same place, to read ahead.
+    pub fn copy(&self) -> Cursor<'a>
+        ensures { result ≡ self.now }
+    {
+        Cursor {
+            bytes: self.bytes,
+            place: self.place,
+        }
+    }
+
     /// How many bytes were read.
     pub fn place(&self) -> usize
         ensures { result ≡ self.now.1 }
