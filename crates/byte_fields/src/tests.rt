@@ -221,3 +221,12 @@ fn reads_back(rt: HostRuntime) {
         assert_eq!(rt; signed_back(rt.alloc(), value, &[0x00]), Ok(Ok(value)));
     }
 }
+
+#[test]
+fn reads_ahead_on_a_copy(rt: HostRuntime) {
+    let mut cursor = Cursor::over(&[1, 2, 3]);
+    assert_eq!(rt; cursor.u8(), Ok(1));
+    let mut ahead = cursor.copy();
+    assert_eq!(rt; (ahead.place(), ahead.u8()), (1, Ok(2)));
+    assert_eq!(rt; (cursor.place(), cursor.left(), cursor.u8()), (1, 2, Ok(2)));
+}
