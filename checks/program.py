@@ -116,22 +116,29 @@ def room(name, next, *objects, terrain=None):
     return {"name": name, "terrain": terrain or grounds(), "next": next, "objects": list(objects)}
 
 
-def world(*rooms, tick=0):
-    return {"version": 1, "tick": tick, "rooms": list(rooms), "players": []}
+def world(*rooms, tick=0, players=()):
+    return {"version": 1, "tick": tick, "rooms": list(rooms), "players": list(players)}
 
 
-FIELDS = ("owner", "hits", "energy", "timer", "extra", "progress", "other", "other_ticks")
+FIELDS = ("owner", "energy", "timer", "extra", "progress", "other", "other_ticks")
+HITS = {"spawn": 5000, "extension": 1000, "storage": 10_000, "container": 250_000, "road": 5000}
 
 
 def full(it):
-    """A world with every key of each object."""
+    """A world with every key of each object and player, but for the tokens, which no world has."""
     it = copy.deepcopy(it)
     for place in it["rooms"]:
         for one in place["objects"]:
             for field in FIELDS:
                 one.setdefault(field, 0)
             one.setdefault("body", [])
+            one.setdefault("hits", 100 * len(one["body"]) if one["kind"] == "creep" else HITS.get(one["kind"], 0))
         place["objects"].sort(key=lambda one: one["id"])
+    for player in it["players"]:
+        player.pop("token", None)
+        for field, default in (("bucket", 0), ("points", 0), ("memory", "")):
+            player.setdefault(field, default)
+    it["players"].sort(key=lambda player: player["player"])
     return it
 
 
@@ -148,20 +155,24 @@ def ticked(it):
     it = full(it)
     it["tick"] += 1
     for place in it["rooms"]:
+        taken = any(one["kind"] == "controller" and (one["owner"] or one["other"]) for one in place["objects"])
+        capacity = 3000 if taken else 1500
         left = []
         for one in place["objects"]:
             if one["kind"] == "source":
                 if one["timer"] > 0:
                     one["timer"] -= 1
                     if one["timer"] == 0:
-                        one["energy"] = max(one["energy"], 1500)
-                elif one["energy"] < 1500:
+                        one["energy"] = max(one["energy"], capacity)
+                elif one["energy"] < capacity:
                     one["timer"] = 300
             if one["kind"] == "pile":
                 one["energy"] -= (one["energy"] + 999) // 1000
-            if one["kind"] == "source" or one["energy"] > 0:
+            if one["kind"] != "pile" or one["energy"] > 0:
                 left.append(one)
         place["objects"] = left
+    for player in it["players"]:
+        player["bucket"] = min(10_000, player["limit"] + player["bucket"])
     return it
 
 
@@ -170,7 +181,7 @@ def objects_of(it):
 
 
 def start_line(it):
-    return f"start tick {it['tick']} rooms {len(it['rooms'])} objects {len(objects_of(it))} players 0\n".encode()
+    return f"start tick {it['tick']} rooms {len(it['rooms'])} objects {len(objects_of(it))} players {len(it['players'])}\n".encode()
 
 
 def tick_line(it):
@@ -210,6 +221,30 @@ WIDE = world(
 )
 
 
+HELD = world(
+    room(
+        "E0S0",
+        99,
+        thing("controller", 4, 5, 5, owner=1, extra=1, timer=20000),
+        thing("source", 1, 10, 10, energy=1500),
+        thing("source", 2, 12, 12, energy=7, timer=2),
+        thing("creep", 3, 20, 20, owner=1, body=["work", "carry", "move"], energy=50, timer=1500),
+        thing("spawn", 5, 22, 20, owner=1, energy=300),
+        thing("extension", 6, 23, 20, owner=2, hits=3),
+        thing("storage", 7, 24, 20, owner=2, energy=9),
+        thing("container", 8, 25, 20, timer=1),
+        thing("road", 9, 26, 20, timer=1),
+        thing("site", 10, 27, 20, owner=1, extra=8, progress=299),
+    ),
+    room("W0N0", 9, thing("controller", SECOND + 1, 5, 5, other=2, other_ticks=1), thing("source", SECOND + 2, 10, 10, timer=1)),
+    room("W1N0", 9, thing("controller", 2 * SECOND + 1, 5, 5), thing("source", 2 * SECOND + 2, 10, 10, timer=1)),
+    players=[
+        {"player": 2, "token": "!~a", "limit": 500, "bucket": 9_000, "points": 2**53, "memory": "00ff7a"},
+        {"player": 1, "limit": 0, "bucket": 3},
+    ],
+)
+
+
 def bytes_of(it):
     return json.dumps(it, indent=1).encode()
 
@@ -235,6 +270,8 @@ def check_runs():
     check("a run of many ticks", ticks("0305"), inputs(), 0, lines(SMALL, 305), after={"journal.bin": journal(SMALL, 305)})
     check("an empty journal", RUN, inputs(**{"journal.bin": b""}), 0, lines(SMALL, 1), after={"journal.bin": journal(SMALL, 1)})
     check("two rooms", ticks(9), inputs(bytes_of(WIDE)), 0, lines(WIDE, 9), after={"journal.bin": journal(WIDE, 9)})
+    check("all kinds, controllers and players", ticks(9), inputs(bytes_of(HELD)), 0, lines(HELD, 9), after={"journal.bin": journal(HELD, 9)})
+    check("all kinds as they are written", RUN, inputs(text_of(HELD)), 0, lines(HELD, 1), after={"journal.bin": journal(HELD, 1)})
     check("a world as it is written", RUN, inputs(text_of(WIDE)), 0, lines(WIDE, 1), after={"journal.bin": journal(WIDE, 1)})
     other = {"one": bytes_of(WIDE), "two": b"", "world.json": bytes_of(SMALL), "uploads.bin": b"x", "journal.bin": b"kept"}
     words = ["run", "one", "two", "-three", "--ticks", "2"]
@@ -284,7 +321,7 @@ def check_world_faults():
         ("BadValue Tick 0", changed(top={"tick": -1})),
         ("BadValue Tick 0", changed(top={"tick": 1.0})),
         ("BadValue Rooms 0", changed(top={"rooms": {}})),
-        ("BadValue Players 0", changed(top={"players": [{}]})),
+        ("Missing Player", changed(top={"players": [{}]})),
         ("Missing Name", changed(room={"name": None})),
         ("Missing Terrain", changed(room={"terrain": None})),
         ("Missing Next", changed(room={"next": None})),
@@ -302,7 +339,7 @@ def check_world_faults():
         ("Missing Y", changed(source={"y": None})),
         ("BadValue Id 1", changed(pile={"id": 0})),
         ("BadValue Kind 1", changed(pile={"kind": "heap"})),
-        ("NotBuilt Creep", changed(pile={"kind": "creep"})),
+        ("Rule Range 2", changed(pile={"kind": "creep"})),
         ("NotBuilt Tower", changed(pile={"kind": "tower"})),
         ("BadValue X 0", changed(source={"x": 50})),
         ("BadValue Y 1", changed(pile={"y": 50})),
@@ -326,6 +363,7 @@ def check_world_faults():
         ("Rule Shared 2", changed(pile={"kind": "source", "energy": 0, "x": 10, "y": 10})),
         ("Rule Owner 1", changed(source={"owner": 1})),
         ("Rule Range 1", changed(source={"energy": 3001})),
+        ("Rule Range 1", changed(source={"energy": 3001}, pile={"x": 10, "y": 10})),
         ("Rule Range 2", changed(pile={"energy": 0})),
         ("Rule Range 2", changed(pile={"energy": 1_000_000_001})),
     ]

@@ -17,8 +17,8 @@ fn faults_are_printed(rt: HostRuntime) {
             "fault 3 World Missing OtherTicks\n",
         ),
         (
-            Status::World(WorldFault::BadValue(Field::Players, 0)),
-            "fault 3 World BadValue Players 0\n",
+            Status::World(WorldFault::BadValue(Field::Memory, 63)),
+            "fault 3 World BadValue Memory 63\n",
         ),
         (
             Status::World(WorldFault::NotBuilt(Kind::Tower)),
