@@ -1,5 +1,5 @@
 -- The objects of a room as they are stored.
-use Rattle.std.specs.Prelude.{◌≡◌, ◌≢◌, ℕ, ◌<◌, ◌≤◌, ◌==◌, ◌&&◌, nat_lt, Bool, if◌then◌else◌, List, [], ◌∷◌, ◌++◌, map, Option, Some, None, not}
+use Rattle.std.specs.Prelude.{◌≡◌, ℕ, ◌<◌, ◌≤◌, ◌==◌, ◌&&◌, nat_lt, if◌then◌else◌, List, [], ◌∷◌, ◌++◌, map, Option, Some, None, not}
 use Rattle.std.specs.List.{AllByRecursion, find, filter}
 use Rattle.game_tables.specs.Numbers.{kind_number}
 use Rattle.game_tables.specs.declared.kind.Kind.{Kind}

@@ -1,6 +1,7 @@
 // The world as it is stored.
-ghost use Rattle.std.specs.Prelude.{◌≡◌, ◌<◌, ◌-◌, ◌+◌, ◌^◌, [], ◌∷◌, ◌++◌, length, slice_get, option_map, Some, None, IfOk, OnOk, OnErr};
-ghost use Rattle.object_store.specs.Stored.{Stored, AreRising, IsLast, HaveRisingTables};
+ghost use Rattle.std.specs.Prelude.{◌≡◌, ◌↔◌, IsTrue, ℕ, ◌<◌, ◌≤◌, ◌-◌, ◌+◌, ◌^◌, [], ◌∷◌, ◌++◌, length, slice_get, option_map, Some, None, IfSome, IfNone, IfOk, OnOk, OnErr};
+ghost use Rattle.std.specs.List.Sorted.{IsPartitionPoint};
+ghost use Rattle.object_store.specs.Stored.{Stored, AreRising, IsLast, HaveRisingTables, IsRoomNamed, HasAccount, find_account, with_account};
 
 use crate::account::Account;
 use crate::room_table::RoomTable;
@@ -14,6 +15,25 @@ pub struct Room {
     pub name: RoomName,
     pub terrain: Terrain,
     pub table: RoomTable,
+}
+
+impl Room {
+    fn is_named(&self, name: RoomName) -> bool
+        ensures { IsTrue result ↔ (self.now.name ≡ name) }
+    {
+        self.name == name
+    }
+
+    /// The same room once more, with the spare of its table.
+    fn copy(&self, alloc: Global) -> Result<Room, AllocError>
+        ensures { IfOk result (λ copy. copy ≡ self.now) }
+    {
+        Ok(Room {
+            name: self.name,
+            terrain: self.terrain.copy(alloc)?,
+            table: self.table.copy(alloc, u64::from(self.table.spare()))?,
+        })
+    }
 }
 
 /// A world: its tick, its rooms, and the accounts in rising player.
@@ -54,6 +74,31 @@ impl World {
         self.tick
     }
 
+    /// Puts the world at a tick.
+    pub fn set_tick(&mut self, tick: u64)
+        ensures { self.new ≡ record self.old { tick = tick } }
+    {
+        self.tick = tick;
+    }
+
+    /// The number of the rules in force.
+    pub fn rules(&self) -> u8
+        ensures { result ≡ 1 }
+    {
+        1
+    }
+
+    /// The same world once more, each table with its spare.
+    pub fn copy(&self, alloc: Global) -> Result<World, AllocError>
+        ensures { IfOk result (λ copy. copy ≡ self.now) }
+    {
+        Ok(World {
+            tick: self.tick,
+            rooms: copy_rooms(alloc, &self.rooms)?,
+            accounts: copy_accounts(alloc, &self.accounts)?,
+        })
+    }
+
     /// The number of rooms.
     pub fn rooms(&self) -> u32
         ensures { result ≡ length self.now.rooms }
@@ -78,6 +123,15 @@ impl World {
         &self.rooms[index as usize].table
     }
 
+    /// The least index of a room of a name.
+    pub fn find_room(&self, name: RoomName) -> Option<u32>
+        ensures some { IfSome result (λ i. IsRoomNamed name self.now.rooms i × ((k : ℕ) → k < i → ¬ IsRoomNamed name self.now.rooms k)) }
+        ensures none { IfNone result ((k : ℕ) → ¬ IsRoomNamed name self.now.rooms k) }
+    {
+        let index = self.rooms.iter().position(|room| room.is_named(name))?;
+        Some(index as u32)
+    }
+
     /// The name of a room.
     pub fn name(&self, index: u32) -> RoomName
         requires { index < length self.now.rooms }
@@ -99,6 +153,22 @@ impl World {
         ensures { result ≡ length self.now.accounts }
     {
         self.accounts.len() as u32
+    }
+
+    /// The account of a player.
+    pub fn account(&self, player: u32) -> Option<&Account>
+        ensures { option_map (λ a. a.now) result ≡ find_account player self.now.accounts }
+    {
+        self.accounts
+            .iter()
+            .find(|account| account.player == player)
+    }
+
+    /// The account at a place of the list, from 0 on.
+    pub fn nth_account(&self, i: u32) -> Option<&Account>
+        ensures { option_map (λ a. a.now) result ≡ slice_get self.now.accounts i }
+    {
+        self.accounts.get(i as usize)
     }
 
     /// All accounts, in rising player.
@@ -141,4 +211,42 @@ impl World {
     {
         Ok(self.accounts.push(account)?)
     }
+
+    /// Puts an account in the place of the one of its player.
+    pub fn set_account(&mut self, account: Account)
+        requires there { HasAccount account.player self.old.accounts }
+        ensures { self.new ≡ record self.old { accounts = with_account account self.old.accounts } }
+    {
+        let place = account_place(&self.accounts, account.player);
+        self.accounts[place] = account;
+    }
+}
+
+// The place of a player among the accounts, or where it would be.
+fn account_place(accounts: &[Account], player: u32) -> usize
+    requires { AreRising accounts.now }
+    ensures within { result ≤ length accounts.now }
+    ensures between { IsPartitionPoint (λ a. a.player < player) (λ a. player ≤ a.player) accounts.now result }
+{
+    accounts.partition_point(|account| account.player < player)
+}
+
+fn copy_rooms(alloc: Global, rooms: &[Room]) -> Result<Vec<Room>, AllocError>
+    ensures { IfOk result (λ copy. copy.items ≡ rooms.now) }
+{
+    let mut copies = Vec::with_capacity(alloc, rooms.len())?;
+    for room in rooms {
+        copies.push(room.copy(alloc)?)?;
+    }
+    Ok(copies)
+}
+
+fn copy_accounts(alloc: Global, accounts: &[Account]) -> Result<Vec<Account>, AllocError>
+    ensures { IfOk result (λ copy. copy.items ≡ accounts.now) }
+{
+    let mut copies = Vec::with_capacity(alloc, accounts.len())?;
+    for account in accounts {
+        copies.push(account.copy(alloc)?)?;
+    }
+    Ok(copies)
 }
