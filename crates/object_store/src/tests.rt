@@ -1,16 +1,25 @@
 // Each public call once, with ample memory.
-ghost use Rattle.std.specs.Prelude.{◌≡◌, IfOk};
+ghost use Rattle.std.specs.Prelude.{◌≡◌, IfOk, length};
+ghost use Rattle.object_store.specs.Tables.{IsOnTile};
 
 use crate::{Account, Body, Bytes, Ground, Kind, Object, RoomName, RoomTable, Terrain, World};
 use std::alloc::{AllocError, Global};
 use std::test::Fail;
 
 fn pile(id: u64, energy: u64) -> Object
-    ensures { result.id ≡ id }
+    ensures id { result.id ≡ id }
+    ensures tile { IsOnTile result }
+{
+    thing(id, Kind::Pile, energy)
+}
+
+fn thing(id: u64, kind: Kind, energy: u64) -> Object
+    ensures id { result.id ≡ id }
+    ensures tile { IsOnTile result }
 {
     Object {
         id,
-        kind: Kind::Pile,
+        kind,
         x: 20,
         y: 20,
         owner: 0,
@@ -26,7 +35,8 @@ fn pile(id: u64, energy: u64) -> Object
 }
 
 fn two_piles(alloc: Global) -> Result<RoomTable, AllocError>
-    ensures { IfOk result (λ table. table.index ≡ 0) }
+    ensures index { IfOk result (λ table. table.index ≡ 0) }
+    ensures count { IfOk result (λ table. length table.objects ≡ 2) }
 {
     let mut objects = Vec::new(alloc);
     objects.push(pile(2, 7))?;
@@ -84,6 +94,157 @@ fn a_table_finds_its_objects(rt: HostRuntime) -> Result<(), Fail> {
     assert_eq!(rt; table.get(2).map_or(0, |object| object.energy), 7);
     assert!(rt; table.get(3).is_none());
     assert!(rt; RoomTable::new(rt.alloc(), 4, 1).is_empty());
+    Ok(())
+}
+
+fn add(table: &mut RoomTable, object: Object) -> bool
+    requires { IsOnTile object }
+{
+    let fits = table.get(object.id).is_none() && table.spare() >= 1;
+    if fits {
+        table.insert(object);
+    }
+    fits
+}
+
+fn add_new(table: &mut RoomTable, object: Object) -> u64
+    requires { IsOnTile object }
+{
+    let id = u64::from(table.index()) * (1 << 32) + u64::from(table.next());
+    if table.next() < u32::MAX && table.get(id).is_none() && table.spare() >= 1 {
+        table.insert_new(object)
+    } else {
+        0
+    }
+}
+
+fn replace(table: &mut RoomTable, object: Object) -> bool
+    requires { IsOnTile object }
+{
+    let stands = table.get(object.id).is_some();
+    if stands {
+        table.set(object);
+    }
+    stands
+}
+
+fn id_at(table: &RoomTable, place: u32) -> u64 {
+    table.nth(place).map_or(0, |object| object.id)
+}
+
+#[test]
+fn a_table_takes_objects_in_its_spare(rt: HostRuntime) -> Result<(), Fail> {
+    let mut table = RoomTable::new(rt.alloc(), 4, 7);
+    assert_eq!(rt; table.rules(), 1);
+    assert_eq!(rt; table.spare(), 0);
+    table.reserve(5)?;
+    assert_eq!(rt; table.spare(), 5);
+    for id in [5, 2, 3, 9] {
+        assert!(rt; add(&mut table, pile(id, 10 * id)));
+    }
+    assert!(rt; !add(&mut table, pile(3, 1)));
+    assert_eq!(rt; table.spare(), 1);
+    assert_eq!(rt; add_new(&mut table, pile(1, 60)), 4 * (1 << 32) + 7);
+    assert_eq!(rt; table.next(), 8);
+    assert_eq!(rt; table.spare(), 0);
+    assert_eq!(rt; add_new(&mut table, pile(1, 60)), 0);
+    assert!(rt; !add(&mut table, pile(4, 1)));
+    for (place, id) in [2, 3, 5, 9, 4 * (1 << 32) + 7].iter().enumerate() {
+        assert_eq!(rt; id_at(&table, place as u32), *id);
+        assert!(rt; table.get(*id).is_some());
+    }
+    assert_eq!(rt; table.len(), 5);
+    assert_eq!(rt; table.get(9).map_or(0, |object| object.energy), 90);
+    assert!(rt; table.get(1).is_none());
+    assert!(rt; table.get(4).is_none());
+    Ok(())
+}
+
+#[test]
+fn a_copy_has_the_spare_that_is_asked_for(rt: HostRuntime) -> Result<(), Fail> {
+    let table = two_piles(rt.alloc())?;
+    let mut copy = table.copy(rt.alloc(), 3)?;
+    assert_eq!(rt; table.spare(), 0);
+    assert_eq!(rt; copy.spare(), 3);
+    assert_eq!(rt; copy.index(), 0);
+    assert_eq!(rt; copy.next(), 6);
+    assert_eq!(rt; copy.get(5).map_or(0, |object| object.energy), 9);
+    copy.reserve(1)?;
+    assert_eq!(rt; copy.spare(), 3);
+    copy.reserve(4)?;
+    assert_eq!(rt; copy.spare(), 4);
+    assert!(rt; add(&mut copy, pile(3, 8)));
+    assert_eq!(rt; copy.len(), 3);
+    assert_eq!(rt; table.len(), 2);
+    Ok(())
+}
+
+#[test]
+fn objects_are_replaced_and_taken_out(rt: HostRuntime) -> Result<(), Fail> {
+    let mut table = RoomTable::new(rt.alloc(), 4, 7);
+    table.reserve(6)?;
+    for id in [2, 3, 5, 9] {
+        assert!(rt; add(&mut table, pile(id, 10 * id)));
+    }
+    assert!(rt; add(&mut table, thing(1, Kind::Road, 0)));
+    assert_eq!(rt; table.at(20, 20, Kind::Pile), Some(2));
+    assert_eq!(rt; table.at(20, 20, Kind::Road), Some(1));
+    assert_eq!(rt; table.at(20, 20, Kind::Wall), None);
+    assert_eq!(rt; table.at(20, 21, Kind::Pile), None);
+    assert_eq!(rt; table.at(21, 20, Kind::Pile), None);
+    assert!(rt; replace(&mut table, pile(3, 33)));
+    assert!(rt; !replace(&mut table, pile(4, 44)));
+    assert_eq!(rt; table.get(3).map_or(0, |object| object.energy), 33);
+    assert_eq!(rt; table.get(2).map_or(0, |object| object.energy), 20);
+    assert!(rt; table.remove(4).is_none());
+    for (id, left) in [(1, 4), (5, 3), (9, 2)] {
+        assert_eq!(rt; table.remove(id).map_or(0, |object| object.id), id);
+        assert!(rt; table.get(id).is_none());
+        assert_eq!(rt; table.len(), left);
+    }
+    assert_eq!(rt; id_at(&table, 0), 2);
+    assert_eq!(rt; id_at(&table, 1), 3);
+    assert_eq!(rt; table.spare(), 1);
+    Ok(())
+}
+
+fn replace_account(world: &mut World, account: Account) -> bool {
+    let stands = world.account(account.player).is_some();
+    if stands {
+        world.set_account(account);
+    }
+    stands
+}
+
+#[test]
+fn a_world_is_copied_and_changed(rt: HostRuntime) -> Result<(), Fail> {
+    let alloc = rt.alloc();
+    let mut world = World::empty(alloc, 8);
+    let name = RoomName { column: 3, row: -2 };
+    let terrain = Terrain::of(alloc, &[Ground::Swamp; 2500])?;
+    let table = two_piles(alloc)?.copy(alloc, 2)?;
+    world.push_room(name, terrain.copy(alloc)?, table)?;
+    world.push_room(name, terrain, RoomTable::new(alloc, 1, 1))?;
+    world.push_account(account(1, Bytes::new(alloc)))?;
+    world.push_account(account(3, Bytes::new(alloc)))?;
+    let mut copy = world.copy(alloc)?;
+    copy.set_tick(9);
+    assert_eq!(rt; copy.rules(), 1);
+    assert_eq!(rt; copy.tick(), 9);
+    assert_eq!(rt; world.tick(), 8);
+    assert_eq!(rt; copy.room(0).spare(), 2);
+    assert_eq!(rt; copy.room(0).len(), 2);
+    assert_eq!(rt; copy.terrain(0).at(0, 0), Ground::Swamp);
+    assert_eq!(rt; copy.find_room(name), Some(0));
+    assert_eq!(rt; copy.find_room(RoomName { column: 3, row: 2 }), None);
+    assert!(rt; replace_account(&mut copy, account(3, Bytes::of(alloc, b"new")?)));
+    assert!(rt; !replace_account(&mut copy, account(2, Bytes::new(alloc))));
+    assert_eq!(rt; copy.account(3).map_or(0, |found| found.memory.len()), 3);
+    assert_eq!(rt; copy.account(1).map_or(9, |found| found.memory.len()), 0);
+    assert!(rt; copy.account(2).is_none());
+    assert_eq!(rt; copy.nth_account(1).map_or(0, |found| found.player), 3);
+    assert!(rt; copy.nth_account(2).is_none());
+    assert_eq!(rt; world.account(3).map_or(9, |found| found.memory.len()), 0);
     Ok(())
 }
 
