@@ -108,7 +108,7 @@ some_none e = cc
 none_some : {X : Type 0} {x : X} → None ≡ Some x → ⊥
 none_some e = cc
 
-pub place_of : {X : Type 0} (key : X → ℕ) (n : ℕ) (xs : List X) (i : ℕ) (found : X) → Rises key xs → Parted key n xs i → find (λ x. eqb (key x) n) xs ≡ Some found → (i < length xs) × HoldsAt (λ x. key x ≡ n) xs i
+place_of : {X : Type 0} (key : X → ℕ) (n : ℕ) (xs : List X) (i : ℕ) (found : X) → Rises key xs → Parted key n xs i → find (λ x. eqb (key x) n) xs ≡ Some found → (i < length xs) × HoldsAt (λ x. key x ≡ n) xs i
 place_of key n [] i found rises parts there = absurd (none_some there)
 place_of key n (x ∷ xs) zero found rises parts there =
     let least : n ≤ key x = parts.0 in
@@ -124,7 +124,7 @@ place_of key n (x ∷ xs) (suc i) found rises parts there =
     (omega (arith, rest.0), λ d. rest.1 d)
 
 -- the list with an entry replaced
-pub set-at : {X : Type 0} (key : X → ℕ) (y : X) (xs : List X) (i : ℕ) (d : X) → Rises key xs → i < length xs → key (get_or xs i d) ≡ key y → set xs i y ≡ map (replaced key y) xs
+set-at : {X : Type 0} (key : X → ℕ) (y : X) (xs : List X) (i : ℕ) (d : X) → Rises key xs → i < length xs → key (get_or xs i d) ≡ key y → set xs i y ≡ map (replaced key y) xs
 set-at key y [] i d rises within here = absurd (omega arith)
 set-at key y (x ∷ xs) zero d rises within here =
     let above : AllByRecursion (λ later. key y < key later) xs = all_weaker (λ later. key x < key later) (λ later. key y < key later) (λ later lt. omega arith) xs rises.0 in
@@ -197,7 +197,7 @@ all_above key y x xs rises parts absent =
     let other : key x ≢ key y = λ same. some_none (rw (eq-eqb (key x) (key y) same) at absent) in
     (omega arith, above_first key (key y) x xs least rises.0)
 
-pub insert-at : {X : Type 0} (key : X → ℕ) (y : X) (xs : List X) (i : ℕ) → Rises key xs → Parted key (key y) xs i → find (λ x. eqb (key x) (key y)) xs ≡ None → insert xs i y ≡ filter (λ x. ltb (key x) (key y)) xs ++ y ∷ filter (λ x. ltb (key y) (key x)) xs
+insert-at : {X : Type 0} (key : X → ℕ) (y : X) (xs : List X) (i : ℕ) → Rises key xs → Parted key (key y) xs i → find (λ x. eqb (key x) (key y)) xs ≡ None → insert xs i y ≡ filter (λ x. ltb (key x) (key y)) xs ++ y ∷ filter (λ x. ltb (key y) (key x)) xs
 insert-at key y [] zero rises parts absent = refl
 insert-at key y [] (suc i) rises parts absent = absurd parts
 insert-at key y (x ∷ xs) zero rises parts absent =
@@ -210,7 +210,7 @@ insert-at key y (x ∷ xs) (suc i) rises parts absent =
     let other : key x ≢ key y = λ e. omega arith in
     rw (lt-ltb (key x) (key y) below, le-ltb (key y) (key x) (omega arith)) (ap (λ ys. x ∷ ys) (insert-at key y xs i rises.1 parts.1 (rw (ne_eqb (key x) (key y) other) at absent)))
 
-pub rises-insert : {X : Type 0} (key : X → ℕ) (y : X) (xs : List X) (i : ℕ) → Rises key xs → Parted key (key y) xs i → find (λ x. eqb (key x) (key y)) xs ≡ None → Rises key (insert xs i y)
+rises-insert : {X : Type 0} (key : X → ℕ) (y : X) (xs : List X) (i : ℕ) → Rises key xs → Parted key (key y) xs i → find (λ x. eqb (key x) (key y)) xs ≡ None → Rises key (insert xs i y)
 rises-insert key y [] zero rises parts absent = (tt, tt)
 rises-insert key y [] (suc i) rises parts absent = absurd parts
 rises-insert key y (x ∷ xs) zero rises parts absent = (all_above key y x xs rises parts absent, rises)
@@ -237,3 +237,19 @@ place_from_tests key n xs i point = (
   (λ k d low lt. ltb-true (key (get_or xs k d)) n (point.0 k d low lt)),
   (λ k d low lt. ltb-false (key (get_or xs k d)) n (point.1 k d low lt)),
 )
+
+-- A search by halving of `seen`, which is `xs`, gave the place. There an entry replaces that of its key.
+pub replaced_there : {X : Type 0} (key : X → ℕ) (y : X) (seen xs : List X) (place : ℕ) → seen ≡ xs → Rises key xs → place ≤ length seen → IsPartitionPoint (λ x. key x < key y) (λ x. key y ≤ key x) seen place → (found : X) → find (λ x. eqb (key x) (key y)) xs ≡ Some found → (place < length xs) × (set xs place y ≡ map (replaced key y) xs)
+replaced_there {X} key y seen xs place same rises within point found there =
+    let parts = subst (λ (zs : List X). Parted key (key y) zs place) same (parted key (key y) seen place within point) in
+    let at = place_of key (key y) xs place found rises parts there in
+    (at.0, set-at key y xs place y rises at.0 (at.1 y))
+
+-- There an entry of another key goes in.
+pub added_there : {X : Type 0} (key : X → ℕ) (y : X) (seen xs : List X) (place : ℕ) → seen ≡ xs → Rises key xs → place ≤ length seen → IsPartitionPoint (λ x. key x < key y) (λ x. key y ≤ key x) seen place → find (λ x. eqb (key x) (key y)) xs ≡ None → (place ≤ length xs) × Rises key (insert xs place y) × (insert xs place y ≡ filter (λ x. ltb (key x) (key y)) xs ++ y ∷ filter (λ x. ltb (key y) (key x)) xs)
+added_there {X} key y seen xs place same rises within point absent =
+    let parts = subst (λ (zs : List X). Parted key (key y) zs place) same (parted key (key y) seen place within point) in (
+      subst (λ (zs : List X). place ≤ length zs) same within,
+      rises-insert key y xs place rises parts absent,
+      insert-at key y xs place rises parts absent,
+    )

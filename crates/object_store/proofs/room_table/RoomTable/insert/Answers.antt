@@ -1,4 +1,4 @@
-use Rattle.std.proofs.Common.{◌≡◌, ◌<◌, ◌≤◌, ◌+◌, List, length, sym, ap, subst, refl, ◌∙◌, arith}
+use Rattle.std.proofs.Common.{◌≡◌, ◌<◌, ◌+◌, List, length, sym, ap, subst, refl, ◌∙◌, arith}
 use Rattle.std.specs.List.{insert}
 use Rattle.std.specs.Vec.{vec_len, vec_capacity}
 use Rattle.std.proofs.lemmas.Bool.{cond-true}
@@ -6,41 +6,33 @@ use Rattle.std.proofs.lemmas.List.Edits.{length-insert}
 use Rattle.object_store.specs.declared.object.Object.{Object}
 use Rattle.object_store.specs.Tables.{Table, HasNoId}
 use Rattle.object_store.proofs.Keyed.{id_of, rises_from_objects, objects_from_rises}
-use Rattle.object_store.proofs.Rising.{Rises, Parted, parted, insert-at, rises-insert}
+use Rattle.object_store.proofs.Rising.{Rises, added_there}
 use Rattle.object_store.proofs.room_table.RoomTable.insert.Goals as goal
 
 pub invariant_of-self : goal.invariant_of-self
 invariant_of-self c =
-    let id = c.args.object.id in
     let place = c.place-place.result in
     let objects = c.self.inside.objects.items in
-    let same : objects ≡ c.args.self.now.objects = ap (λ (t : Table). t.objects) c.self.view_is in
-    let absent = subst (HasNoId id) (sym same) c.requires.absent in
-    let rises = rises_from_objects objects c.self.invariant.0 in
-    let parts = subst (λ (xs : List Object). Parted id_of id xs place) c.deref.ensures.value (parted id_of id c.deref.result.now place c.place-place.ensures.within c.place-place.ensures.between) in
-    let within : place ≤ length objects = subst (λ (xs : List Object). place ≤ length xs) c.deref.ensures.value c.place-place.ensures.within in
+    let absent = subst (HasNoId c.args.object.id) (sym (ap (λ (t : Table). t.objects) c.self.view_is)) c.requires.absent in
+    let added = added_there id_of c.args.object c.deref.result.now objects place c.deref.ensures.value (rises_from_objects objects c.self.invariant.0) c.place-place.ensures.within c.place-place.ensures.between absent in
     let long : length objects ≡ vec_len c.self.inside.objects = ap length (sym c.deref.ensures.value) ∙ c.deref.ensures.len in
     let spare : c.self.inside.spare ≡ c.args.self.now.spare = ap (λ (t : Table). t.spare) c.self.view_is in
     let room : vec_len c.self.inside.objects < vec_capacity c.self.inside.objects = omega (arith, c.self.invariant.2, c.requires.room) in
     let done : c.insert-full.new.self.items ≡ insert objects place c.args.object = c.insert-full.ensures.items ∙ cond-true _ _ _ (c.insert-full.ensures.succeeds room) in
-    let longer : length (insert objects place c.args.object) ≡ length objects + 1 = length-insert objects place c.args.object within in
-    let count : length c.insert-full.new.self.items ≡ length objects + 1 = ap length done ∙ longer in (
-      objects_from_rises _ (subst (Rises id_of) (sym done) (rises-insert id_of c.args.object objects place rises parts absent)),
+    let count : length c.insert-full.new.self.items ≡ length objects + 1 = ap length done ∙ length-insert objects place c.args.object added.0 in (
+      objects_from_rises _ (subst (Rises id_of) (sym done) added.1),
       omega (arith, c.self.invariant.1, c.requires.room),
       omega (arith, c.self.invariant.2, c.requires.room, c.insert-full.ensures.capacity),
     )
 
 pub returns : goal.returns
 returns c =
-    let id = c.args.object.id in
     let place = c.place-place.result in
     let objects = c.self.inside.objects.items in
-    let same : objects ≡ c.args.self.now.objects = ap (λ (t : Table). t.objects) c.self.view_is in
-    let absent = subst (HasNoId id) (sym same) c.requires.absent in
-    let rises = rises_from_objects objects c.self.invariant.0 in
-    let parts = subst (λ (xs : List Object). Parted id_of id xs place) c.deref.ensures.value (parted id_of id c.deref.result.now place c.place-place.ensures.within c.place-place.ensures.between) in
+    let absent = subst (HasNoId c.args.object.id) (sym (ap (λ (t : Table). t.objects) c.self.view_is)) c.requires.absent in
+    let added = added_there id_of c.args.object c.deref.result.now objects place c.deref.ensures.value (rises_from_objects objects c.self.invariant.0) c.place-place.ensures.within c.place-place.ensures.between absent in
     let long : length objects ≡ vec_len c.self.inside.objects = ap length (sym c.deref.ensures.value) ∙ c.deref.ensures.len in
     let spare : c.self.inside.spare ≡ c.args.self.now.spare = ap (λ (t : Table). t.spare) c.self.view_is in
     let room : vec_len c.self.inside.objects < vec_capacity c.self.inside.objects = omega (arith, c.self.invariant.2, c.requires.room) in
     let done : c.insert-full.new.self.items ≡ insert objects place c.args.object = c.insert-full.ensures.items ∙ cond-true _ _ _ (c.insert-full.ensures.succeeds room) in
-    rw (done ∙ insert-at id_of c.args.object objects place rises parts absent, ← c.self.view_is) refl
+    rw (done ∙ added.2, ← c.self.view_is) refl
