@@ -16,7 +16,7 @@ Parted key n [] (suc i) = ⊥
 Parted key n (x ∷ xs) zero = AllByRecursion (λ y. n ≤ key y) (x ∷ xs)
 Parted key n (x ∷ xs) (suc i) = (key x < n) × Parted key n xs i
 
-pub parted : {X : Type 0} (key : X → ℕ) (n : ℕ) (xs : List X) (i : ℕ) → i ≤ length xs → IsPartitionPoint (λ y. key y < n) (λ y. n ≤ key y) xs i → Parted key n xs i
+parted : {X : Type 0} (key : X → ℕ) (n : ℕ) (xs : List X) (i : ℕ) → i ≤ length xs → IsPartitionPoint (λ y. key y < n) (λ y. n ≤ key y) xs i → Parted key n xs i
 parted key n [] zero within point = tt
 parted key n [] (suc i) within point = absurd (omega arith)
 parted key n (x ∷ xs) zero within point =
@@ -91,7 +91,7 @@ find-at key n (x ∷ xs) (suc i) d rises within here =
     let other : key x ≢ n = λ e. omega arith in
     rw (ne_eqb (key x) n other) (find-at key n xs i d rises.1 lower here)
 
-pub find-absent : {X : Type 0} (key : X → ℕ) (n : ℕ) (xs : List X) (i : ℕ) → Rises key xs → Parted key n xs i → ((d : X) → i < length xs → key (get_or xs i d) ≢ n) → find (λ x. eqb (key x) n) xs ≡ None
+find-absent : {X : Type 0} (key : X → ℕ) (n : ℕ) (xs : List X) (i : ℕ) → Rises key xs → Parted key n xs i → ((d : X) → i < length xs → key (get_or xs i d) ≢ n) → find (λ x. eqb (key x) n) xs ≡ None
 find-absent key n [] i rises parts other = refl
 find-absent key n (x ∷ xs) zero rises parts other =
     let least : n ≤ key x = parts.0 in
@@ -253,3 +253,8 @@ added_there {X} key y seen xs place same rises within point absent =
       rises-insert key y xs place rises parts absent,
       insert-at key y xs place rises parts absent,
     )
+
+-- There no entry of the key stands, if that at the place is none.
+pub absent_there : {X : Type 0} (key : X → ℕ) (n : ℕ) (seen xs : List X) (place : ℕ) → seen ≡ xs → Rises key xs → place ≤ length seen → IsPartitionPoint (λ x. key x < n) (λ x. n ≤ key x) seen place → ((d : X) → place < length xs → key (get_or xs place d) ≢ n) → find (λ x. eqb (key x) n) xs ≡ None
+absent_there {X} key n seen xs place same rises within point other =
+    find-absent key n xs place rises (subst (λ (zs : List X). Parted key n zs place) same (parted key n seen place within point)) other

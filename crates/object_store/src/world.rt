@@ -159,9 +159,11 @@ impl World {
     pub fn account(&self, player: u32) -> Option<&Account>
         ensures { option_map (λ a. a.now) result ≡ find_account player self.now.accounts }
     {
-        self.accounts
-            .iter()
-            .find(|account| account.player == player)
+        let place = account_place(&self.accounts, player);
+        match self.accounts.get(place) {
+            Some(account) if account.player == player => Some(account),
+            _ => None,
+        }
     }
 
     /// The account at a place of the list, from 0 on.
