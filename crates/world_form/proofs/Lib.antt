@@ -1,0 +1,4 @@
+pub mod Checks
+pub mod Forms
+pub mod Exact
+pub mod Said
