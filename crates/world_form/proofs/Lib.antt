@@ -4,3 +4,12 @@ pub mod Exact
 pub mod Said
 pub mod SaidOnce
 pub mod OneThing
+pub mod Clear
+pub mod Legible
+pub mod Standing
+pub mod Ranges
+pub mod InFile
+pub mod Sizes
+pub mod Written
+pub mod Short
+pub mod ReadBack
