@@ -1,7 +1,14 @@
 // The byte forms of rooms and accounts, both ways.
 #![tactic(auto)]
-ghost use Rattle.std.specs.Prelude.{◌≡◌, ◌++◌, OnOk};
-ghost use Rattle.world_bytes.specs.Forms.{room_bytes};
 
-/// Placeholder until the crate is written.
-pub fn nothing() {}
+mod fault;
+mod laws;
+mod object;
+mod read;
+mod write;
+
+pub use fault::BytesFault;
+pub use laws::forms_are_one;
+pub use read::{read_account, read_room};
+pub use std::alloc::AllocError as NoMemory;
+pub use write::{write_account, write_room};

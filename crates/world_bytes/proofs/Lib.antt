@@ -1,0 +1,5 @@
+pub mod Fields
+pub mod Lists
+pub mod Rooms
+pub mod Words
+pub mod Written
