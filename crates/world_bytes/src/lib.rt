@@ -12,3 +12,6 @@ pub use laws::forms_are_one;
 pub use read::{read_account, read_room};
 pub use std::alloc::AllocError as NoMemory;
 pub use write::{write_account, write_room};
+
+#[cfg(test)]
+mod tests;
