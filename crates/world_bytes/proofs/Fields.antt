@@ -1,5 +1,5 @@
 -- The groups of an object's fields, and objects, at the front of the same bytes.
-use Rattle.std.proofs.Common.{◌≡◌, ℕ, zero, suc, get_or, subst, ◌+◌, ◌<◌, ◌≤◌, ◌^◌, true, List, [], ◌∷◌, ◌++◌, map, length, sym, ap, ◌∙◌, refl, arith, length-append}
+use Rattle.std.proofs.Common.{◌≡◌, ℕ, zero, suc, get_or, subst, ◌+◌, ◌<◌, ◌≤◌, ◌^◌, List, [], ◌∷◌, ◌++◌, map, length, sym, ap, ◌∙◌, refl, arith, length-append}
 use Rattle.std.proofs.lemmas.List.{length-map}
 use Rattle.byteorder.specs.Endian.{little_bytes}
 use Rattle.game_tables.specs.Numbers.{kind_number, part_number}
@@ -10,7 +10,7 @@ use Rattle.object_store.specs.declared.object.Object.{Object}
 use Rattle.world_bytes.specs.declared.object.Head.{Head}
 use Rattle.world_bytes.specs.declared.object.Counts.{Counts}
 use Rattle.world_bytes.specs.Forms.{HasObjectForm, object_bytes}
-use Rattle.world_bytes.specs.Rows.{Leads, LeadsNone, HasHeadForm, head_row, head_of, HasCountsForm, counts_row, counts_of, HasBodyForm, body_row, object_row}
+use Rattle.world_bytes.specs.Rows.{Leads, HasHeadForm, head_row, head_of, HasCountsForm, counts_row, counts_of, HasBodyForm, body_row, object_row}
 use Rattle.world_bytes.proofs.Words.{text_one, behind_word, word_short, behind_byte}
 
 -- ---- what an object is

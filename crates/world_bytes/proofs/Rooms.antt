@@ -1,13 +1,13 @@
 -- Rooms and accounts at the front of the same bytes.
-use Rattle.std.proofs.Common.{◌≡◌, ℕ, zero, suc, ◌+◌, ◌-◌, ◌<◌, ◌≤◌, ◌^◌, List, [], ◌∷◌, ◌++◌, length, get_or, sym, subst, ap, ◌∙◌, refl, arith, length-append}
+use Rattle.std.proofs.Common.{◌≡◌, ℕ, suc, ◌<◌, ◌≤◌, ◌^◌, List, [], ◌∷◌, ◌++◌, length, get_or, sym, subst, ap, ◌∙◌, refl, arith, length-append}
 use Rattle.std.specs.List.{AllByRecursion}
-use Rattle.byte_fields.specs.Front.{Begins, BeginsNone, BeginsOnly}
+use Rattle.byte_fields.specs.Front.{Begins, BeginsNone}
 use Rattle.byteorder.specs.Endian.{little_bytes}
-use Rattle.object_store.specs.Tables.{Table, IsRising}
+use Rattle.object_store.specs.Tables.{Table}
 use Rattle.object_store.specs.declared.account.Account.{Account}
 use Rattle.object_store.specs.declared.object.Object.{Object}
 use Rattle.world_bytes.specs.Forms.{HasAccountForm, HasRoomForm, SpellsAccount, SpellsRoom, account_bytes, room_bytes}
-use Rattle.world_bytes.specs.Rows.{Leads, LeadsNone, AreObjects, objects_row, HasMemoryForm, memory_row}
+use Rattle.world_bytes.specs.Rows.{Leads, AreObjects, objects_row, HasMemoryForm, memory_row}
 use Rattle.world_bytes.proofs.Words.{text_one, behind_word, word_short}
 use Rattle.world_bytes.proofs.Lists.{objects_one}
 

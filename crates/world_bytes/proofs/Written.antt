@@ -1,5 +1,5 @@
 -- What was written, piece by piece.
-use Rattle.std.proofs.Common.{◌≡◌, ℕ, ◌+◌, ◌%◌, ◌/◌, ◌^◌, ◌≤◌, List, [], ◌∷◌, ◌++◌, length, take, map, sym, ap, ◌∙◌, refl, arith, append_assoc, length-append, if◌then◌else◌, is_ok, OnOk, Result, Ok, Err}
+use Rattle.std.proofs.Common.{◌≡◌, ℕ, ◌%◌, ◌/◌, ◌^◌, ◌≤◌, List, [], ◌∷◌, ◌++◌, length, take, map, sym, ap, ◌∙◌, refl, arith, append_assoc, length-append, if◌then◌else◌, is_ok, OnOk, Result, Ok, Err}
 use Rattle.std.proofs.lemmas.List.{append-nil, take-take, take_at, take_all}
 use Rattle.std.specs.List.{flat_map}
 use Rattle.byteorder.specs.Endian.{little_bytes}

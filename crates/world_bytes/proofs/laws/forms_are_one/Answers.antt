@@ -1,4 +1,3 @@
-use Rattle.std.proofs.Common.{refl}
 use Rattle.world_bytes.proofs.Rooms.{room_one, account_one, room_written}
 use Rattle.world_bytes.proofs.laws.forms_are_one.Goals as goal
 

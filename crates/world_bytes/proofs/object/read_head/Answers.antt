@@ -1,4 +1,4 @@
-use Rattle.std.proofs.Common.{List, ℕ, refl, rules}
+use Rattle.std.proofs.Common.{rules}
 use Rattle.std.proofs.lemmas.Result.{err_from_is_err_and}
 use Rattle.world_bytes.proofs.Words.{behind_byte, word_short}
 use Rattle.world_bytes.proofs.Fields.{head_short, head_behind_id, head_whole}

@@ -1,4 +1,3 @@
-use Rattle.std.proofs.Common.{rules}
 use Rattle.std.proofs.lemmas.Result.{on_ok_weaker}
 use Rattle.world_bytes.specs.Rows.{head_of}
 use Rattle.world_bytes.proofs.Written.{head_written}

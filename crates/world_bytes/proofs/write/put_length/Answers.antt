@@ -1,5 +1,3 @@
-use Rattle.std.proofs.Common.{rules}
-use Rattle.std.proofs.lemmas.Result.{on_ok_weaker}
 use Rattle.world_bytes.proofs.Written.{low_part}
 use Rattle.world_bytes.proofs.write.put_length.Goals as goal
 

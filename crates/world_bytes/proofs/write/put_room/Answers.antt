@@ -1,4 +1,3 @@
-use Rattle.std.proofs.Common.{ap, sym, ◌∙◌, ◌≡◌, ◌++◌, ℕ, List}
 use Rattle.std.proofs.lemmas.Result.{on_ok_weaker, on_err_weaker}
 use Rattle.world_bytes.proofs.Written.{room_is_written, room_is_kept}
 use Rattle.world_bytes.proofs.write.put_room.Goals as goal
