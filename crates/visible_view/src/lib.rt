@@ -1,0 +1,2 @@
+// What a player sees of the world.
+#![tactic(auto)]
