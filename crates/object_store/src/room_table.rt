@@ -182,6 +182,7 @@ impl RoomTable {
         ensures { self.new ≡ record self.old { objects = with_new object self.old.objects; spare = self.old.spare - 1 } }
     {
         let place = place(&self.objects, object.id);
+        // It has memory for one more, so this is never refused.
         let _full = self.objects.insert(place, object);
         self.spare -= 1;
     }

@@ -1,4 +1,4 @@
-use Rattle.std.proofs.Common.{◌≡◌, ◌<◌, ◌+◌, List, length, sym, ap, subst, refl, arith, length-set}
+use Rattle.std.proofs.Common.{length, sym, ap, subst, refl, arith, length-set}
 use Rattle.object_store.specs.declared.object.Object.{Object}
 use Rattle.object_store.specs.Tables.{Table, HasId}
 use Rattle.object_store.proofs.Keyed.{id_of, rises_from_objects, objects_from_rises}

@@ -1,4 +1,4 @@
-use Rattle.std.proofs.Common.{◌≡◌, ◌<◌, ◌+◌, List, length, sym, ap, subst, refl, arith, length-set}
+use Rattle.std.proofs.Common.{length, sym, ap, subst, refl, arith, length-set}
 use Rattle.object_store.specs.declared.account.Account.{Account}
 use Rattle.object_store.specs.Stored.{Stored, HasAccount}
 use Rattle.object_store.proofs.Keyed.{player_of, rises_from_accounts, accounts_from_rises}
