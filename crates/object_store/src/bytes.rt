@@ -37,6 +37,13 @@ impl Bytes {
         })
     }
 
+    /// These bytes. It takes no memory.
+    pub fn from_vec(list: Vec<u8>) -> Bytes
+        ensures { result ≡ list.items }
+    {
+        Bytes { list }
+    }
+
     /// The number of bytes.
     pub fn len(&self) -> u64
         ensures { result ≡ length self.now }
@@ -63,6 +70,13 @@ impl Bytes {
         ensures err { OnErr result (self.new ≡ self.old) }
     {
         Ok(self.list.push(entry)?)
+    }
+
+    /// The bytes in a vector. It takes no memory.
+    pub fn into_vec(self) -> Vec<u8>
+        ensures { result.items ≡ self }
+    {
+        self.list
     }
 
     /// The whole list.

@@ -54,6 +54,8 @@ fn bytes_are_a_list(rt: HostRuntime) -> Result<(), Fail> {
     assert_eq!(rt; bytes.nth(3).copied(), None);
     assert_eq!(rt; bytes.as_slice(), b"abc".as_slice());
     assert!(rt; Bytes::new(rt.alloc()).is_empty());
+    let same = Bytes::from_vec(bytes.into_vec());
+    assert_eq!(rt; same.as_slice(), b"abc".as_slice());
     Ok(())
 }
 
