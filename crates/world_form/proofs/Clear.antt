@@ -1,10 +1,9 @@
 -- Texts of letters, digits and '_', which JSON writes as they are.
-use Rattle.std.proofs.Common.{◌≡◌, ℕ, ◌+◌, ◌/◌, ◌%◌, ◌^◌, ◌<◌, ◌≤◌, ◌&&◌, ◌||◌, nat_lt, Bool, true, ℤ, pos, negsuc, List, [], ◌∷◌, ◌++◌, map, length, decimal, IsUtf8, refl, ap, ap₂, subst, sym, ◌∙◌, arith, length-append}
+use Rattle.std.proofs.Common.{◌≡◌, ℕ, ◌+◌, ◌/◌, ◌%◌, ◌^◌, ◌<◌, ◌&&◌, ◌||◌, nat_lt, Bool, true, ℤ, pos, negsuc, List, [], ◌∷◌, ◌++◌, map, length, decimal, IsUtf8, refl, ap, ap₂, arith, length-append}
 use Rattle.std.specs.List.{AllByRecursion}
 use Rattle.std.proofs.lemmas.Bool.{and_parts, and_from, lt-ltb}
 use Rattle.std.proofs.lemmas.Bool.Decides.{nat_tests}
 use Rattle.std.proofs.lemmas.Fmt.{decimal_by_steps}
-use Rattle.std.proofs.lemmas.Str.{IsUtf8-append}
 use Rattle.json.specs.Print.{escape_byte, escape, quoted}
 use Rattle.json.proofs.Printed.Strings.{escape_byte_plain}
 use Rattle.json.proofs.Printed.Utf8.{are_ascii, IsUtf8-are_ascii, IsUtf8-quoted}

@@ -1,16 +1,16 @@
 -- Each check of a world file fails with one fault, and only where it doesn't hold.
-use Rattle.std.proofs.Common.{◌≡◌, ℕ, ◌-◌, ◌^◌, ◌++◌, false, refl, sym, ap, subst, ◌∙◌, inl, inr}
+use Rattle.std.proofs.Common.{◌≡◌, ℕ, false, sym, ap, subst, ◌∙◌, inl, inr}
 use Rattle.serde_json.specs.Data.{Data}
 use Rattle.serde_json.specs.Find.{get}
 use Rattle.game_tables.specs.Kinds.{in_rules}
-use Rattle.world_form.specs.declared.fault.WorldFault.{WorldFault}
 use Rattle.world_form.specs.declared.fault.WorldFault.TheVariants.{NotBuilt}
 use Rattle.world_form.specs.declared.field.Field.{Field}
 use Rattle.world_form.specs.declared.field.Field.TheVariants as fields
 use Rattle.world_form.specs.Keys.{key}
-use Rattle.world_form.specs.Facts.{Requires, IsWhole, IsWhole32, IsWhole53, IsList, IsKindText, IsBodyList, IsNameText, IsTerrainText, IsTokenText, IsMemoryText}
-use Rattle.world_form.specs.FirstFaults.{IsAbsent, IsFormed, IsMalformed, required, optional, known_kind, each_from, values_at, object_checks, room_checks, player_checks, world_checks}
-use Rattle.world_form.proofs.Checks.{IsExact, AreExact, exact_append, each_exact}
+use Rattle.world_form.specs.Facts.{IsKindText}
+use Rattle.world_form.specs.FirstFaults.{IsAbsent, IsFormed, IsMalformed, required, optional, known_kind, world_checks}
+use Rattle.world_form.proofs.Checks.{IsExact, AllOf, all_of_append}
+use Rattle.world_form.proofs.EachCheck.{IsOfKinds, world_such}
 use Rattle.world_form.proofs.Forms.{some_none, one_some, true_false, kind_one, required_one}
 
 absent_apart : {A : Type 0} (field : Field) (Form : Data → A → Type 0) (part : Data) → IsFormed field Form part → IsAbsent field part → ⊥
@@ -24,7 +24,7 @@ malformed_apart field Form part formed bad =
 absent_or_malformed : {A : Type 0} (field : Field) (Form : Data → A → Type 0) (part : Data) → IsAbsent field part → IsMalformed field Form part → ⊥
 absent_or_malformed field Form part absent bad = some_none (get (key field) part) bad.0 bad.1 absent
 
-pub required_exact : {A : Type 0} (field : Field) (Form : Data → A → Type 0) (place : ℕ) (part : Data) → IsExact (required field Form place part)
+required_exact : {A : Type 0} (field : Field) (Form : Data → A → Type 0) (place : ℕ) (part : Data) → IsExact (required field Form place part)
 required_exact field Form place part = record {
   one = λ fault other fails also. elim fails [
     | inl here ↦ elim also [ inl there ↦ here.1 ∙ sym there.1 | inr there ↦ absurd (absent_or_malformed field Form part here.0 there.0) ]
@@ -33,13 +33,13 @@ required_exact field Form place part = record {
   apart = λ fault formed fails. elim fails [ inl here ↦ absent_apart field Form part formed here.0 | inr here ↦ malformed_apart field Form part formed here.0 ];
 }
 
-pub optional_exact : {A : Type 0} (field : Field) (Form : Data → A → Type 0) (place : ℕ) (part : Data) → IsExact (optional field Form place part)
+optional_exact : {A : Type 0} (field : Field) (Form : Data → A → Type 0) (place : ℕ) (part : Data) → IsExact (optional field Form place part)
 optional_exact field Form place part = record {
   one = λ fault other fails also. fails.1 ∙ sym also.1;
   apart = λ fault holds fails. elim holds [ inl formed ↦ malformed_apart field Form part formed fails.0 | inr absent ↦ absent_or_malformed field Form part absent fails.0 ];
 }
 
-pub known_kind_exact : (part : Data) → IsExact (known_kind part)
+known_kind_exact : (part : Data) → IsExact (known_kind part)
 known_kind_exact part = record {
   one = λ fault other fails also. fails.3 ∙ ap NotBuilt (required_one fields.Kind IsKindText kind_one part fails.0 also.0 fails.1 also.1) ∙ sym also.3;
   apart = λ fault holds fails.
@@ -47,90 +47,14 @@ known_kind_exact part = record {
       true_false (in_rules holds.0 1) holds.2 (subst (λ kind. in_rules kind 1 ≡ false) same fails.2);
 }
 
-object_exact : (place : ℕ) (part : Data) → AreExact (object_checks place part)
-object_exact place part = (
-  required_exact fields.Id (IsWhole 1 (2 ^ 53)) place part,
-  (
-    required_exact fields.Kind IsKindText place part,
-    (
-      known_kind_exact part,
-      (
-        required_exact fields.X (IsWhole 0 49) place part,
-        (
-          required_exact fields.Y (IsWhole 0 49) place part,
-          (
-            optional_exact fields.Owner IsWhole32 place part,
-            (
-              optional_exact fields.Body IsBodyList place part,
-              (
-                optional_exact fields.Hits IsWhole32 place part,
-                (
-                  optional_exact fields.Energy IsWhole53 place part,
-                  (
-                    optional_exact fields.Timer IsWhole32 place part,
-                    (
-                      optional_exact fields.Extra IsWhole32 place part,
-                      (
-                        optional_exact fields.Progress IsWhole53 place part,
-                        (
-                          optional_exact fields.Other IsWhole32 place part,
-                          (optional_exact fields.OtherTicks IsWhole32 place part, tt),
-                        ),
-                      ),
-                    ),
-                  ),
-                ),
-              ),
-            ),
-          ),
-        ),
-      ),
-    ),
-  ),
-)
+all_exact : IsOfKinds (AllOf IsExact)
+all_exact = record {
+  nothing = tt;
+  joined = all_of_append IsExact;
+  of_required = λ A field Form place part. (required_exact field Form place part, tt);
+  of_optional = λ A field Form place part. (optional_exact field Form place part, tt);
+  of_kind = λ place part. (required_exact fields.Kind IsKindText place part, (known_kind_exact part, tt));
+}
 
-room_exact : (place : ℕ) (part : Data) → AreExact (room_checks place part)
-room_exact place part = (
-  required_exact fields.Name IsNameText place part,
-  (
-    required_exact fields.Terrain IsTerrainText place part,
-    (
-      required_exact fields.Next (IsWhole 1 (2 ^ 32 - 1)) place part,
-      (
-        required_exact fields.Objects IsList place part,
-        each_exact object_checks object_exact 0 (values_at fields.Objects part),
-      ),
-    ),
-  ),
-)
-
-player_exact : (place : ℕ) (part : Data) → AreExact (player_checks place part)
-player_exact place part = (
-  required_exact fields.Player _ place part,
-  (
-    optional_exact fields.Token IsTokenText place part,
-    (
-      required_exact fields.Limit _ place part,
-      (
-        optional_exact fields.Bucket _ place part,
-        (
-          optional_exact fields.Points _ place part,
-          (optional_exact fields.Memory IsMemoryText place part, tt),
-        ),
-      ),
-    ),
-  ),
-)
-
-pub world_exact : (part : Data) → AreExact (world_checks part)
-world_exact part = (
-  required_exact fields.Version (IsWhole 1 1) 0 part,
-  (
-    required_exact fields.Tick IsWhole53 0 part,
-    (
-      required_exact fields.Rooms IsList 0 part,
-      exact_append (each_from room_checks 0 (values_at fields.Rooms part)) _ (each_exact room_checks room_exact 0 (values_at fields.Rooms part))
-          (optional_exact fields.Players IsList 0 part, each_exact player_checks player_exact 0 (values_at fields.Players part)),
-    ),
-  ),
-)
+pub world_exact : (part : Data) → AllOf IsExact (world_checks part)
+world_exact = world_such (AllOf IsExact) all_exact

@@ -1,15 +1,13 @@
 -- A value says one thing at most, by each form.
-use Rattle.std.proofs.Common.{◌≡◌, ℕ, ◌/◌, ◌%◌, ◌^◌, ◌<◌, Bool, true, false, List, [], ◌∷◌, map, length, Option, Some, None, refl, sym, ap, subst, ◌∙◌, arith, inl, inr}
+use Rattle.std.proofs.Common.{◌≡◌, ℕ, ◌/◌, ◌%◌, ◌^◌, ◌<◌, Bool, true, false, List, [], ◌∷◌, map, Option, Some, None, refl, sym, subst, ◌∙◌, arith, inl, inr}
 use Rattle.std.specs.List.{AllByRecursion}
 use Rattle.std.proofs.lemmas.Bool.Decides.{nat_tests}
 use Rattle.serde_json.specs.Data.{Data, number, unsigned, string, array, Items, no_items, item}
 use Rattle.serde_json.specs.Find.{get}
 use Rattle.serde_json.specs.View.{items_of}
-use Rattle.game_tables.specs.declared.kind.Kind.{Kind}
 use Rattle.game_tables.specs.declared.kind.Part.{Part}
-use Rattle.game_tables.specs.Texts.{kind_text, part_text}
+use Rattle.game_tables.specs.Texts.{part_text}
 use Rattle.game_tables.proofs.Texts.{kind_text_injective, part_text_injective}
-use Rattle.room_terrain.specs.declared.name.RoomName.{RoomName}
 use Rattle.room_terrain.specs.declared.terrain.Ground.{Ground}
 use Rattle.room_terrain.specs.declared.terrain.Ground.TheVariants.{Plain, Wall, Swamp}
 use Rattle.room_terrain.specs.Names.{Names}
@@ -17,7 +15,7 @@ use Rattle.room_terrain.proofs.Unique.{one_name}
 use Rattle.world_form.specs.declared.field.Field.{Field}
 use Rattle.world_form.specs.Keys.{key}
 use Rattle.world_form.specs.Digits.{ground_digit, hex_digit, hex}
-use Rattle.world_form.specs.Facts.{IsWhole, IsList, IsKindText, IsBodyList, IsNameText, IsTerrainText, IsTokenText, IsMemoryText, Requires, Defaults, SayEach, IsListOf}
+use Rattle.world_form.specs.Facts.{IsWhole, IsKindText, IsBodyList, IsNameText, IsTerrainText, IsTokenText, IsMemoryText, Requires, Defaults, SayEach, IsListOf}
 
 -- ---- constructors
 
@@ -47,9 +45,6 @@ IsOne {A} Form = (value : Data) (said other : A) → Form value said → Form va
 
 pub whole_one : (low high : ℕ) → IsOne (IsWhole low high)
 whole_one low high value n m one other = one_whole n m (sym one.0 ∙ other.0)
-
-pub list_one : IsOne IsList
-list_one value values others one other = one_array values others (sym one ∙ other)
 
 pub kind_one : IsOne IsKindText
 kind_one value kind other one two = kind_text_injective kind other (one_text _ _ (sym one ∙ two))

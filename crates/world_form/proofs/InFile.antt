@@ -12,11 +12,10 @@ use Rattle.game_tables.specs.Kinds.{in_rules}
 use Rattle.game_tables.specs.Limits.{rooms_bound, objects_bound, players_bound}
 use Rattle.object_store.specs.declared.object.Object.{Object}
 use Rattle.object_store.specs.declared.account.Account.{Account}
-use Rattle.object_store.specs.declared.world.Room.{Room}
 use Rattle.object_store.specs.Stored.{Stored}
 use Rattle.world_rules.specs.declared.rule.Rule.TheVariants as rules
-use Rattle.world_rules.specs.World.{Frame, ListedRoom, Listing, placed, world_listed, listed_room, listing_of}
-use Rattle.world_rules.specs.Rules.{KeepsRules, HasNoBirth, IsPlayer, IsInRangeAs}
+use Rattle.world_rules.specs.World.{Frame, ListedRoom, Listing, placed, world_listed, listing_of}
+use Rattle.world_rules.specs.Rules.{KeepsRules, HasNoBirth, IsPlayer}
 use Rattle.world_form.specs.Written.{IsWritableAccount, IsWritable}
 use Rattle.world_form.proofs.Forms.{some_none}
 use Rattle.world_form.proofs.Standing.{all_weaker, StandsThere, objects_stand}

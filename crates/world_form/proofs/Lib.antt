@@ -1,6 +1,9 @@
 pub mod Checks
+pub mod Pushed
 pub mod Forms
+pub mod EachCheck
 pub mod Exact
+pub mod Decided
 pub mod Said
 pub mod SaidOnce
 pub mod OneThing

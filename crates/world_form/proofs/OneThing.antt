@@ -1,5 +1,5 @@
 -- A file's bytes say one thing: they pass checks of their length, their text, their keys and their rules, one after another.
-use Rattle.std.proofs.Common.{◌≡◌, ◌≢◌, ℕ, ◌^◌, ◌<◌, ◌≤◌, ◌==◌, cond, List, [], ◌∷◌, length, refl, sym, ap, subst, ◌∙◌, inl, inr, ◌⊎◌, arith}
+use Rattle.std.proofs.Common.{◌≡◌, ◌≢◌, ℕ, zero, suc, ◌^◌, ◌<◌, ◌==◌, cond, List, [], ◌∷◌, length, refl, sym, ap, subst, ◌∙◌, inl, inr, ◌⊎◌, arith}
 use Rattle.std.proofs.lemmas.Bool.{cases_lt, cases_eq}
 use Rattle.serde_json.specs.Data.{Data}
 use Rattle.serde_json.specs.Read.{read}
@@ -11,11 +11,12 @@ use Rattle.world_form.specs.declared.fault.WorldFault.{WorldFault}
 use Rattle.world_form.specs.declared.fault.WorldFault.TheVariants as faults
 use Rattle.world_form.specs.Facts.{Filed, SaysWorld, filed_listing}
 use Rattle.world_form.specs.FirstFaults.{Check, IsFirst, AllHold, world_checks}
-use Rattle.world_form.specs.Files.{IsJson, IsShort, HasValue, Says, Lists, HasKeyFault, HasFault}
-use Rattle.world_form.proofs.Checks.{IsExact, AreExact, one_first, no_first}
+use Rattle.world_form.specs.Files.{IsJson, IsShort, Says, Lists, HasKeyFault, HasFault}
+use Rattle.world_form.proofs.Checks.{IsExact, AllOf, one_first, no_first, IsDecided, AreDecided, some_first}
 use Rattle.world_form.proofs.Forms.{one_some}
 use Rattle.world_form.proofs.Exact.{world_exact}
-use Rattle.world_form.proofs.Said.{world_holds}
+use Rattle.world_form.proofs.Decided.{IsOfKey, first_of_key, some_key_fault}
+use Rattle.world_form.proofs.Said.{world_holds, world_held}
 use Rattle.world_form.proofs.SaidOnce.{world_one}
 
 -- ---- one value, and one world
@@ -123,7 +124,7 @@ rules_exact bytes = record {
       keeps fails.0 fails.1 fails.4.broken;
 }
 
-file_exact : (bytes : List ℕ) → AreExact (file_checks bytes)
+file_exact : (bytes : List ℕ) → AllOf IsExact (file_checks bytes)
 file_exact bytes = (short_exact bytes, (json_exact bytes, (keys_exact bytes, (rules_exact bytes, tt))))
 
 -- ---- what a file says, by these checks
@@ -163,3 +164,65 @@ one_fault bytes one other some also here there =
       | inl memory ↦ absurd (some memory)
       | inr first ↦ elim (fault_first bytes other there) [ inl memory ↦ absurd (also memory) | inr second ↦ one_first (file_checks bytes) one other (file_exact bytes) first second ]
     ]
+
+-- ---- a file says something
+
+module _ (listing : Listing) (none : (rule : Rule) (n : ℕ) → IsFirstBroken rule n listing → ⊥) where
+  number_kept : (rule : Rule) → ((other : Rule) (m : ℕ) → rule_place other < rule_place rule → Broken other m listing → ⊥) → (bound n : ℕ) → n < bound → Broken rule n listing → ⊥
+  number_kept rule earlier zero n less broken = absurd (omega arith)
+  number_kept rule earlier (suc bound) n less broken = none rule n (record { broken = broken; earlier = earlier; least = λ m lesser. number_kept rule earlier bound m (omega arith) })
+
+  rule_kept : (bound : ℕ) (rule : Rule) (n : ℕ) → rule_place rule < bound → Broken rule n listing → ⊥
+  rule_kept zero rule n less broken = absurd (omega arith)
+  rule_kept (suc bound) rule n less broken = number_kept rule (λ other m lesser. rule_kept bound other m (omega arith)) (suc n) n (omega arith) broken
+
+  -- where no rule is the first broken one, none is broken
+  all_kept : KeepsRules listing
+  all_kept rule n = rule_kept (suc (rule_place rule)) rule n (omega arith)
+
+short_decided : (bytes : List ℕ) → IsDecided (short_check bytes)
+short_decided bytes = λ not none. elim (cases_lt (2 ^ 26) (length bytes)) [ inl long ↦ none faults.TooLong (long, refl) | inr short ↦ not short ]
+
+json_decided : (bytes : List ℕ) → IsDecided (json_check bytes)
+json_decided bytes = λ not none. none faults.NotJson ((λ value is. not (value, is)), refl)
+
+keys_decided : (bytes : List ℕ) → IsShort bytes → (value : Data) → IsJson bytes value → IsDecided (keys_check bytes)
+keys_decided bytes short value is = λ not none. some_key_fault value (λ all. not (value, is, all)) (λ fault first. none fault (value, (short, is), first))
+
+rules_decided : (bytes : List ℕ) → IsShort bytes → (value : Data) → IsJson bytes value → AllHold (world_checks value) → IsDecided (rules_check bytes)
+rules_decided bytes short value is all =
+    let said = world_held value all in
+    let says : Says bytes said.0 = (value, (short, is), said.1) in
+    λ not none. not (said.0, (says, all_kept (filed_listing said.0) (λ rule n broken. none (faults.Rule rule n) (rule, n, said.0, says, broken, refl))))
+
+file_decided : (bytes : List ℕ) → AreDecided (file_checks bytes)
+file_decided bytes = (
+  short_decided bytes,
+  λ short. (
+    json_decided bytes,
+    λ json.
+        (keys_decided bytes short json.0 json.1, λ keys. (rules_decided bytes short keys.0 keys.1 keys.2, λ _. tt)),
+  ),
+)
+
+key_fault : (bytes : List ℕ) (fault : WorldFault) → IsOfKey fault → HasKeyFault bytes fault → (fault ≢ faults.Memory) × HasFault bytes fault
+key_fault bytes faults.TooLong of has = absurd of
+key_fault bytes faults.NotJson of has = absurd of
+key_fault bytes (faults.Missing field) of has = (λ e. cc, has)
+key_fault bytes (faults.BadValue field place) of has = (λ e. cc, has)
+key_fault bytes (faults.NotBuilt kind) of has = (λ e. cc, has)
+key_fault bytes (faults.Rule rule n) of has = absurd of
+key_fault bytes faults.Memory of has = absurd of
+
+-- what fails first is a fault of the bytes
+first_fault : (bytes : List ℕ) (fault : WorldFault) → IsFirst (file_checks bytes) fault → (fault ≢ faults.Memory) × HasFault bytes fault
+first_fault bytes fault (inl long) = subst (λ fault. (fault ≢ faults.Memory) × HasFault bytes fault) (sym long.1) (λ e. cc, long.0)
+first_fault bytes fault (inr (short, inl text)) = subst (λ fault. (fault ≢ faults.Memory) × HasFault bytes fault) (sym text.1) (λ e. cc, (short, text.0))
+first_fault bytes fault (inr (short, inr (json, inl has))) = key_fault bytes fault (first_of_key has.0 fault has.2) has
+first_fault bytes fault (inr (short, inr (json, inr (keys, inl broken)))) = subst (λ fault. (fault ≢ faults.Memory) × HasFault bytes fault) (sym broken.5) (λ e. cc, (broken.2, broken.3, broken.4))
+first_fault bytes fault (inr (short, inr (json, inr (keys, inr (lists, none))))) = absurd none
+
+-- a file is accepted, or it has a fault
+pub some_answer : (bytes : List ℕ) → ((filed : Filed) → Lists bytes filed → ⊥) → ((fault : WorldFault) → fault ≢ faults.Memory → HasFault bytes fault → ⊥) → ⊥
+some_answer bytes refused none =
+    some_first (file_checks bytes) (file_decided bytes) (λ all. let lists = all.1.1.1.0 in refused lists.0 lists.1) (λ fault first. let is = first_fault bytes fault first in none fault is.0 is.1)

@@ -1,5 +1,5 @@
 -- The ranges of each kind's fields are within a file's.
-use Rattle.std.proofs.Common.{◌≡◌, ℕ, zero, suc, ◌+◌, ◌-◌, ◌*◌, ◌^◌, ◌≤◌, true, List, [], ◌∷◌, length, Option, Some, None, ap, arith, inl, inr}
+use Rattle.std.proofs.Common.{◌≡◌, ℕ, zero, suc, ◌-◌, ◌*◌, ◌^◌, ◌≤◌, true, List, [], ◌∷◌, length, Option, Some, None, ap, arith, inl, inr}
 use Rattle.std.specs.Prelude.{⊤, slice_index_or}
 use Rattle.std.specs.List.{AllByRecursion}
 use Rattle.std.proofs.lemmas.Bool.{cases_eq, cond_both}
@@ -8,7 +8,7 @@ use Rattle.game_tables.specs.declared.kind.Kind.{Kind}
 use Rattle.game_tables.specs.declared.kind.Kind.TheVariants as kinds
 use Rattle.game_tables.specs.declared.kind.Part.{Part}
 use Rattle.game_tables.specs.declared.kind.Part.TheVariants as parts
-use Rattle.game_tables.specs.Bodies.{parts_bound, has_part, lifetime, part_hits, live_parts, live_count, same_part}
+use Rattle.game_tables.specs.Bodies.{parts_bound, has_part, lifetime, live_parts, live_count, same_part}
 use Rattle.game_tables.specs.Kinds.{in_rules, most_hits, work_to_build}
 use Rattle.game_tables.specs.Fields.{energy_bound, timer_bound}
 use Rattle.game_tables.specs.Levels.{totals, downgrades, total_at, downgrade_at}

@@ -1,5 +1,5 @@
 -- What is written for a world is an accepted file of that world.
-use Rattle.std.proofs.Common.{◌≡◌, ℕ, ◌-◌, ◌^◌, ◌≤◌, List, [], ◌∷◌, length, map, refl, sym, ap, subst, arith, inl, inr}
+use Rattle.std.proofs.Common.{◌≡◌, List, [], ◌∷◌, map, refl, sym, ap, subst, arith, inl, inr}
 use Rattle.std.specs.List.{AllByRecursion}
 use Rattle.serde_json.specs.Data.{Data, string}
 use Rattle.serde_json.specs.View.{items_of}
@@ -9,10 +9,10 @@ use Rattle.object_store.specs.declared.object.Object.{Object}
 use Rattle.object_store.specs.declared.account.Account.{Account}
 use Rattle.object_store.specs.declared.world.Room.{Room}
 use Rattle.object_store.specs.Stored.{Stored}
-use Rattle.world_rules.specs.World.{Listing, listed_room, listing_of}
+use Rattle.world_rules.specs.World.{Listing, listed_room}
 use Rattle.world_rules.specs.Rules.{KeepsRules}
 use Rattle.world_form.specs.Digits.{ground_digit, hex}
-use Rattle.world_form.specs.Facts.{SaysObject, SaysRoom, Player, SaysPlayer, SaysWorld, SayEach, filed_listing}
+use Rattle.world_form.specs.Facts.{SaysObject, SaysRoom, Player, SaysPlayer, SaysWorld, SayEach}
 use Rattle.world_form.specs.Files.{Lists}
 use Rattle.world_form.specs.Written.{whole_data, list_data, object_data, room_data, account_data, world_data, written, IsWritable, IsOfTypes, filed_of}
 use Rattle.world_form.proofs.Legible.{legible_utf8, legible_read}

@@ -1,16 +1,15 @@
 -- The keys say something exactly where all checks hold.
-use Rattle.std.proofs.Common.{◌≡◌, ℕ, ◌-◌, ◌^◌, ◌≤◌, ◌++◌, ◌⊎◌, List, [], Some, option_and_then, refl, sym, ap, subst, ◌∙◌, inl, inr, arith}
-use Rattle.serde_json.specs.Data.{Data, array, Items, no_items}
+use Rattle.std.proofs.Common.{◌≡◌, ℕ, ◌≤◌, ◌⊎◌, List, [], Some, option_and_then, refl, sym, ap, subst, ◌∙◌, inl, inr, arith}
+use Rattle.serde_json.specs.Data.{Data, Items, no_items}
 use Rattle.serde_json.specs.Find.{get, as_array}
 use Rattle.game_tables.specs.Kinds.{most_hits}
-use Rattle.game_tables.specs.Limits.{limit_bound, bucket_bound, points_bound}
+use Rattle.game_tables.specs.Limits.{bucket_bound, points_bound}
 use Rattle.object_store.specs.declared.object.Object.{Object}
-use Rattle.object_store.specs.declared.account.Account.{Account}
-use Rattle.world_rules.specs.World.{Frame, ListedRoom}
+use Rattle.world_rules.specs.World.{ListedRoom}
 use Rattle.world_form.specs.declared.field.Field.{Field}
 use Rattle.world_form.specs.declared.field.Field.TheVariants as fields
 use Rattle.world_form.specs.Keys.{key}
-use Rattle.world_form.specs.Facts.{Requires, Defaults, IsWhole, IsWhole32, IsWhole53, IsList, IsListOf, IsBodyList, IsTokenText, IsMemoryText, SayEach, SaysObject, SaysRoom, Player, SaysPlayer, Filed, SaysWorld}
+use Rattle.world_form.specs.Facts.{Requires, Defaults, IsWhole, IsWhole32, IsWhole53, IsList, IsListOf, IsBodyList, IsTokenText, IsMemoryText, SaysObject, SaysRoom, Player, SaysPlayer, Filed, SaysWorld}
 use Rattle.world_form.specs.FirstFaults.{Check, AllHold, IsAbsent, IsFormed, each_from, values_of, values_at, object_checks, room_checks, player_checks, world_checks}
 use Rattle.world_form.proofs.Checks.{hold_append, hold_front, hold_back, each_hold, each_held}
 
@@ -49,7 +48,7 @@ listed_held field Says checks held part formed hold =
 
 -- ---- what is said passes the checks
 
-object_holds : (place : ℕ) (part : Data) (o : Object) → SaysObject part o → AllHold (object_checks place part)
+pub object_holds : (place : ℕ) (part : Data) (o : Object) → SaysObject part o → AllHold (object_checks place part)
 object_holds place part o s = (
   (o.id, s.id),
   (
@@ -91,12 +90,12 @@ object_holds place part o s = (
   ),
 )
 
-room_holds : (place : ℕ) (part : Data) (room : ListedRoom) → SaysRoom part room → AllHold (room_checks place part)
+pub room_holds : (place : ℕ) (part : Data) (room : ListedRoom) → SaysRoom part room → AllHold (room_checks place part)
 room_holds place part room s =
     let objects = listed_holds fields.Objects SaysObject object_checks object_holds part room.objects s.objects in
     ((room.frame.name, s.name), ((room.frame.grounds, s.terrain), ((room.frame.next, s.next), (objects.0, objects.1))))
 
-player_holds : (place : ℕ) (part : Data) (player : Player) → SaysPlayer part player → AllHold (player_checks place part)
+pub player_holds : (place : ℕ) (part : Data) (player : Player) → SaysPlayer part player → AllHold (player_checks place part)
 player_holds place part player s = (
   (player.account.player, s.number),
   (
@@ -114,7 +113,7 @@ player_holds place part player s = (
   ),
 )
 
-players_hold : (part : Data) (players : List Player) → Defaults fields.Players (IsListOf SaysPlayer) [] part players
+pub players_hold : (part : Data) (players : List Player) → Defaults fields.Players (IsListOf SaysPlayer) [] part players
     → (IsFormed fields.Players IsList part ⊎ IsAbsent fields.Players part) × AllHold (each_from player_checks 0 (values_at fields.Players part))
 players_hold part players (inl there) = let all = listed_holds fields.Players SaysPlayer player_checks player_holds part players there in (inl all.0, all.1)
 players_hold part players (inr absent) = (inr absent.0, subst (λ values. AllHold (each_from player_checks 0 values)) (sym (values_nowhere fields.Players part absent.0)) tt)

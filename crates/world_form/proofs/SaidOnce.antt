@@ -1,13 +1,11 @@
 -- The keys of a file say one world at most.
-use Rattle.std.proofs.Common.{◌≡◌, ℕ, ◌-◌, ◌^◌, List, [], refl, ap₂}
+use Rattle.std.proofs.Common.{◌≡◌, ℕ, ◌-◌, ◌^◌, [], refl, ap₂}
 use Rattle.serde_json.specs.Data.{Data}
 use Rattle.game_tables.specs.Kinds.{most_hits}
 use Rattle.game_tables.specs.Limits.{limit_bound, bucket_bound, points_bound}
-use Rattle.object_store.specs.declared.object.Object.{Object}
-use Rattle.world_rules.specs.World.{ListedRoom}
 use Rattle.world_form.specs.declared.field.Field.{Field}
 use Rattle.world_form.specs.declared.field.Field.TheVariants as fields
-use Rattle.world_form.specs.Facts.{Requires, Defaults, IsWhole, IsWhole32, IsWhole53, IsListOf, IsKindText, IsBodyList, IsNameText, IsTerrainText, IsTokenText, IsMemoryText, SaysObject, SaysRoom, Player, SaysPlayer, Filed, SaysWorld}
+use Rattle.world_form.specs.Facts.{Requires, Defaults, IsWhole, IsWhole32, IsListOf, IsKindText, IsBodyList, IsNameText, IsTerrainText, IsTokenText, IsMemoryText, SaysObject, SaysRoom, SaysPlayer, SaysWorld}
 use Rattle.world_form.proofs.Forms.{IsOne, whole_one, kind_one, body_one, name_one, terrain_one, token_one, memory_one, required_one, default_one, list_of_one}
 
 number_one : (field : Field) (low high : ℕ) (part : Data) (n m : ℕ) → Requires field (IsWhole low high) part n → Requires field (IsWhole low high) part m → n ≡ m

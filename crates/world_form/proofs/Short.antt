@@ -1,9 +1,9 @@
 -- The text of a world that keeps the rules is shorter than a file may be.
-use Rattle.std.proofs.Common.{◌≡◌, ℕ, suc, ◌+◌, ◌*◌, ◌^◌, ◌<◌, ◌≤◌, ℤ, pos, negsuc, List, [], ◌∷◌, ◌++◌, length, map, decimal, arith, length-append}
+use Rattle.std.proofs.Common.{◌≡◌, ℕ, suc, ◌+◌, ◌*◌, ◌≤◌, ℤ, pos, negsuc, List, [], ◌∷◌, length, map, arith, length-append}
 use Rattle.std.specs.List.{AllByRecursion}
 use Rattle.std.proofs.lemmas.Fmt.{length-decimal-le}
 use Rattle.std.proofs.lemmas.List.{length-map}
-use Rattle.serde_json.specs.Data.{Data, string}
+use Rattle.serde_json.specs.Data.{string}
 use Rattle.serde_json.specs.View.{items_of}
 use Rattle.game_tables.specs.declared.kind.Kind.{Kind}
 use Rattle.game_tables.specs.declared.kind.Kind.TheVariants as kinds
@@ -19,7 +19,7 @@ use Rattle.object_store.specs.declared.account.Account.{Account}
 use Rattle.object_store.specs.declared.world.Room.{Room}
 use Rattle.object_store.specs.Stored.{Stored}
 use Rattle.world_rules.specs.World.{Placed, placed, placed_from, listed_room, listing_of}
-use Rattle.world_form.specs.Digits.{ground_digit, hex}
+use Rattle.world_form.specs.Digits.{ground_digit}
 use Rattle.world_form.specs.Files.{IsShort}
 use Rattle.world_form.specs.Written.{object_data, room_data, account_data, world_data, written, IsWritable, IsOfTypes}
 use Rattle.world_form.proofs.Clear.{length-hex}

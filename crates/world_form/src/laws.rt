@@ -19,11 +19,12 @@ pub fn keys_are_checked()
 {}
 
 /// Says that a file's bytes say one thing: one world with its players, or one fault, which is the
-/// first. Want of memory is no fault of the bytes. It does nothing when it runs.
+/// first; and never neither. Want of memory is no fault of the bytes. It does nothing when it runs.
 pub fn a_file_says_one_thing()
     ensures world { (bytes : List ℕ) → (one other : Filed) → Says bytes one → Says bytes other → one ≡ other }
     ensures accepted { (bytes : List ℕ) → (filed : Filed) → (fault : WorldFault) → Lists bytes filed → HasFault bytes fault → fault ≡ WorldFault.Memory }
     ensures fault { (bytes : List ℕ) → (one other : WorldFault) → one ≢ WorldFault.Memory → other ≢ WorldFault.Memory → HasFault bytes one → HasFault bytes other → one ≡ other }
+    ensures something { (bytes : List ℕ) → ((filed : Filed) → Lists bytes filed → ⊥) → ((fault : WorldFault) → fault ≢ WorldFault.Memory → HasFault bytes fault → ⊥) → ⊥ }
 {}
 
 /// Says that the text of a world that keeps the rules is never longer than a file may be, and that it
