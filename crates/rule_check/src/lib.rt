@@ -3,6 +3,8 @@
 #![tactic(auto)]
 
 mod first;
+mod least;
+mod objects;
 mod view;
 
 pub use first::first_broken;

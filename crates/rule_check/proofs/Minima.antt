@@ -1,0 +1,115 @@
+-- The least number that is so.
+use Rattle.std.proofs.Common.{◌≡◌, ℕ, ◌+◌, ◌<◌, ◌≤◌, ◌⊎◌, List, length, get_or, Option, Some, None, min, refl, sym, ap, subst, ◌∙◌, arith, inl, inr}
+use Rattle.std.specs.Prelude.{slice_get}
+use Rattle.std.specs.List.Sorted.{IsNonDecreasingBy}
+use Rattle.std.proofs.lemmas.Bool.{cases_lt}
+use Rattle.std.proofs.lemmas.Option.{same_Some, slice_get_within, get_or_from_slice_get, slice_get_read}
+use Rattle.object_store.specs.declared.object.Object.{Object}
+use Rattle.rule_check.specs.declared.view.RoomView.{RoomView}
+use Rattle.rule_check.specs.Checks.{IsLeast, AnyObject, AnyRoom, RoomAt, lesser_of}
+
+-- what is so in other words has the same least number
+pub least_like : (so other : ℕ → Type 0) (found : Option ℕ) → ((n : ℕ) → so n → other n) → ((n : ℕ) → other n → so n) → IsLeast so found → IsLeast other found
+least_like so other None to from least = λ n is. least n (from n is)
+least_like so other (Some n) to from least = (to n least.0, λ m less is. least.1 m less (from m is))
+
+-- the lesser of two least numbers is the least that is so in either way
+pub least_of_two : (one other so : ℕ → Type 0) → ((n : ℕ) → so n → one n ⊎ other n) → ((n : ℕ) → one n → so n) → ((n : ℕ) → other n → so n)
+    → (a b : Option ℕ) → IsLeast one a → IsLeast other b → IsLeast so (lesser_of a b)
+least_of_two one other so split left right None None first second = λ n is. elim (split n is) [ inl is ↦ first n is | inr is ↦ second n is ]
+least_of_two one other so split left right None (Some n) first second = (right n second.0, λ m less is. elim (split m is) [ inl is ↦ first m is | inr is ↦ second.1 m less is ])
+least_of_two one other so split left right (Some n) None first second = (left n first.0, λ m less is. elim (split m is) [ inl is ↦ first.1 m less is | inr is ↦ second m is ])
+least_of_two one other so split left right (Some m) (Some n) first second =
+    let below : (k : ℕ) → k < min m n → so k → ⊥ = λ k less is. elim (split k is) [ inl is ↦ first.1 k (omega arith) is | inr is ↦ second.1 k (omega arith) is ] in
+    elim (cases_lt m n) [
+      | inl less ↦ (let same : m ≡ min m n = omega arith in subst so same (left m first.0), below)
+      | inr more ↦ (let same : n ≡ min m n = omega arith in subst so same (right n second.0), below)
+    ]
+
+-- ---- places of a list
+
+-- Nothing below this place is so.
+abbrev pub NoneBelow : {A : Type 0} → (ℕ → A → Type 0) → List A → ℕ → Type 0
+NoneBelow {A} so xs i = (k : ℕ) (x : A) → k < i → slice_get xs k ≡ Some x → so k x → ⊥
+
+-- what stands at a place is one
+pub one_at : {A : Type 0} (xs : List A) (i k : ℕ) (x y : A) → i ≡ k → slice_get xs i ≡ Some x → slice_get xs k ≡ Some y → x ≡ y
+one_at xs i k x y same here there = same_Some x y (sym here ∙ ap (slice_get xs) same ∙ there)
+
+pub none_more : {A : Type 0} (so : ℕ → A → Type 0) (xs : List A) (i : ℕ) (x : A) → slice_get xs i ≡ Some x → (so i x → ⊥) → NoneBelow so xs i → NoneBelow so xs (i + 1)
+none_more so xs i x here not none k y less there is =
+    elim (cases_lt k i) [
+      | inl before ↦ none k y before there is
+      | inr after ↦ (
+          let same : k ≡ i = omega arith in
+          let one : y ≡ x = one_at xs k i y x same there here in
+          not (subst (λ (z : _). so i z) one (subst (λ (j : ℕ). so j y) same is))
+          )
+    ]
+
+-- ---- objects in rising id
+
+pub first_is_least : (so : Object → Type 0) (objects : List Object) (i : ℕ) (object : Object) → IsNonDecreasingBy (λ o. o.id) objects → slice_get objects i ≡ Some object → so object
+    → NoneBelow (λ k o. so o) objects i → IsLeast (AnyObject so objects) (Some object.id)
+first_is_least so objects i object up here bad none = (
+  record { index = i; object = object; place = here; id = refl; is = bad },
+  λ m less other.
+  elim (cases_lt other.index i) [
+    | inl before ↦ none other.index other.object before other.place other.is
+    | inr after ↦ (
+        let rises : (get_or objects i object).id ≤ (get_or objects other.index object).id = up i other.index object after (slice_get_within objects other.index other.object other.place) in
+        let low : (get_or objects i object).id ≡ object.id = ap (λ (o : Object). o.id) (get_or_from_slice_get objects i object object here) in
+        let high : (get_or objects other.index object).id ≡ other.object.id = ap (λ (o : Object). o.id) (get_or_from_slice_get objects other.index other.object object other.place) in
+        let named : other.object.id ≡ m = other.id in
+        absurd (omega arith)
+        )
+  ],
+)
+
+pub none_is_least : (so : Object → Type 0) (objects : List Object) (i : ℕ) → length objects ≤ i → NoneBelow (λ k o. so o) objects i → IsLeast (AnyObject so objects) None
+none_is_least so objects i all none n is = let within : is.index < length objects = slice_get_within objects is.index is.object is.place in none is.index is.object (omega arith) is.place is.is
+
+-- ---- rooms
+
+-- One of the rooms below an index is so at this number.
+abbrev pub RoomBelow : (RoomView → ℕ → Type 0) → List RoomView → ℕ → ℕ → Type 0
+RoomBelow so rooms i n = (any : AnyRoom so rooms n) × (any.index < i)
+
+room_split : (so : RoomView → ℕ → Type 0) (rooms : List RoomView) (i : ℕ) (room : RoomView) → slice_get rooms i ≡ Some room → (n : ℕ) → RoomBelow so rooms (i + 1) n → RoomBelow so rooms i n ⊎ so room n
+room_split so rooms i room here n any =
+    let less : any.0.index < i + 1 = any.1 in
+    elim (cases_lt any.0.index i) [
+      | inl before ↦ inl (any.0, before)
+      | inr after ↦ (let same : any.0.index ≡ i = omega arith in inr (subst (λ (r : RoomView). so r n) (one_at rooms any.0.index i any.0.room room same any.0.place here) any.0.is))
+    ]
+
+pub least_more : (so : RoomView → ℕ → Type 0) (rooms : List RoomView) (i : ℕ) (room : RoomView) (least here : Option ℕ) → slice_get rooms i ≡ Some room
+    → IsLeast (RoomBelow so rooms i) least → IsLeast (so room) here → IsLeast (RoomBelow so rooms (i + 1)) (lesser_of least here)
+least_more so rooms i room least here at one other =
+    least_of_two (RoomBelow so rooms i) (so room) (RoomBelow so rooms (i + 1)) (room_split so rooms i room at)
+    (λ n any. (any.0, let less : any.0.index < i = any.1 in omega arith))
+    (λ n is. (record { index = i; room = room; place = at; is = is }, omega arith))
+    least
+    here
+    one
+    other
+
+pub least_start : (so : RoomView → ℕ → Type 0) (rooms : List RoomView) → IsLeast (RoomBelow so rooms 0) None
+least_start so rooms n any = let less : any.0.index < 0 = any.1 in omega arith
+
+pub least_end : (so : RoomView → ℕ → Type 0) (rooms : List RoomView) (i : ℕ) (least : Option ℕ) → length rooms ≤ i → IsLeast (RoomBelow so rooms i) least → IsLeast (AnyRoom so rooms) least
+least_end so rooms i least all is =
+    least_like (RoomBelow so rooms i) (AnyRoom so rooms) least (λ n any. any.0) (λ n any. (any, let within : any.index < length rooms = slice_get_within rooms any.index any.room any.place in omega arith)) is
+
+-- ---- the first room that is so
+
+pub first_room_is_least : (so : ℕ → RoomView → Type 0) (rooms : List RoomView) (i : ℕ) (room : RoomView) → slice_get rooms i ≡ Some room → so i room → NoneBelow so rooms i → IsLeast (RoomAt so rooms) (Some i)
+first_room_is_least so rooms i room here is none = (record { room = room; place = here; is = is }, λ m less at. none m at.room less at.place at.is)
+
+pub no_room_is_least : (so : ℕ → RoomView → Type 0) (rooms : List RoomView) (i : ℕ) → length rooms ≤ i → NoneBelow so rooms i → IsLeast (RoomAt so rooms) None
+no_room_is_least so rooms i all none n at = let within : n < length rooms = slice_get_within rooms n at.room at.place in none n at.room (omega arith) at.place at.is
+
+-- ---- what a loop reads
+
+pub read_at : {A : Type 0} (xs : List A) (i : ℕ) (x : A) → i < length xs → x ≡ get_or xs i x → slice_get xs i ≡ Some x
+read_at xs i x within read = slice_get_read xs (length xs) i x refl within read
