@@ -6,7 +6,7 @@ use Rattle.std.proofs.lemmas.Bool.{cases_lt}
 use Rattle.std.proofs.lemmas.Option.{same_Some, slice_get_within, get_or_from_slice_get, slice_get_read}
 use Rattle.object_store.specs.declared.object.Object.{Object}
 use Rattle.rule_check.specs.declared.view.RoomView.{RoomView}
-use Rattle.rule_check.specs.Checks.{IsLeast, AnyObject, AnyRoom, RoomAt, lesser_of}
+use Rattle.rule_check.specs.Checks.{IsLeast, AnyObject, AnyOf, RoomAt, lesser_of}
 
 -- what is so in other words has the same least number
 pub least_like : (so other : ℕ → Type 0) (found : Option ℕ) → ((n : ℕ) → so n → other n) → ((n : ℕ) → other n → so n) → IsLeast so found → IsLeast other found
@@ -37,13 +37,13 @@ pub one_at : {A : Type 0} (xs : List A) (i k : ℕ) (x y : A) → i ≡ k → sl
 one_at xs i k x y same here there = same_Some x y (sym here ∙ ap (slice_get xs) same ∙ there)
 
 pub none_more : {A : Type 0} (so : ℕ → A → Type 0) (xs : List A) (i : ℕ) (x : A) → slice_get xs i ≡ Some x → (so i x → ⊥) → NoneBelow so xs i → NoneBelow so xs (i + 1)
-none_more so xs i x here not none k y less there is =
+none_more {A} so xs i x here not none k y less there is =
     elim (cases_lt k i) [
       | inl before ↦ none k y before there is
       | inr after ↦ (
           let same : k ≡ i = omega arith in
           let one : y ≡ x = one_at xs k i y x same there here in
-          not (subst (λ (z : _). so i z) one (subst (λ (j : ℕ). so j y) same is))
+          not (subst (λ (z : A). so i z) one (subst (λ (j : ℕ). so j y) same is))
           )
     ]
 
@@ -69,37 +69,34 @@ first_is_least so objects i object up here bad none = (
 pub none_is_least : (so : Object → Type 0) (objects : List Object) (i : ℕ) → length objects ≤ i → NoneBelow (λ k o. so o) objects i → IsLeast (AnyObject so objects) None
 none_is_least so objects i all none n is = let within : is.index < length objects = slice_get_within objects is.index is.object is.place in none is.index is.object (omega arith) is.place is.is
 
--- ---- rooms
+-- ---- one of a list
 
--- One of the rooms below an index is so at this number.
-abbrev pub RoomBelow : (RoomView → ℕ → Type 0) → List RoomView → ℕ → ℕ → Type 0
-RoomBelow so rooms i n = (any : AnyRoom so rooms n) × (any.index < i)
+-- One of those below an index is so at this number.
+abbrev pub AnyBelow : {A : Type 0} → (A → ℕ → Type 0) → List A → ℕ → ℕ → Type 0
+AnyBelow {A} so xs i n = (any : AnyOf so xs n) × (any.index < i)
 
-room_split : (so : RoomView → ℕ → Type 0) (rooms : List RoomView) (i : ℕ) (room : RoomView) → slice_get rooms i ≡ Some room → (n : ℕ) → RoomBelow so rooms (i + 1) n → RoomBelow so rooms i n ⊎ so room n
-room_split so rooms i room here n any =
+any_split : {A : Type 0} (so : A → ℕ → Type 0) (xs : List A) (i : ℕ) (x : A) → slice_get xs i ≡ Some x → (n : ℕ) → AnyBelow so xs (i + 1) n → AnyBelow so xs i n ⊎ so x n
+any_split {A} so xs i x here n any =
     let less : any.0.index < i + 1 = any.1 in
     elim (cases_lt any.0.index i) [
       | inl before ↦ inl (any.0, before)
-      | inr after ↦ (let same : any.0.index ≡ i = omega arith in inr (subst (λ (r : RoomView). so r n) (one_at rooms any.0.index i any.0.room room same any.0.place here) any.0.is))
+      | inr after ↦ (let same : any.0.index ≡ i = omega arith in inr (subst (λ (y : A). so y n) (one_at xs any.0.index i any.0.one x same any.0.place here) any.0.is))
     ]
 
-pub least_more : (so : RoomView → ℕ → Type 0) (rooms : List RoomView) (i : ℕ) (room : RoomView) (least here : Option ℕ) → slice_get rooms i ≡ Some room
-    → IsLeast (RoomBelow so rooms i) least → IsLeast (so room) here → IsLeast (RoomBelow so rooms (i + 1)) (lesser_of least here)
-least_more so rooms i room least here at one other =
-    least_of_two (RoomBelow so rooms i) (so room) (RoomBelow so rooms (i + 1)) (room_split so rooms i room at)
+pub least_more : {A : Type 0} (so : A → ℕ → Type 0) (xs : List A) (i : ℕ) (x : A) (least here : Option ℕ) → slice_get xs i ≡ Some x
+    → IsLeast (AnyBelow so xs i) least → IsLeast (so x) here → IsLeast (AnyBelow so xs (i + 1)) (lesser_of least here)
+least_more so xs i x least here at one other =
+    least_of_two (AnyBelow so xs i) (so x) (AnyBelow so xs (i + 1)) (any_split so xs i x at)
     (λ n any. (any.0, let less : any.0.index < i = any.1 in omega arith))
-    (λ n is. (record { index = i; room = room; place = at; is = is }, omega arith))
+    (λ n is. (record { index = i; one = x; place = at; is = is }, omega arith))
     least
     here
     one
     other
 
-pub least_start : (so : RoomView → ℕ → Type 0) (rooms : List RoomView) → IsLeast (RoomBelow so rooms 0) None
-least_start so rooms n any = let less : any.0.index < 0 = any.1 in omega arith
-
-pub least_end : (so : RoomView → ℕ → Type 0) (rooms : List RoomView) (i : ℕ) (least : Option ℕ) → length rooms ≤ i → IsLeast (RoomBelow so rooms i) least → IsLeast (AnyRoom so rooms) least
-least_end so rooms i least all is =
-    least_like (RoomBelow so rooms i) (AnyRoom so rooms) least (λ n any. any.0) (λ n any. (any, let within : any.index < length rooms = slice_get_within rooms any.index any.room any.place in omega arith)) is
+pub least_end : {A : Type 0} (so : A → ℕ → Type 0) (xs : List A) (i : ℕ) (least : Option ℕ) → length xs ≤ i → IsLeast (AnyBelow so xs i) least → IsLeast (AnyOf so xs) least
+least_end so xs i least all is =
+    least_like (AnyBelow so xs i) (AnyOf so xs) least (λ n any. any.0) (λ n any. (any, let within : any.index < length xs = slice_get_within xs any.index any.one any.place in omega arith)) is
 
 -- ---- the first room that is so
 

@@ -1,6 +1,15 @@
 -- What the single tests look at. For private clauses.
-use Rattle.std.specs.Prelude.{◌≡◌, ℕ, ◌<◌, List, Option, Some, None, slice_get, min}
+use Rattle.std.specs.Prelude.{◌≡◌, ◌≢◌, ℕ, ◌<◌, ◌≤◌, ◌/◌, ◌%◌, ◌^◌, ◌==◌, ◌&&◌, ◌⊎◌, true, false, List, Option, Some, None, length, map, slice_get, min, sum_by, count_by}
+use Rattle.std.specs.List.{flat_map}
+use Rattle.game_tables.specs.declared.kind.Kind.{Kind}
+use Rattle.game_tables.specs.Kinds.{site_kind, work_to_build}
+use Rattle.game_tables.specs.Limits.{rooms_bound, objects_bound, players_bound}
+use Rattle.game_tables.specs.Numbers.{kind_number}
+use Rattle.room_terrain.specs.declared.name.RoomName.{RoomName}
 use Rattle.object_store.specs.declared.object.Object.{Object}
+use Rattle.object_store.specs.declared.account.Account.{Account}
+use Rattle.world_rules.specs.Kinds.{is_controller, is_site, may_have_owner}
+use Rattle.world_rules.specs.Rules.{IsFrom1To, IsProgress}
 use Rattle.rule_check.specs.declared.view.RoomView.{RoomView}
 
 -- The least number that is so, or nothing where none is.
@@ -20,12 +29,12 @@ pub record RoomAt (so : ℕ → RoomView → Type 0) (rooms : List RoomView) (in
   pub place : slice_get rooms index ≡ Some room
   pub is : so index room
 
--- One of the rooms is so at this number.
-pub record AnyRoom (so : RoomView → ℕ → Type 0) (rooms : List RoomView) (n : ℕ) : Type 0 where
+-- One of these is so at this number.
+pub record AnyOf {A : Type 0} (so : A → ℕ → Type 0) (xs : List A) (n : ℕ) : Type 0 where
   pub index : ℕ
-  pub room : RoomView
-  pub place : slice_get rooms index ≡ Some room
-  pub is : so room n
+  pub one : A
+  pub place : slice_get xs index ≡ Some one
+  pub is : so one n
 
 -- One of the objects has this id and is so.
 pub record AnyObject (so : Object → Type 0) (objects : List Object) (n : ℕ) : Type 0 where
@@ -34,3 +43,61 @@ pub record AnyObject (so : Object → Type 0) (objects : List Object) (n : ℕ) 
   pub place : slice_get objects index ≡ Some object
   pub id : object.id ≡ n
   pub is : so object
+
+-- ---- single rules, in terms of the rooms and accounts
+
+-- There is a room, and there are no more rooms, objects and players than may be.
+abbrev pub AreWithinCounts : List RoomView → List Account → Type 0
+AreWithinCounts rooms accounts = (1 ≤ length rooms) × (length rooms ≤ rooms_bound) × (length accounts ≤ players_bound) × (sum_by (λ room. length room.objects.now) rooms ≤ objects_bound)
+
+-- A room of a lesser index has this name.
+pub record HasNameBefore (rooms : List RoomView) (index : ℕ) (name : RoomName) : Type 0 where
+  pub earlier : ℕ
+  pub room : RoomView
+  pub before : earlier < index
+  pub place : slice_get rooms earlier ≡ Some room
+  pub named : room.name ≡ name
+
+-- The id's room part is no room of these, or its serial is 0 or was not given yet.
+abbrev pub IsUnborn : List RoomView → ℕ → Type 0
+IsUnborn rooms id = ((room : RoomView) → slice_get rooms (id / 2 ^ 32) ≡ Some room → room.next ≤ id % 2 ^ 32) ⊎ (id % 2 ^ 32 ≡ 0)
+
+-- the ids of all objects, room by room
+abbrev pub ids_in : List RoomView → List ℕ
+ids_in rooms = flat_map (λ room. map (λ object. object.id) room.objects.now) rooms
+
+-- One of the accounts is this player's.
+pub record IsListed (accounts : List Account) (player : ℕ) : Type 0 where
+  pub index : ℕ
+  pub account : Account
+  pub place : slice_get accounts index ≡ Some account
+  pub is : account.player ≡ player
+
+-- An owner or reserver is not listed, or the kind may not have one.
+abbrev pub HasWrongHolder : List Account → Object → Type 0
+HasWrongHolder accounts object =
+    ((object.owner ≢ 0) × ((IsListed accounts object.owner → ⊥) ⊎ (may_have_owner object.kind ≡ false)))
+    ⊎ ((object.other ≢ 0) × ((IsListed accounts object.other → ⊥) ⊎ (is_controller object.kind ≡ false)))
+
+-- the sites of a player in all rooms
+abbrev pub sites_in : ℕ → List RoomView → ℕ
+sites_in player rooms = sum_by (λ room. count_by (λ object. is_site object.kind && (object.owner == player)) room.objects.now) rooms
+
+-- ---- parts of the ranges
+
+-- The fields that most kinds don't use are 0.
+pub record IsPlain (object : Object) : Type 0 where
+  pub extra : object.extra ≡ 0
+  pub progress : object.progress ≡ 0
+  pub other : object.other ≡ 0
+  pub other_ticks : object.other_ticks ≡ 0
+
+-- Nobody reserves it, or it is at level 0 and reserved for some of these ticks.
+pub record IsReservedFor (most : ℕ) (object : Object) : Type 0 where
+  pub level : object.other ≢ 0 → object.extra ≡ 0
+  pub unreserved : object.other ≡ 0 → object.other_ticks ≡ 0
+  pub reserved : object.other ≢ 0 → IsFrom1To most object.other_ticks
+
+-- The number is that of a kind that sites are for, and the progress is below its work.
+abbrev pub IsBuilt : ℕ → ℕ → Type 0
+IsBuilt number progress = (kind : Kind) × (site_kind kind 1 ≡ true) × (number ≡ kind_number kind) × IsProgress (work_to_build kind) progress

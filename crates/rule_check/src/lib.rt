@@ -2,9 +2,15 @@
 // lists.
 #![tactic(auto)]
 
+mod counts;
 mod first;
+mod ids;
 mod least;
 mod objects;
+mod players;
+mod ranges;
+mod rooms;
+mod tiles;
 mod view;
 
 pub use first::first_broken;

@@ -2,7 +2,7 @@
 ghost use Rattle.std.specs.Prelude.{MatchBool};
 ghost use Rattle.std.specs.List.{AllByRecursion};
 ghost use Rattle.object_store.specs.declared.object.Object.{Object};
-ghost use Rattle.rule_check.specs.Checks.{IsLeast, AnyRoom, AnyObject};
+ghost use Rattle.rule_check.specs.Checks.{IsLeast, AnyOf, AnyObject};
 ghost use Rattle.rule_check.specs.Views.{IsOrdered};
 ghost use Rattle.rule_check.specs.declared.view.RoomView.{RoomView};
 
@@ -22,7 +22,7 @@ pub trait ObjectRule {
 /// The least id of an object that breaks the rule.
 pub fn least_object<R: ObjectRule>(rule: &R, rooms: &[RoomView]) -> Option<u64>
     requires { AllByRecursion IsOrdered rooms.now }
-    ensures { IsLeast (AnyRoom (λ room. AnyObject (R.broken rule.now room) room.objects.now) rooms.now) result }
+    ensures { IsLeast (AnyOf (λ room. AnyObject (R.broken rule.now room) room.objects.now) rooms.now) result }
 {
     let mut least = None;
     for room in rooms {
