@@ -66,8 +66,9 @@ fn first_pair(numbers: &[u64]) -> Option<u64>
     ensures { IsLeast (λ n. 2 ≤ count_by (λ m. m == n) numbers.now) result }
 {
     for next in 1..numbers.len() {
-        if numbers[next - 1] == numbers[next] {
-            return Some(numbers[next]);
+        let number = numbers[next];
+        if numbers[next - 1] == number {
+            return Some(number);
         }
     }
     None
