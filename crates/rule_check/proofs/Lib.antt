@@ -1,2 +1,4 @@
 pub mod Minima
 pub mod Twice
+pub mod Found
+pub mod Placing
