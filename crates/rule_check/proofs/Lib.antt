@@ -2,3 +2,5 @@ pub mod Minima
 pub mod Twice
 pub mod Found
 pub mod Placing
+pub mod Order
+pub mod Breaks

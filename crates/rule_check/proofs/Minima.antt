@@ -1,6 +1,7 @@
 -- The least number that is so.
-use Rattle.std.proofs.Common.{◌≡◌, ℕ, ◌+◌, ◌<◌, ◌≤◌, ◌⊎◌, List, length, get_or, Option, Some, None, min, refl, sym, ap, subst, ◌∙◌, arith, inl, inr}
+use Rattle.std.proofs.Common.{◌≡◌, ℕ, zero, suc, ◌+◌, ◌<◌, ◌≤◌, ◌⊎◌, List, [], ◌∷◌, length, get_or, Option, Some, None, min, refl, sym, ap, subst, ◌∙◌, arith, inl, inr}
 use Rattle.std.specs.Prelude.{slice_get}
+use Rattle.std.specs.List.{AllByRecursion}
 use Rattle.std.specs.List.Sorted.{IsNonDecreasingBy}
 use Rattle.std.proofs.lemmas.Bool.{cases_lt}
 use Rattle.std.proofs.lemmas.Option.{same_Some, slice_get_within, get_or_from_slice_get, slice_get_read}
@@ -110,3 +111,9 @@ no_room_is_least so rooms i all none n at = let within : n < length rooms = slic
 
 pub read_at : {A : Type 0} (xs : List A) (i : ℕ) (x : A) → i < length xs → x ≡ get_or xs i x → slice_get xs i ≡ Some x
 read_at xs i x within read = slice_get_read xs (length xs) i x refl within read
+
+-- what holds of all holds of the one at a place
+pub all_at : {A : Type 0} (so : A → Type 0) (xs : List A) (i : ℕ) (x : A) → AllByRecursion so xs → slice_get xs i ≡ Some x → so x
+all_at so [] i x all is = absurd cc
+all_at so (y ∷ xs) zero x all is = subst so (same_Some y x is) all.0
+all_at so (y ∷ xs) (suc i) x all is = all_at so xs i x all.1 is

@@ -8,8 +8,10 @@ use Rattle.game_tables.specs.Numbers.{kind_number}
 use Rattle.room_terrain.specs.declared.name.RoomName.{RoomName}
 use Rattle.object_store.specs.declared.object.Object.{Object}
 use Rattle.object_store.specs.declared.account.Account.{Account}
-use Rattle.world_rules.specs.Kinds.{is_controller, is_site, may_have_owner}
-use Rattle.world_rules.specs.Rules.{IsFrom1To, IsProgress}
+use Rattle.world_rules.specs.Kinds.{is_controller, is_site, may_have_owner, clash}
+use Rattle.world_rules.specs.Rules.{IsFrom1To, IsProgress, Broken, rule_place}
+use Rattle.world_rules.specs.World.{Listing}
+use Rattle.world_rules.specs.declared.rule.Rule.{Rule}
 use Rattle.rule_check.specs.declared.view.RoomView.{RoomView}
 
 -- The least number that is so, or nothing where none is.
@@ -101,3 +103,25 @@ pub record IsReservedFor (most : ℕ) (object : Object) : Type 0 where
 -- The number is that of a kind that sites are for, and the progress is below its work.
 abbrev pub IsBuilt : ℕ → ℕ → Type 0
 IsBuilt number progress = (kind : Kind) × (site_kind kind 1 ≡ true) × (number ≡ kind_number kind) × IsProgress (work_to_build kind) progress
+
+-- ---- two objects of a room
+
+-- The object of this id shares a tile with an earlier one, and their kinds may not be together.
+pub record IsBlocked (objects : List Object) (n : ℕ) : Type 0 where
+  pub earlier : ℕ
+  pub later : ℕ
+  pub one : Object
+  pub other : Object
+  pub before : earlier < later
+  pub place : slice_get objects earlier ≡ Some one
+  pub there : slice_get objects later ≡ Some other
+  pub id : other.id ≡ n
+  pub column : one.x ≡ other.x
+  pub row : one.y ≡ other.y
+  pub clashes : clash one.kind other.kind ≡ true
+
+-- ---- the order of the rules
+
+-- No rule of a lesser place is broken.
+abbrev pub KeptBelow : ℕ → Listing → Type 0
+KeptBelow place listing = (rule : Rule) (n : ℕ) → rule_place rule < place → Broken rule n listing → ⊥
