@@ -1,4 +1,9 @@
 use Rattle.std.proofs.Common.{arith}
+use Rattle.std.proofs.lemmas.Result.{IfOk-weaker}
+use Rattle.world_rules.specs.declared.rule.Rule.TheVariants as rules
+use Rattle.world_rules.specs.Rules.{Broken}
+use Rattle.rule_check.specs.Checks.{IsLeast, AnyOf, IsBlocked}
+use Rattle.rule_check.proofs.Placing.{the_world}
 use Rattle.rule_check.proofs.Breaks.{each_once, least_name, least_corner, least_serial, least_id, least_tile, least_shared_tile, least_owner, least_controllers, least_range, least_player, least_sites}
 use Rattle.rule_check.proofs.first.least_broken.Goals as goal
 
@@ -18,3 +23,32 @@ pub returns-in-Tile : goal.returns-in-Tile
 returns-in-Tile c =
     rw c.in-Tile.is
     (least_tile c.args.rooms.now c.args.accounts.now c.least_object-in-Tile.result (each_once c.args.rooms.now c.args.accounts.now 6 (omega arith) (rw c.in-Tile.is at c.requires.kept)) c.least_object-in-Tile.ensures)
+
+pub returns-in-Shared : goal.returns-in-Shared
+returns-in-Shared c =
+    rw c.in-Shared.is
+    (IfOk-weaker c.least_blocked.result (λ found. IsLeast (AnyOf (λ room. IsBlocked room.objects.now) c.args.rooms.now) found) (λ found. IsLeast (λ n. Broken rules.Shared n (the_world c.args.rooms.now c.args.accounts.now)) found)
+    (λ found. least_shared_tile c.args.rooms.now c.args.accounts.now found c.requires.ordered (each_once c.args.rooms.now c.args.accounts.now 7 (omega arith) (rw c.in-Shared.is at c.requires.kept))) c.least_blocked.ensures)
+
+pub returns-in-Owner : goal.returns-in-Owner
+returns-in-Owner c =
+    rw c.in-Owner.is
+    (least_owner c.args.rooms.now c.args.accounts.now c.least_object-in-Owner.result (each_once c.args.rooms.now c.args.accounts.now 8 (omega arith) (rw c.in-Owner.is at c.requires.kept)) c.least_object-in-Owner.ensures)
+
+pub returns-in-Controllers : goal.returns-in-Controllers
+returns-in-Controllers c =
+    rw c.in-Controllers.is
+    (least_controllers c.args.rooms.now c.args.accounts.now c.first_room-in-Controllers.result c.requires.ordered (each_once c.args.rooms.now c.args.accounts.now 9 (omega arith) (rw c.in-Controllers.is at c.requires.kept))
+    c.first_room-in-Controllers.ensures)
+
+pub returns-in-Range : goal.returns-in-Range
+returns-in-Range c =
+    rw c.in-Range.is
+    (least_range c.args.rooms.now c.args.accounts.now c.least_object-in-Range.result (each_once c.args.rooms.now c.args.accounts.now 10 (omega arith) (rw c.in-Range.is at c.requires.kept)) c.least_object-in-Range.ensures)
+
+pub returns-in_ok-players_of-in-PlayerTwice : goal.returns-in_ok-players_of-in-PlayerTwice
+returns-in_ok-players_of-in-PlayerTwice c =
+    rw c.in-PlayerTwice.is (least_player c.args.rooms.now c.args.accounts.now c.least_repeated-in-PlayerTwice.result (rw c.in_ok-players_of-in-PlayerTwice.ensures at c.least_repeated-in-PlayerTwice.ensures))
+
+pub returns-in-Sites : goal.returns-in-Sites
+returns-in-Sites c = rw c.in-Sites.is (least_sites c.args.rooms.now c.args.accounts.now c.least_crowded.result c.least_crowded.ensures)
