@@ -4,3 +4,4 @@ pub mod Found
 pub mod Placing
 pub mod Order
 pub mod Breaks
+pub mod OnTiles

@@ -50,6 +50,14 @@ none_more {A} so xs i x here not none k y less there is =
 
 -- ---- objects in rising id
 
+-- of two objects the later one has no lesser id
+pub ids_up : (objects : List Object) → IsNonDecreasingBy (λ o. o.id) objects → (i j : ℕ) (one other : Object) → i ≤ j → slice_get objects i ≡ Some one → slice_get objects j ≡ Some other → one.id ≤ other.id
+ids_up objects up i j one other le here there =
+    let rises : (get_or objects i one).id ≤ (get_or objects j one).id = up i j one le (slice_get_within objects j other there) in
+    let low : (get_or objects i one).id ≡ one.id = ap (λ (o : Object). o.id) (get_or_from_slice_get objects i one one here) in
+    let high : (get_or objects j one).id ≡ other.id = ap (λ (o : Object). o.id) (get_or_from_slice_get objects j other one there) in
+    omega arith
+
 pub first_is_least : (so : Object → Type 0) (objects : List Object) (i : ℕ) (object : Object) → IsNonDecreasingBy (λ o. o.id) objects → slice_get objects i ≡ Some object → so object
     → NoneBelow (λ k o. so o) objects i → IsLeast (AnyObject so objects) (Some object.id)
 first_is_least so objects i object up here bad none = (
@@ -58,9 +66,7 @@ first_is_least so objects i object up here bad none = (
   elim (cases_lt other.index i) [
     | inl before ↦ none other.index other.object before other.place other.is
     | inr after ↦ (
-        let rises : (get_or objects i object).id ≤ (get_or objects other.index object).id = up i other.index object after (slice_get_within objects other.index other.object other.place) in
-        let low : (get_or objects i object).id ≡ object.id = ap (λ (o : Object). o.id) (get_or_from_slice_get objects i object object here) in
-        let high : (get_or objects other.index object).id ≡ other.object.id = ap (λ (o : Object). o.id) (get_or_from_slice_get objects other.index other.object object other.place) in
+        let rises : object.id ≤ other.object.id = ids_up objects up i other.index object other.object after here other.place in
         let named : other.object.id ≡ m = other.id in
         absurd (omega arith)
         )

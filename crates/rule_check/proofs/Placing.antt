@@ -16,7 +16,7 @@ use Rattle.world_rules.specs.Rules.{Stands, IsRoom, IsPlayer}
 use Rattle.rule_check.specs.declared.view.RoomView.{RoomView}
 use Rattle.rule_check.specs.Views.{viewed, viewed_room, IsOrdered}
 use Rattle.rule_check.specs.Checks.{AnyOf, AnyObject, IsListed, ids_in, IsLeast}
-use Rattle.rule_check.proofs.Minima.{one_at}
+use Rattle.rule_check.proofs.Minima.{one_at, ids_up}
 use Rattle.rule_check.proofs.Twice.{count_two, count_cons}
 use Rattle.rule_check.proofs.Found.{mapped_back, mapped_at, left_at, right_at, split_at, found_at, at_found, once_found, times}
 
@@ -199,23 +199,14 @@ ids_differ rooms accounts once index room is i j one other less first second sam
 pub ids_rise : (rooms : List RoomView) (accounts : List Account) → EachOnce rooms accounts → (index : ℕ) (room : RoomView) → slice_get rooms index ≡ Some room → IsOrdered room
     → (i j : ℕ) (one other : Object) → i < j → slice_get room.objects.now i ≡ Some one → slice_get room.objects.now j ≡ Some other → one.id < other.id
 ids_rise rooms accounts once index room is ordered i j one other less first second =
-    let objects = room.objects.now in
-    let up : (get_or objects i one).id ≤ (get_or objects j one).id = ordered.order i j one (omega arith) (slice_get_within objects j other second) in
-    let low : (get_or objects i one).id ≡ one.id = ap (λ (o : Object). o.id) (get_or_from_slice_get objects i one one first) in
-    let high : (get_or objects j one).id ≡ other.id = ap (λ (o : Object). o.id) (get_or_from_slice_get objects j other one second) in
+    let up : one.id ≤ other.id = ids_up room.objects.now ordered.order i j one other (omega arith) first second in
     let differ : one.id ≡ other.id → ⊥ = ids_differ rooms accounts once index room is i j one other less first second in
     omega arith
 
 -- of two objects of a room that with the lesser id is the earlier one
 pub places_rise : (room : RoomView) → IsOrdered room → (i j : ℕ) (one other : Object) → one.id < other.id → slice_get room.objects.now i ≡ Some one → slice_get room.objects.now j ≡ Some other → i < j
 places_rise room ordered i j one other less first second =
-    let objects = room.objects.now in
     elim (cases_lt i j) [
       | inl before ↦ before
-      | inr after ↦ (
-          let up : (get_or objects j one).id ≤ (get_or objects i one).id = ordered.order j i one after (slice_get_within objects i one first) in
-          let low : (get_or objects i one).id ≡ one.id = ap (λ (o : Object). o.id) (get_or_from_slice_get objects i one one first) in
-          let high : (get_or objects j one).id ≡ other.id = ap (λ (o : Object). o.id) (get_or_from_slice_get objects j other one second) in
-          absurd (omega arith)
-          )
+      | inr after ↦ (let up : other.id ≤ one.id = ids_up room.objects.now ordered.order j i other one after second first in absurd (omega arith))
     ]

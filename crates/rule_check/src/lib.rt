@@ -10,6 +10,7 @@ mod objects;
 mod players;
 mod ranges;
 mod rooms;
+mod shared;
 mod tiles;
 mod view;
 

@@ -1,17 +1,13 @@
-// Rules of tiles.
-ghost use Rattle.std.specs.Prelude.{◌≡◌, ◌<◌, ℕ, MatchBool, ◌||◌, IfOk};
-ghost use Rattle.std.specs.List.{AllByRecursion};
+// The tiles that are for a kind.
+ghost use Rattle.std.specs.Prelude.{◌≡◌, ◌<◌, ℕ, MatchBool, ◌||◌};
 ghost use Rattle.room_terrain.specs.Tiles.{IsEdge};
 ghost use Rattle.world_rules.specs.Rules.{IsOnWrongTile, IsWall};
-ghost use Rattle.rule_check.specs.Checks.{IsLeast, AnyOf, IsBlocked};
-ghost use Rattle.rule_check.specs.Views.{IsOrdered};
 ghost use Rattle.rule_check.specs.declared.view.RoomView.{RoomView};
 
 use crate::objects::ObjectRule;
 use crate::rooms::is_wall;
 use crate::view::RoomView;
 use object_store::{Kind, Object};
-use std::alloc::{AllocError, Global};
 
 /// An object stands on a tile for its kind.
 #[derive(Clone, Copy)]
@@ -35,14 +31,4 @@ fn is_edge(coordinate: u8) -> bool
     ensures { MatchBool result (IsEdge coordinate) (IsEdge coordinate → ⊥) }
 {
     coordinate == 0 || coordinate == 49
-}
-
-/// The least id of an object that shares a tile with one of a lesser id, where their kinds may not
-/// be together.
-pub fn least_blocked(alloc: Global, rooms: &[RoomView]) -> Result<Option<u64>, AllocError>
-    requires { AllByRecursion IsOrdered rooms.now }
-    ensures { IfOk result (λ found. IsLeast (AnyOf (λ room. IsBlocked room.objects.now) rooms.now) found) }
-{
-    let _room: Vec<u8> = Vec::with_capacity(alloc, rooms.len())?;
-    Err(AllocError)
 }
