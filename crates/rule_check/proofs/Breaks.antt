@@ -183,8 +183,7 @@ pub least_shared_tile : (rooms : List RoomView) (accounts : List Account) (found
 least_shared_tile rooms accounts found ordered once =
     least_like (AnyOf (λ room. IsBlocked room.objects.now) rooms) (λ n. Broken rules.Shared n (the_world rooms accounts)) found
     (λ n any.
-    let rises : any.is.one.id < any.is.other.id = ids_rise rooms accounts once any.index any.one any.place (ordered_at rooms any.index any.one ordered any.place) any.is.earlier any.is.later any.is.one any.is.other any.is.before any.is.place any.is.there in
-    (
+    let rises : any.is.one.id < any.is.other.id = ids_rise rooms accounts once any.index any.one any.place (ordered_at rooms any.index any.one ordered any.place) any.is.earlier any.is.later any.is.one any.is.other any.is.before any.is.place any.is.there in (
       any.is.one.id,
       record { room = any.index; object = any.is.one },
       record { room = any.index; object = any.is.other },
@@ -223,8 +222,7 @@ pub least_controllers : (rooms : List RoomView) (accounts : List Account) (found
 least_controllers rooms accounts found ordered once =
     least_like (RoomAt (λ index room. 2 ≤ count_by (λ object. is_controller object.kind) room.objects.now) rooms) (λ n. Broken rules.Controllers n (the_world rooms accounts)) found
     (λ n at.
-    let two : TwoOf (λ object. is_controller object.kind) at.room.objects.now = two_of (λ object. is_controller object.kind) at.room.objects.now at.is in
-    (
+    let two : TwoOf (λ object. is_controller object.kind) at.room.objects.now = two_of (λ object. is_controller object.kind) at.room.objects.now at.is in (
       two.one.id,
       two.other.id,
       record { room = n; object = two.one },

@@ -70,7 +70,7 @@ once_found {V} q es k v is few =
     let there = found_at q es found.0 found.1 in
     let key : (q == q) ≡ true = eq-eqb q q refl in
     let apart : (i j : ℕ) (x y : V) → i < j → slice_get es i ≡ Some (q, x) → slice_get es j ≡ Some (q, y) → ⊥ =
-        λ i j x y less one other. let many : 2 ≤ times q es = count_two (λ e. e.0 == q) es i j (q, x) (q, y) less one other key key in omega arith in
+    λ i j x y less one other. let many : 2 ≤ times q es = count_two (λ e. e.0 == q) es i j (q, x) (q, y) less one other key key in omega arith in
     elim (cases_order k there.0) [
       | inl same ↦ (let one : (q, v) ≡ (q, found.0) = one_at es k there.0 (q, v) (q, found.0) same is there.1 in found.1 ∙ ap Some (ap (λ (x : ℕ × V). x.1) (sym one)))
       | inr (inl less) ↦ absurd (apart k there.0 v found.0 less is there.1)

@@ -63,14 +63,14 @@ pub first_is_least : (so : Object → Type 0) (objects : List Object) (i : ℕ) 
 first_is_least so objects i object up here bad none = (
   record { index = i; object = object; place = here; id = refl; is = bad },
   λ m less other.
-  elim (cases_lt other.index i) [
-    | inl before ↦ none other.index other.object before other.place other.is
-    | inr after ↦ (
-        let rises : object.id ≤ other.object.id = ids_up objects up i other.index object other.object after here other.place in
-        let named : other.object.id ≡ m = other.id in
-        absurd (omega arith)
-        )
-  ],
+      elim (cases_lt other.index i) [
+        | inl before ↦ none other.index other.object before other.place other.is
+        | inr after ↦ (
+            let rises : object.id ≤ other.object.id = ids_up objects up i other.index object other.object after here other.place in
+            let named : other.object.id ≡ m = other.id in
+            absurd (omega arith)
+            )
+      ],
 )
 
 pub none_is_least : (so : Object → Type 0) (objects : List Object) (i : ℕ) → length objects ≤ i → NoneBelow (λ k o. so o) objects i → IsLeast (AnyObject so objects) None
@@ -104,14 +104,6 @@ least_more so xs i x least here at one other =
 pub least_end : {A : Type 0} (so : A → ℕ → Type 0) (xs : List A) (i : ℕ) (least : Option ℕ) → length xs ≤ i → IsLeast (AnyBelow so xs i) least → IsLeast (AnyOf so xs) least
 least_end so xs i least all is =
     least_like (AnyBelow so xs i) (AnyOf so xs) least (λ n any. any.0) (λ n any. (any, let within : any.index < length xs = slice_get_within xs any.index any.one any.place in omega arith)) is
-
--- ---- the first room that is so
-
-pub first_room_is_least : (so : ℕ → RoomView → Type 0) (rooms : List RoomView) (i : ℕ) (room : RoomView) → slice_get rooms i ≡ Some room → so i room → NoneBelow so rooms i → IsLeast (RoomAt so rooms) (Some i)
-first_room_is_least so rooms i room here is none = (record { room = room; place = here; is = is }, λ m less at. none m at.room less at.place at.is)
-
-pub no_room_is_least : (so : ℕ → RoomView → Type 0) (rooms : List RoomView) (i : ℕ) → length rooms ≤ i → NoneBelow so rooms i → IsLeast (RoomAt so rooms) None
-no_room_is_least so rooms i all none n at = let within : n < length rooms = slice_get_within rooms n at.room at.place in none n at.room (omega arith) at.place at.is
 
 -- ---- what a loop reads
 

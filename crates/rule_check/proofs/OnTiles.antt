@@ -222,14 +222,14 @@ pub blocked_is_least : (objects : List Object) (i : ℕ) (object : Object) → I
 blocked_is_least objects i object up here blocked none = (
   record { earlier = blocked.earlier; later = i; one = blocked.one; other = object; before = blocked.before; place = blocked.place; there = here; id = refl; column = blocked.column; row = blocked.row; clashes = blocked.clashes },
   λ m less other.
-  elim (cases_lt other.later i) [
-    | inl before ↦ none other.later other.other before other.there (blocked_at objects m other)
-    | inr after ↦ (
-        let rises : object.id ≤ other.other.id = ids_up objects up i other.later object other.other after here other.there in
-        let named : other.other.id ≡ m = other.id in
-        absurd (omega arith)
-        )
-  ],
+      elim (cases_lt other.later i) [
+        | inl before ↦ none other.later other.other before other.there (blocked_at objects m other)
+        | inr after ↦ (
+            let rises : object.id ≤ other.other.id = ids_up objects up i other.later object other.other after here other.there in
+            let named : other.other.id ≡ m = other.id in
+            absurd (omega arith)
+            )
+      ],
 )
 
 pub none_blocked_is_least : (objects : List Object) (i : ℕ) → length objects ≤ i → NoneBelow (BlockedAt objects) objects i → IsLeast (IsBlocked objects) None

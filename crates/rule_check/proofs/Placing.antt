@@ -146,7 +146,7 @@ count_placed p q same (room ∷ rooms) base =
     let rest : count_by p (placed_from (suc base) (map viewed_room rooms)) ≡ sum_by (λ room. count_by q room.objects.now) rooms = count_placed p q same rooms (suc base) in
     let first : count_by p (map (entry_at base) room.objects.now) ≡ count_by q room.objects.now = count_entries p q base (same base) room.objects.now in
     let joined : count_by p (map (entry_at base) room.objects.now ++ placed_from (suc base) (map viewed_room rooms)) ≡ count_by p (map (entry_at base) room.objects.now) + count_by p (placed_from (suc base) (map viewed_room rooms)) =
-        sum_by-append (λ (e : ℕ × Placed). cond (p e) 1 0) (map (entry_at base) room.objects.now) (placed_from (suc base) (map viewed_room rooms)) in
+    sum_by-append (λ (e : ℕ × Placed). cond (p e) 1 0) (map (entry_at base) room.objects.now) (placed_from (suc base) (map viewed_room rooms)) in
     let sum : sum_by (λ (r : RoomView). count_by q r.objects.now) (room ∷ rooms) ≡ count_by q room.objects.now + sum_by (λ (r : RoomView). count_by q r.objects.now) rooms = sum_by-cons (λ (r : RoomView). count_by q r.objects.now) room rooms in
     joined ∙ (let both : count_by p (map (entry_at base) room.objects.now) + count_by p (placed_from (suc base) (map viewed_room rooms)) ≡ sum_by (λ (r : RoomView). count_by q r.objects.now) (room ∷ rooms) = omega arith in both)
 

@@ -103,23 +103,12 @@ fewer xs next up apart m high many =
 pub pair_is_least : (xs : List ℕ) (next : ℕ) → 1 ≤ next → next < length xs → IsNonDecreasing xs → NoPair xs next → (n : ℕ) → n ≡ get_or xs next 0 → get_or xs (next - 1) 0 ≡ get_or xs next 0 → IsLeast (λ m. 2 ≤ count_by (λ k. k == m) xs) (Some n)
 pair_is_least xs next low within up apart n named same = (
   count_two (λ k. k == n) xs (next - 1) next (get_or xs (next - 1) 0) (get_or xs next 0) (omega arith) (slice_get-get_or xs (next - 1) 0 (omega arith)) (slice_get-get_or xs next 0 within)
-  (eq-eqb (get_or xs (next - 1) 0) n (same ∙ sym named)) (eq-eqb (get_or xs next 0) n (sym named)),
+      (eq-eqb (get_or xs (next - 1) 0) n (same ∙ sym named)) (eq-eqb (get_or xs next 0) n (sym named)),
   λ m less many. fewer xs next up apart m (λ inside. omega arith) many,
 )
 
 pub no_pair_is_least : (xs : List ℕ) (next : ℕ) → length xs ≤ next → IsNonDecreasing xs → NoPair xs next → IsLeast (λ m. 2 ≤ count_by (λ k. k == m) xs) None
 no_pair_is_least xs next all up apart n many = fewer xs next up apart n (λ inside. absurd (omega arith)) many
-
-pub pair_more : (xs : List ℕ) (next : ℕ) → 1 ≤ next → NoPair xs next → (get_or xs (next - 1) 0 ≡ get_or xs next 0 → ⊥) → NoPair xs (next + 1)
-pair_more xs next low apart differ k less same =
-    elim (cases_lt (k + 1) next) [
-      | inl before ↦ apart k before same
-      | inr after ↦ (
-          let here : k ≡ next - 1 = omega arith in
-          let there : k + 1 ≡ next = omega arith in
-          differ (ap (λ (j : ℕ). get_or xs j 0) (sym here) ∙ same ∙ ap (λ (j : ℕ). get_or xs j 0) there)
-          )
-    ]
 
 -- a list and its permutation have the same least number that is there twice
 pub least_permuted : (xs ys : List ℕ) (found : Option ℕ) → IsPermutation xs ys → IsLeast (λ n. 2 ≤ count_by (λ m. m == n) ys) found → IsLeast (λ n. 2 ≤ count_by (λ m. m == n) xs) found

@@ -11,6 +11,8 @@ mod players;
 mod ranges;
 mod rooms;
 mod shared;
+#[cfg(test)]
+mod tests;
 mod tiles;
 mod view;
 

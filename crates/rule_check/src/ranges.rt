@@ -87,7 +87,11 @@ fn is_reservation(object: &Object) -> bool
     if object.other == 0 {
         return object.other_ticks == 0;
     }
-    object.extra == 0 && is_from_1_to(most_other_ticks(Kind::Controller) as u64, object.other_ticks as u64)
+    object.extra == 0
+        && is_from_1_to(
+            most_other_ticks(Kind::Controller) as u64,
+            object.other_ticks as u64,
+        )
 }
 
 fn is_from_1_to(most: u64, number: u64) -> bool
@@ -120,7 +124,10 @@ fn is_creep(object: &Object) -> bool
     object.owner >= 1
         && is_hits(Kind::Creep, object)
         && object.energy <= most_energy(Kind::Creep, object.hits, &object.body)
-        && is_from_1_to(most_timer(Kind::Creep, 0, &object.body) as u64, object.timer as u64)
+        && is_from_1_to(
+            most_timer(Kind::Creep, 0, &object.body) as u64,
+            object.timer as u64,
+        )
         && object.extra <= most_extra(Kind::Creep)
         && object.progress == 0
         && object.other == 0
@@ -165,7 +172,10 @@ fn is_decaying(kind: Kind, object: &Object) -> bool
     object.owner == 0
         && is_hits(kind, object)
         && object.energy <= most_energy(kind, object.hits, &object.body)
-        && is_from_1_to(most_timer(kind, 0, &object.body) as u64, object.timer as u64)
+        && is_from_1_to(
+            most_timer(kind, 0, &object.body) as u64,
+            object.timer as u64,
+        )
         && object.body.is_empty()
         && is_plain(object)
 }
@@ -175,7 +185,10 @@ fn is_pile(object: &Object) -> bool
 {
     object.owner == 0
         && object.hits == 0
-        && is_from_1_to(most_energy(Kind::Pile, object.hits, &object.body), object.energy)
+        && is_from_1_to(
+            most_energy(Kind::Pile, object.hits, &object.body),
+            object.energy,
+        )
         && object.timer == 0
         && object.body.is_empty()
         && is_plain(object)

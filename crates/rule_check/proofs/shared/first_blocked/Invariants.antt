@@ -7,5 +7,5 @@ abbrev pub invariant-loop-object : goal.invariant-loop-object
 invariant-loop-object l = record {
   size : length l.tiles ≡ 2500;
   taken : AreTaken l.tiles l.room.objects.now l.object-index;
-  apart : NoneBelow (BlockedAt l.room.objects.now) l.room.objects.now l.object-index
+  apart : NoneBelow (BlockedAt l.room.objects.now) l.room.objects.now l.object-index;
 }
