@@ -84,14 +84,12 @@ fn is_controller(object: &Object) -> bool
 fn is_reservation(object: &Object) -> bool
     ensures { MatchBool result (IsReservedFor (other_ticks_bound Kind.Controller) object.now) (IsReservedFor (other_ticks_bound Kind.Controller) object.now → ⊥) }
 {
+    let most = most_other_ticks(Kind::Controller) as u64;
     if object.other == 0 {
-        return object.other_ticks == 0;
+        object.other_ticks == 0
+    } else {
+        object.extra == 0 && is_from_1_to(most, object.other_ticks as u64)
     }
-    object.extra == 0
-        && is_from_1_to(
-            most_other_ticks(Kind::Controller) as u64,
-            object.other_ticks as u64,
-        )
 }
 
 fn is_from_1_to(most: u64, number: u64) -> bool

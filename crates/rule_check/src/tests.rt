@@ -1,5 +1,5 @@
 // Worlds of two rooms that keep and break the rules.
-ghost use Rattle.std.specs.Prelude.{◌≡◌, OnOk};
+ghost use Rattle.std.specs.Prelude.{◌≡◌, true, OnOk};
 ghost use Rattle.std.specs.List.{AllByRecursion};
 ghost use Rattle.std.specs.List.Sorted.{IsNonDecreasingBy};
 ghost use Rattle.object_store.specs.Tables.{IsOnTile};
@@ -191,13 +191,17 @@ fn account(alloc: Global, player: u32) -> Account {
 
 // Walls are in the corners but for one that is left open, and at (10, 10).
 fn terrain(alloc: Global, open: usize) -> Result<Terrain, AllocError> {
-    let mut grounds = vec![in alloc; Ground::Plain; 2500]?;
-    for wall in [0, 49, 510, 2450, 2499] {
-        if wall != open {
-            grounds[wall] = Ground::Wall;
-        }
-    }
+    let mut grounds = [Ground::Plain; 2500];
+    grounds[510] = Ground::Wall;
+    grounds[0] = wall_but(open == 0);
+    grounds[49] = wall_but(open == 49);
+    grounds[2450] = wall_but(open == 2450);
+    grounds[2499] = wall_but(open == 2499);
     Terrain::of(alloc, &grounds)
+}
+
+fn wall_but(open: bool) -> Ground {
+    if open { Ground::Plain } else { Ground::Wall }
 }
 
 fn room(alloc: Global, column: i32, objects: &[Object]) -> Result<SampleRoom, AllocError> {
@@ -231,25 +235,45 @@ fn all_kinds(alloc: Global) -> Result<Sample, AllocError> {
     })
 }
 
-// What the rules ask of the order of objects, and of their tiles.
+// What is asked of the objects of a room, where it is found.
 fn ordered(objects: &[Object]) -> Result<(), &'static str>
-    ensures order { OnOk result (IsNonDecreasingBy (λ object. object.id) objects.now) }
-    ensures tiles { OnOk result (AllByRecursion IsOnTile objects.now) }
+    ensures { OnOk result (IsNonDecreasingBy (λ object. object.id) objects.now × AllByRecursion IsOnTile objects.now) }
 {
-    for (at, object) in objects.iter().enumerate() {
-        if object.x > 49 || object.y > 49 {
-            return Err("off the room");
-        }
-        if at > 0 && objects[at - 1].id > object.id {
-            return Err("not in order");
+    if are_rising(objects) && are_on_tiles(objects) {
+        Ok(())
+    } else {
+        Err("not in order")
+    }
+}
+
+fn are_rising(objects: &[Object]) -> bool
+    ensures { result ≡ true → IsNonDecreasingBy (λ object. object.id) objects.now }
+{
+    for next in 1..objects.len() {
+        if objects[next - 1].id > objects[next].id {
+            return false;
         }
     }
-    Ok(())
+    true
+}
+
+fn are_on_tiles(objects: &[Object]) -> bool
+    ensures { result ≡ true → AllByRecursion IsOnTile objects.now }
+{
+    for object in objects {
+        if object.x > 49 || object.y > 49 {
+            return false;
+        }
+    }
+    true
 }
 
 fn judge(alloc: Global, world: &Sample) -> Result<Option<(Rule, u64)>, Fail> {
     ordered(&world.first.objects)?;
     ordered(&world.second.objects)?;
+    if world.accounts.len() > 1000 {
+        return Err("too many accounts".into());
+    }
     let rooms = [
         RoomView {
             name: world.first.name,
