@@ -4,12 +4,11 @@ use mathlib.Core.Logic.{inl, inr}
 use Rattle.game_tables.specs.declared.kind.Kind.{Kind}
 use Rattle.room_terrain.specs.declared.terrain.Ground.{Ground}
 use Rattle.object_store.specs.declared.object.Object.{Object}
-use Rattle.object_store.specs.declared.account.Account.{Account}
 use Rattle.world_rules.specs.declared.rule.Rule.{Rule}
 use Rattle.world_rules.specs.declared.rule.Rule.TheVariants as rules
 use Rattle.world_rules.specs.Kinds.{clash, is_controller}
 use Rattle.world_rules.specs.World.{Placed, Frame, World, Listing, placed, world_listed}
-use Rattle.world_rules.specs.Rules.{Broken, Stands, IsRoom, IsInRangeAs, IsInTheWay, IsOnWrongTile, HasWrongOwner, HasNoBirth}
+use Rattle.world_rules.specs.Rules.{Broken, Stands, IsRoom, IsPlayer, IsInRangeAs, IsInTheWay, IsOnWrongTile, HasWrongOwner, HasNoBirth}
 use Rattle.ruled_tick.proofs.Objects.{IsSame}
 use Rattle.world_rules.proofs.Entries.{times}
 
@@ -19,10 +18,11 @@ pub record StandsAs (before after : Placed) : Type 0 where
   pub same : IsSame before.object after.object
   pub range : IsInRangeAs before.object.kind before.object → IsInRangeAs after.object.kind after.object
 
--- The rooms and the players are the same, and no object is new.
+-- The rooms are the same, players stay and are not more, and no object is new.
 pub record Succeeds (before after : Listing) : Type 0 where
   pub rooms : (world_listed after).rooms ≡ (world_listed before).rooms
-  pub accounts : after.accounts ≡ before.accounts
+  pub players : (player : ℕ) → IsPlayer (world_listed before) player → IsPlayer (world_listed after) player
+  pub accounts : (player : ℕ) → count_by (λ account. account.player == player) after.accounts ≤ count_by (λ account. account.player == player) before.accounts
   pub stands : (id : ℕ) (p : Placed) → Stands (world_listed after) id p → (q : Placed) × Stands (world_listed before) id q × StandsAs q p
   pub counts : (id : ℕ) → times id (placed after) ≤ times id (placed before)
 
@@ -58,7 +58,10 @@ module _ (before after : Listing) (s : Succeeds before after) where
   no_birth id (inr zeroth) = inr zeroth
 
   owned : (object : Object) → HasWrongOwner (world_listed after) object → HasWrongOwner (world_listed before) object
-  owned object h = subst (λ (accounts : List Account). HasWrongOwner (world_listed (record after { accounts = accounts })) object) s.accounts h
+  owned object (inl (some, inl none)) = inl (some, inl (λ player. none (s.players object.owner player)))
+  owned object (inl (some, inr kind)) = inl (some, inr kind)
+  owned object (inr (some, inl none)) = inr (some, inl (λ player. none (s.players object.other player)))
+  owned object (inr (some, inr kind)) = inr (some, inr kind)
 
   -- where a rule is broken after, it was broken before
   pub broken_before : (rule : Rule) (n : ℕ) → rule ≢ rules.Counts → rule ≢ rules.Sites → Broken rule n after → Broken rule n before
@@ -92,4 +95,4 @@ module _ (before after : Listing) (s : Succeeds before after) where
         subst (λ (k : Kind). is_controller k ≡ true) other.2.same.kind h.10,
       )
   broken_before rules.Range n a b h = let w = s.stands n h.0 h.1 in (w.0, w.1, λ r. h.2 (w.2.range r))
-  broken_before rules.PlayerTwice n a b h = subst (λ (accounts : List Account). 2 ≤ count_by (λ account. account.player == n) accounts) s.accounts h
+  broken_before rules.PlayerTwice n a b h = omega (arith, s.accounts n)

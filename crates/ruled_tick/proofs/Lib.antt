@@ -1,6 +1,5 @@
 pub mod Objects
 pub mod Rising
-pub mod Entries
-pub mod Placed
 pub mod Kept
+pub mod Steps
 pub mod Follows

@@ -1,12 +1,13 @@
 // One tick of the whole world.
-ghost use Rattle.std.specs.Prelude.{◌≡◌, ◌<◌, ◌-◌, ◌+◌, ◌^◌, [], map, length, IfOk, OnOk};
+ghost use Rattle.std.specs.Prelude.{◌≡◌, ◌<◌, ◌-◌, ◌+◌, ◌^◌, [], map, IfOk, OnOk};
 ghost use Rattle.world_rules.specs.World.{world_of};
-ghost use Rattle.world_rules.specs.Tick.{ruled, next_world};
+ghost use Rattle.world_rules.specs.Tick.{ruled, next_world, rested, bucket_after};
 ghost use Rattle.world_rules.specs.Sound.{IsSound};
-ghost use Rattle.ruled_tick.specs.Ticked.{ticked, ticked_room, AreInPlace};
+ghost use Rattle.ruled_tick.specs.Ticked.{ticked, ticked_rested, AreInPlace};
 
 use crate::upkeep::tick_table;
-use object_store::World;
+use game_tables::most_bucket;
+use object_store::{Account, World};
 use std::alloc::{AllocError, Global};
 
 /// The world after one tick without intents, with the accounts as they were.
@@ -27,36 +28,47 @@ pub fn tick_rested(alloc: Global, world: &World) -> Result<World, AllocError>
     ensures next { IfOk result (λ next. world_of next ≡ next_world (world_of world.now)) }
     ensures sound { IfOk result IsSound }
 {
-    tick_plain(alloc, world)
+    rest_stored(alloc, world)
 }
 
-// The same, of what is stored.
+// A tick of what is stored, with the accounts as they were.
 fn tick_stored(alloc: Global, world: &World) -> Result<World, AllocError>
     requires tick { world.now.tick < 2 ^ 64 - 1 }
     requires places { AreInPlace world.now.rooms }
     ensures { IfOk result (λ next. next ≡ ticked world.now) }
 {
-    let mut next = World::empty(alloc, world.tick() + 1);
-    push_rooms(alloc, world, &mut next)?;
+    let mut next = tick_rooms(alloc, world)?;
     push_accounts(alloc, world, &mut next)?;
     Ok(next)
 }
 
-// The rooms after a tick.
-fn push_rooms(alloc: Global, world: &World, next: &mut World) -> Result<(), AllocError>
-    requires none { next.old.rooms ≡ [] }
+// A tick of what is stored in which no player runs.
+fn rest_stored(alloc: Global, world: &World) -> Result<World, AllocError>
+    requires tick { world.now.tick < 2 ^ 64 - 1 }
     requires places { AreInPlace world.now.rooms }
-    ensures { OnOk result (next.new ≡ record next.old { rooms = map ticked_room world.now.rooms }) }
+    ensures { IfOk result (λ next. next ≡ ticked_rested world.now) }
 {
+    let mut next = tick_rooms(alloc, world)?;
+    push_rested(alloc, world, &mut next)?;
+    Ok(next)
+}
+
+// The world after a tick, without accounts yet.
+fn tick_rooms(alloc: Global, world: &World) -> Result<World, AllocError>
+    requires tick { world.now.tick < 2 ^ 64 - 1 }
+    requires places { AreInPlace world.now.rooms }
+    ensures { IfOk result (λ next. next ≡ record (ticked world.now) { accounts = [] }) }
+{
+    let mut next = World::empty(alloc, world.tick() + 1);
     for room in world.room_list() {
         let terrain = room.terrain.copy(alloc)?;
         let table = tick_table(alloc, &room.table)?;
         next.push_room(room.name, terrain, table)?;
     }
-    Ok(())
+    Ok(next)
 }
 
-// The accounts, which a tick without intents leaves as they are.
+// The accounts as they were.
 fn push_accounts(alloc: Global, world: &World, next: &mut World) -> Result<(), AllocError>
     requires none { next.old.accounts ≡ [] }
     ensures { OnOk result (next.new ≡ record next.old { accounts = world.now.accounts }) }
@@ -65,6 +77,35 @@ fn push_accounts(alloc: Global, world: &World, next: &mut World) -> Result<(), A
         next.push_account(account.copy(alloc)?)?;
     }
     Ok(())
+}
+
+// The accounts after a tick in which their players did not run.
+fn push_rested(alloc: Global, world: &World, next: &mut World) -> Result<(), AllocError>
+    requires none { next.old.accounts ≡ [] }
+    ensures { OnOk result (next.new ≡ record next.old { accounts = map rested world.now.accounts }) }
+{
+    for account in world.account_list() {
+        next.push_account(rest(alloc, account)?)?;
+    }
+    Ok(())
+}
+
+fn rest(alloc: Global, account: &Account) -> Result<Account, AllocError>
+    ensures { IfOk result (λ next. next ≡ rested account.now) }
+{
+    let mut next = account.copy(alloc)?;
+    next.bucket = rested_bucket(account);
+    Ok(next)
+}
+
+// The bucket with the limit added, up to its bound.
+fn rested_bucket(account: &Account) -> u32
+    ensures { result ≡ bucket_after account.now 0 }
+{
+    account
+        .limit
+        .saturating_add(account.bucket)
+        .min(most_bucket())
 }
 
 #[cfg(test)]

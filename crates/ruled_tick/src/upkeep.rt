@@ -1,49 +1,77 @@
 // What a tick makes of the objects of a room.
-ghost use Rattle.std.specs.Prelude.{◌≡◌, ◌<◌, ◌^◌, length, filter_map, Some, IfOk};
-ghost use Rattle.world_rules.specs.Upkeep.{source_renewed, pile_decayed as decayed};
-ghost use Rattle.object_store.specs.Tables.{IsRising};
-ghost use Rattle.ruled_tick.specs.Ticked.{upkept, ticked_table};
+ghost use Rattle.std.specs.Prelude.{◌≡◌, ℕ, filter_map, option_map, IfOk};
+ghost use Rattle.world_rules.specs.Kinds.{is_controller as is_controller_kind};
+ghost use Rattle.world_rules.specs.Upkeep.{is_taken as is_taken_by, source_renewed, pile_decayed as decayed};
+ghost use Rattle.ruled_tick.specs.Ticked.{controller_among, upkept, ticked_table};
 
 use game_tables::{pile_decay, renewal_ticks, source_capacity};
 use object_store::{Kind, Object, RoomTable};
 use std::alloc::{AllocError, Global};
 
-/// The objects of a room after a tick. The table is made anew in one pass.
+/// The objects of a room after upkeep. The table is made anew in one pass, once the room's
+/// controller is found, which says how much its sources hold.
 pub fn tick_table(alloc: Global, table: &RoomTable) -> Result<RoomTable, AllocError>
     ensures { IfOk result (λ next. next ≡ ticked_table table.now) }
 {
-    let objects = tick_objects(alloc, table.objects())?;
+    let capacity = source_capacity(is_taken(table.objects()));
+    let objects = tick_objects(alloc, table.objects(), capacity)?;
     Ok(RoomTable::of(table.index(), table.next(), objects))
 }
 
-fn tick_objects(alloc: Global, objects: &[Object]) -> Result<Vec<Object>, AllocError>
-    ensures { IfOk result (λ next. next.items ≡ filter_map upkept objects.now) }
+// Whether somebody owns or reserves the controller among the objects of a room.
+fn is_taken(objects: &[Object]) -> bool
+    ensures { result ≡ is_taken_by (controller_among objects.now) }
+{
+    match controller_of(objects) {
+        Some(controller) => controller.owner != 0 || controller.other != 0,
+        None => false,
+    }
+}
+
+// The controller among the objects of a room, which is the first in rising id.
+fn controller_of(objects: &[Object]) -> Option<&Object>
+    ensures { option_map (λ object. object.now) result ≡ controller_among objects.now }
+{
+    objects.iter().find(|object| is_controller(object))
+}
+
+fn is_controller(object: &Object) -> bool
+    ensures { result ≡ is_controller_kind object.now.kind }
+{
+    matches!(object.kind, Kind::Controller)
+}
+
+fn tick_objects(
+    alloc: Global,
+    objects: &[Object],
+    capacity: u64,
+) -> Result<Vec<Object>, AllocError>
+    ensures { IfOk result (λ next. next.items ≡ filter_map (upkept capacity) objects.now) }
 {
     let mut next = Vec::with_capacity(alloc, objects.len())?;
     for object in objects {
-        if let Some(left) = keep_up(object) {
+        if let Some(left) = keep_up(object, capacity) {
             next.push(left)?;
         }
     }
     Ok(next)
 }
 
-// An object after upkeep, or nothing where it goes.
+// An object after upkeep, where sources hold so much, or nothing where it goes.
 #[tactic(auto, using(crate::proofs::Objects::by_kind))]
-fn keep_up(object: &Object) -> Option<Object>
-    ensures { result ≡ upkept object.now }
+fn keep_up(object: &Object, capacity: u64) -> Option<Object>
+    ensures { result ≡ upkept capacity object.now }
 {
     match object.kind {
-        Kind::Source => Some(renew_source(object)),
+        Kind::Source => Some(renew_source(object, capacity)),
         Kind::Pile => decay_pile(object),
         _ => Some(*object),
     }
 }
 
-fn renew_source(source: &Object) -> Object
-    ensures { result ≡ source_renewed source.now }
+fn renew_source(source: &Object, capacity: u64) -> Object
+    ensures { result ≡ source_renewed capacity source.now }
 {
-    let capacity = source_capacity(false);
     if source.timer > 1 {
         Object {
             timer: source.timer - 1,

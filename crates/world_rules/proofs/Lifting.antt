@@ -336,6 +336,10 @@ in_every_room-stored change f stored once says =
     ap (λ (count : ℕ). in_rooms_from change 0 count (world_of stored)) (length_frames stored.rooms)
     ∙ changed_from change f stored.tick stored.accounts [] stored.rooms once (λ j room is. subst (λ (k : ℕ). SaysSame change f k room) (omega arith) (says j room is))
 
--- each id stands once after a change of every table in which no id is new
-pub once_after_all : (f : Table → Table) (rooms : List Room) → ((id : ℕ) (room : Room) → times_in id (f room.table).objects ≤ times_in id room.table.objects) → AreIdsOnce rooms → AreIdsOnce (map (with_table f) rooms)
-once_after_all f rooms fewer once id = omega (arith, once id, times_rooms id 0 rooms, times_rooms id 0 (map (with_table f) rooms), fewer_times (with_table f) id rooms (fewer id))
+module _ (f : Table → Table) (rooms : List Room) (fewer : (id : ℕ) (room : Room) → times_in id (f room.table).objects ≤ times_in id room.table.objects) where
+  -- where no id is new in any table, none stands more often
+  pub times_after_all : (id : ℕ) → times id (placed_from 0 (map listed_room (map (with_table f) rooms))) ≤ times id (placed_from 0 (map listed_room rooms))
+  times_after_all id = omega (arith, times_rooms id 0 rooms, times_rooms id 0 (map (with_table f) rooms), fewer_times (with_table f) id rooms (fewer id))
+
+  pub once_after_all : AreIdsOnce rooms → AreIdsOnce (map (with_table f) rooms)
+  once_after_all once id = omega (arith, once id, times_after_all id)

@@ -1,5 +1,6 @@
 use Rattle.std.proofs.lemmas.Result.{IfOk-weaker}
-use Rattle.ruled_tick.proofs.Follows.{ticked-IsRuled, ticked-IsSound}
+use Rattle.ruled_tick.proofs.Steps.{ticked-IsRuled}
+use Rattle.ruled_tick.proofs.Follows.{ticked-IsSound}
 use Rattle.ruled_tick.proofs.tick.tick_plain.Goals as goal
 
 pub returns-clause-ruled : goal.returns-clause-ruled

@@ -1,0 +1,121 @@
+-- The steps of a tick without intents, on the world and on what is stored.
+use Rattle.std.proofs.Common.{◌≡◌, ℕ, ◌+◌, ◌≤◌, List, [], ◌∷◌, map, Option, Some, None, option_and_then, slice_get, refl, sym, ap, ◌∙◌, arith}
+use Rattle.std.specs.List.{cons_option, filter_map}
+use Rattle.std.specs.List as lists
+use Rattle.game_tables.specs.Kinds.{source_room}
+use Rattle.object_store.specs.declared.object.Object.{Object}
+use Rattle.object_store.specs.declared.world.Room.{Room}
+use Rattle.object_store.specs.Tables.{Table, IsRising}
+use Rattle.object_store.specs.Stored.{Stored, HaveRisingTables}
+use Rattle.world_rules.specs.Kinds.{is_controller}
+use Rattle.world_rules.specs.World.{World, ListedRoom, listed_room, world_listed, world_of}
+use Rattle.world_rules.specs.RoomParts.{RoomPart, in_every_room}
+use Rattle.world_rules.specs.Upkeep.{Sums, unchanged, renewed, decayed, controller_of, is_taken, each, steps, in_turn, upkeep}
+use Rattle.world_rules.specs.Tick.{ruled, begun, inner, sums_of}
+use Rattle.world_rules.specs.Sound.{IsSound}
+use Rattle.world_rules.proofs.Keys.{keyed, table_sorted, entries_of_sorted, values_of}
+use Rattle.world_rules.proofs.Lifting.{AreIdsOnce, SaysSame, stored_part, with_table, in_every_room-stored, unchanged-in_every_room, once_after_all}
+use Rattle.world_rules.proofs.Each.{each-stored, each_in_table, IsRising-filter_map, times_in-filter_map}
+use Rattle.world_rules.proofs.Same.{once, tables_at}
+use Rattle.ruled_tick.specs.Ticked.{controller_among, capacity_among, renewed_to, decayed_by_kind, upkept, ticked, ticked_room}
+use Rattle.ruled_tick.proofs.Objects.{renewed-id, decayed-id}
+
+-- ---- the steps in force
+
+rest_of_steps : (later : List (RoomPart → RoomPart)) (world : World) → in_turn (unchanged ∷ later) world ≡ in_turn later world
+rest_of_steps later world = ap (in_turn later) (unchanged-in_every_room world)
+
+upkeep_in_force : (sums : Sums) (world : World) → upkeep sums world ≡ in_every_room decayed (in_every_room renewed world)
+upkeep_in_force sums world =
+    let last : List (RoomPart → RoomPart) = renewed ∷ unchanged ∷ decayed ∷ [] in
+    let u = unchanged in
+    rest_of_steps (u ∷ u ∷ u ∷ u ∷ u ∷ u ∷ last) world
+    ∙ rest_of_steps (u ∷ u ∷ u ∷ u ∷ u ∷ last) world
+    ∙ rest_of_steps (u ∷ u ∷ u ∷ u ∷ last) world
+    ∙ rest_of_steps (u ∷ u ∷ u ∷ last) world
+    ∙ rest_of_steps (u ∷ u ∷ last) world
+    ∙ rest_of_steps (u ∷ last) world
+    ∙ rest_of_steps last world
+    ∙ rest_of_steps (decayed ∷ []) (in_every_room renewed world)
+
+-- a tick without intents renews and decays
+pub ruled_in_force : (world : World) → ruled world [] ≡ record (in_every_room decayed (in_every_room renewed world)) { tick = (in_every_room decayed (in_every_room renewed world)).tick + 1 }
+ruled_in_force world =
+    let counted : World → World = λ after. record after { tick = after.tick + 1 } in
+    ap (λ (moved : World). counted (upkeep (sums_of (begun world)) moved)) (unchanged-in_every_room world)
+    ∙ ap counted (upkeep_in_force (sums_of (begun world)) world)
+
+-- ---- the same on a stored room
+
+abbrev renewed_table : Table → Table
+renewed_table table = each_in_table (renewed_to (capacity_among table.objects)) table
+
+abbrev decayed_table : Table → Table
+decayed_table table = each_in_table decayed_by_kind table
+
+controller_stored : (index : ℕ) (room : Room) → IsRising room.table.objects → controller_of (stored_part index room) ≡ controller_among room.table.objects
+controller_stored index room rise =
+    ap (λ (es : List (ℕ × Object)). lists.find (λ (object : Object). is_controller object.kind) (map (λ (e : ℕ × Object). e.1) es)) (entries_of_sorted (keyed (λ (object : Object). object.id) room.table.objects) (table_sorted room.table.objects rise))
+    ∙ ap (lists.find (λ (object : Object). is_controller object.kind)) (values_of (λ (object : Object). object.id) room.table.objects)
+
+renewed_stored : (index : ℕ) (room : Room) → IsRising room.table.objects → SaysSame renewed renewed_table index room
+renewed_stored index room rise =
+    let capacity = capacity_among room.table.objects in
+    let stands = each-stored (renewed_to capacity) (renewed-id capacity) index room rise in
+    record {
+      part = ap (λ (controller : Option Object). each (renewed_to (source_room (is_taken controller))) (stored_part index room)) (controller_stored index room rise) ∙ stands.part;
+      ids = stands.ids;
+    }
+
+decayed_stored : (index : ℕ) (room : Room) → IsRising room.table.objects → SaysSame decayed decayed_table index room
+decayed_stored index room rise = let stands = each-stored decayed_by_kind decayed-id index room rise in record { part = stands.part; ids = stands.ids }
+
+-- ---- the same on a stored world
+
+abbrev with_tables : (Table → Table) → Stored → Stored
+with_tables f stored = record stored { rooms = map (with_table f) stored.rooms }
+
+pub tables_rise : (f : Table → Table) (rooms : List Room) → ((room : Room) → IsRising room.table.objects → IsRising (f room.table).objects) → HaveRisingTables rooms → HaveRisingTables (map (with_table f) rooms)
+tables_rise f [] rises rise = tt
+tables_rise f (room ∷ rooms) rises rise = (rises room rise.0, tables_rise f rooms rises rise.1)
+
+renewed_world : (stored : Stored) → AreIdsOnce stored.rooms → HaveRisingTables stored.rooms → in_every_room renewed (world_of stored) ≡ world_of (with_tables renewed_table stored)
+renewed_world stored once rise = in_every_room-stored renewed renewed_table stored once (λ index room is. renewed_stored index room (tables_at stored.rooms index room rise is))
+
+decayed_world : (stored : Stored) → AreIdsOnce stored.rooms → HaveRisingTables stored.rooms → in_every_room decayed (world_of stored) ≡ world_of (with_tables decayed_table stored)
+decayed_world stored once rise = in_every_room-stored decayed decayed_table stored once (λ index room is. decayed_stored index room (tables_at stored.rooms index room rise is))
+
+renewed_once : (rooms : List Room) → AreIdsOnce rooms → AreIdsOnce (map (with_table renewed_table) rooms)
+renewed_once rooms = once_after_all renewed_table rooms (λ id room. let capacity = capacity_among room.table.objects in times_in-filter_map (renewed_to capacity) (renewed-id capacity) id room.table.objects)
+
+renewed_rise : (rooms : List Room) → HaveRisingTables rooms → HaveRisingTables (map (with_table renewed_table) rooms)
+renewed_rise rooms = tables_rise renewed_table rooms (λ room. let capacity = capacity_among room.table.objects in IsRising-filter_map (renewed_to capacity) (renewed-id capacity) room.table.objects)
+
+both_in_turn : {A B C : Type 0} (f : A → Option B) (g : B → Option C) (xs : List A) → filter_map g (filter_map f xs) ≡ filter_map (λ x. option_and_then g (f x)) xs
+both_in_turn f g [] = refl
+both_in_turn f g (x ∷ xs) =
+    let rest = both_in_turn f g xs in
+    elim (f x) as (λ left. filter_map g (cons_option left (filter_map f xs)) ≡ cons_option (option_and_then g left) (filter_map (λ x. option_and_then g (f x)) xs)) [
+      | None ↦ rest
+      | Some y ↦ ap (cons_option (g y)) rest
+    ]
+
+-- the rooms of both steps list what those of a tick list
+listed_same : (rooms : List Room) → map listed_room (map (with_table decayed_table) (map (with_table renewed_table) rooms)) ≡ map listed_room (map ticked_room rooms)
+listed_same [] = refl
+listed_same (room ∷ rooms) =
+    let objects = both_in_turn (renewed_to (capacity_among room.table.objects)) decayed_by_kind room.table.objects in
+    let rest = listed_same rooms in
+    λ i. record { frame = (listed_room room).frame; objects = objects i } ∷ rest i
+
+-- a tick of what is stored is a tick of the world
+pub ticked-IsRuled : (stored : Stored) → IsSound stored → world_of (ticked stored) ≡ ruled (world_of stored) []
+ticked-IsRuled stored sound =
+    let counted : World → World = λ after. record after { tick = after.tick + 1 } in
+    let listing : List ListedRoom → World = λ rooms. world_listed (record { tick = stored.tick + 1; rooms = rooms; accounts = stored.accounts }) in
+    sym (
+      ruled_in_force (world_of stored)
+      ∙ ap (λ (world : World). counted (in_every_room decayed world)) (renewed_world stored (once stored sound) sound.tables)
+      ∙ ap counted (decayed_world (with_tables renewed_table stored) (renewed_once stored.rooms (once stored sound)) (renewed_rise stored.rooms sound.tables))
+      ∙ ap listing (listed_same stored.rooms)
+    )

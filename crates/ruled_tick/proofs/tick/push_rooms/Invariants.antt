@@ -1,6 +1,0 @@
-use Rattle.std.proofs.Common.{◌≡◌, take, map}
-use Rattle.ruled_tick.specs.Ticked.{ticked_room}
-use Rattle.ruled_tick.proofs.tick.push_rooms.Given as goal
-
-abbrev pub invariant-loop-room : goal.invariant-loop-room
-invariant-loop-room l = l.next ≡ record l.fn.next { rooms = map ticked_room (take l.room-index l.room-items) }
