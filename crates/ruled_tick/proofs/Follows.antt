@@ -1,9 +1,9 @@
 -- A tick of what is stored keeps it sound, and is the tick of the world also where players rest.
-use Rattle.std.proofs.Common.{◌≡◌, ℕ, ◌+◌, ◌≤◌, ◌==◌, cond, List, [], ◌∷◌, map, Bool, true, false, Option, Some, None, option_map, option_and_then, slice_get, refl, sym, ap, ◌∙◌, arith}
+use Rattle.std.proofs.Common.{◌≡◌, ℕ, ◌≤◌, ◌==◌, cond, List, [], ◌∷◌, map, Bool, true, false, Option, Some, None, option_map, option_and_then, slice_get, refl, sym, ap, ◌∙◌, arith}
 use Rattle.std.specs.List.{count_by}
 use Rattle.std.specs.Ordering.{nat_cmp}
 use Rattle.std.specs.Cmp.{nat_cmp_total}
-use Rattle.std.specs.FinMap.{find, get, from_entries, entries, get-from_entries}
+use Rattle.std.specs.FinMap.{find, from_entries, entries, get-from_entries}
 use Rattle.std.proofs.lemmas.Option.{slice_get-map, option_and_then_some}
 use Rattle.std.proofs.lemmas.List.Sums.{sum_by-cons}
 use Rattle.game_tables.specs.Kinds.{source_room}
@@ -11,10 +11,10 @@ use Rattle.object_store.specs.declared.object.Object.{Object}
 use Rattle.object_store.specs.declared.account.Account.{Account}
 use Rattle.object_store.specs.declared.world.Room.{Room}
 use Rattle.object_store.specs.Stored.{Stored, AreRising, HaveRisingTables}
-use Rattle.world_rules.specs.World.{Placed, ListedRoom, Listing, World, listed_room, listing_of, placed, placed_from, world_of, world_listed}
+use Rattle.world_rules.specs.World.{Placed, ListedRoom, World, listed_room, listing_of, placed, placed_from, world_of}
 use Rattle.world_rules.specs.Upkeep.{is_taken}
 use Rattle.world_rules.specs.Rules.{Stands, IsPlayer}
-use Rattle.world_rules.specs.Tick.{rested, ruled, next_world}
+use Rattle.world_rules.specs.Tick.{rested, next_world}
 use Rattle.world_rules.specs.Sound.{IsSound}
 use Rattle.world_rules.proofs.Entries.{times}
 use Rattle.world_rules.proofs.Keys.{keyed, accounts_sorted, entries_of_sorted, find_mapped}
@@ -60,8 +60,7 @@ module _ (w : Stored) (s : IsSound w) where
   stood : (id : ℕ) (p : Placed) → find nat_cmp id (placed_from 0 (map listed_room (map ticked_room w.rooms))) ≡ Some p → (q : Placed) × Stands (world_of w) id q × StandsAs q p
   stood id p is =
       let room = stands_in_room (map ticked_room w.rooms) id p (ticked_once w.rooms (once w s)) is in
-      let was = room_before w.rooms p.room id p.object (slice_get w.rooms p.room) s.tables refl (ap (option_and_then (found_in_table id)) (sym (slice_get-map ticked_room w.rooms p.room)) ∙ room) in
-      (
+      let was = room_before w.rooms p.room id p.object (slice_get w.rooms p.room) s.tables refl (ap (option_and_then (found_in_table id)) (sym (slice_get-map ticked_room w.rooms p.room)) ∙ room) in (
         record { room = p.room; object = was.0 },
         get-from_entries nat_cmp_total (placed (listing_of w)) id ∙ stands_placed w.rooms p.room id was.0 (once w s) was.3,
         record { room = refl; same = upkept-IsSame was.1 was.0 p.object was.4; range = upkept-IsInRange was.1 was.0 p.object was.2 was.4 },
@@ -109,9 +108,9 @@ rested_players : (w : Stored) (n : ℕ) → IsPlayer (world_of w) n → IsPlayer
 rested_players w n player = (
   rested player.0,
   get-from_entries nat_cmp_total (keyed (λ (account : Account). account.player) (map rested w.accounts)) n
-  ∙ ap (find nat_cmp n) (sym (keyed_rested w.accounts))
-  ∙ find_mapped rested n (keyed (λ (account : Account). account.player) w.accounts)
-  ∙ ap (option_map rested) (sym (get-from_entries nat_cmp_total (keyed (λ (account : Account). account.player) w.accounts) n) ∙ player.1),
+      ∙ ap (find nat_cmp n) (sym (keyed_rested w.accounts))
+      ∙ find_mapped rested n (keyed (λ (account : Account). account.player) w.accounts)
+      ∙ ap (option_map rested) (sym (get-from_entries nat_cmp_total (keyed (λ (account : Account). account.player) w.accounts) n) ∙ player.1),
 )
 
 rested_count : (n : ℕ) (accounts : List Account) → count_by (λ account. account.player == n) (map rested accounts) ≤ count_by (λ account. account.player == n) accounts
@@ -129,7 +128,7 @@ ticked_rested-IsNext w s =
     let all_rested : List (ℕ × Account) → List (ℕ × Account) = λ es. map (λ (e : ℕ × Account). (e.0, rested e.1)) es in
     let at_rest : World → World = λ after. record after { accounts = from_entries (all_rested (entries after.accounts)) } in
     sym (
-      ap at_rest (sym (ticked-IsRuled w s))
-      ∙ ap (λ es. with_accounts (all_rested es)) (entries_of_sorted (keyed (λ (account : Account). account.player) w.accounts) (accounts_sorted w.accounts s.accounts))
-      ∙ ap with_accounts (keyed_rested w.accounts)
+    ap at_rest (sym (ticked-IsRuled w s))
+    ∙ ap (λ es. with_accounts (all_rested es)) (entries_of_sorted (keyed (λ (account : Account). account.player) w.accounts) (accounts_sorted w.accounts s.accounts))
+    ∙ ap with_accounts (keyed_rested w.accounts)
     )

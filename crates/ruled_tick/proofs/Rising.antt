@@ -1,5 +1,5 @@
 -- Fewer objects after a tick, and accounts that come one after the other.
-use Rattle.std.proofs.Common.{◌≡◌, ℕ, zero, suc, ◌<◌, ◌≤◌, List, [], ◌∷◌, map, length, take, get_or, filter_map, Option, Some, None, refl, sym, subst, arith}
+use Rattle.std.proofs.Common.{◌≡◌, ℕ, zero, suc, ◌<◌, ◌≤◌, List, [], ◌∷◌, map, length, take, get_or, filter_map, Option, Some, None, sym, subst, arith}
 use Rattle.std.specs.List.{cons_option, AllByRecursion}
 use Rattle.object_store.specs.declared.account.Account.{Account}
 use Rattle.object_store.specs.Stored.{AreRising, IsLast}

@@ -1,5 +1,5 @@
 -- The steps of a tick without intents, on the world and on what is stored.
-use Rattle.std.proofs.Common.{◌≡◌, ℕ, ◌+◌, ◌≤◌, List, [], ◌∷◌, map, Option, Some, None, option_and_then, slice_get, refl, sym, ap, ◌∙◌, arith}
+use Rattle.std.proofs.Common.{◌≡◌, ℕ, ◌+◌, List, [], ◌∷◌, map, Option, Some, None, option_and_then, refl, sym, ap, ◌∙◌}
 use Rattle.std.specs.List.{cons_option, filter_map}
 use Rattle.std.specs.List as lists
 use Rattle.game_tables.specs.Kinds.{source_room}
@@ -10,14 +10,14 @@ use Rattle.object_store.specs.Stored.{Stored, HaveRisingTables}
 use Rattle.world_rules.specs.Kinds.{is_controller}
 use Rattle.world_rules.specs.World.{World, ListedRoom, listed_room, world_listed, world_of}
 use Rattle.world_rules.specs.RoomParts.{RoomPart, in_every_room}
-use Rattle.world_rules.specs.Upkeep.{Sums, unchanged, renewed, decayed, controller_of, is_taken, each, steps, in_turn, upkeep}
-use Rattle.world_rules.specs.Tick.{ruled, begun, inner, sums_of}
+use Rattle.world_rules.specs.Upkeep.{Sums, unchanged, renewed, decayed, controller_of, is_taken, each, in_turn, upkeep}
+use Rattle.world_rules.specs.Tick.{ruled, begun, sums_of}
 use Rattle.world_rules.specs.Sound.{IsSound}
 use Rattle.world_rules.proofs.Keys.{keyed, table_sorted, entries_of_sorted, values_of}
 use Rattle.world_rules.proofs.Lifting.{AreIdsOnce, SaysSame, stored_part, with_table, in_every_room-stored, unchanged-in_every_room, once_after_all}
 use Rattle.world_rules.proofs.Each.{each-stored, each_in_table, IsRising-filter_map, times_in-filter_map}
 use Rattle.world_rules.proofs.Same.{once, tables_at}
-use Rattle.ruled_tick.specs.Ticked.{controller_among, capacity_among, renewed_to, decayed_by_kind, upkept, ticked, ticked_room}
+use Rattle.ruled_tick.specs.Ticked.{controller_among, capacity_among, renewed_to, decayed_by_kind, ticked, ticked_room}
 use Rattle.ruled_tick.proofs.Objects.{renewed-id, decayed-id}
 
 -- ---- the steps in force
@@ -114,8 +114,8 @@ ticked-IsRuled stored sound =
     let counted : World → World = λ after. record after { tick = after.tick + 1 } in
     let listing : List ListedRoom → World = λ rooms. world_listed (record { tick = stored.tick + 1; rooms = rooms; accounts = stored.accounts }) in
     sym (
-      ruled_in_force (world_of stored)
-      ∙ ap (λ (world : World). counted (in_every_room decayed world)) (renewed_world stored (once stored sound) sound.tables)
-      ∙ ap counted (decayed_world (with_tables renewed_table stored) (renewed_once stored.rooms (once stored sound)) (renewed_rise stored.rooms sound.tables))
-      ∙ ap listing (listed_same stored.rooms)
+    ruled_in_force (world_of stored)
+    ∙ ap (λ (world : World). counted (in_every_room decayed world)) (renewed_world stored (once stored sound) sound.tables)
+    ∙ ap counted (decayed_world (with_tables renewed_table stored) (renewed_once stored.rooms (once stored sound)) (renewed_rise stored.rooms sound.tables))
+    ∙ ap listing (listed_same stored.rooms)
     )

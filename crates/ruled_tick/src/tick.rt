@@ -111,52 +111,134 @@ fn rested_bucket(account: &Account) -> u32
 #[cfg(test)]
 mod tests {
     use super::*;
-    use crate::upkeep::tests::object;
-    use object_store::{Account, Bytes, Ground, Kind, RoomName, RoomTable, Terrain};
+    use crate::upkeep::tests::{controller, object};
+    use object_store::{Bytes, Ground, Kind, RoomName, RoomTable, Terrain};
     use std::test::Fail;
 
-    #[test]
-    fn a_room_is_ticked(rt: HostRuntime) -> Result<(), Fail> {
-        let mut grounds = [Ground::Plain; 2500];
-        grounds[49] = Ground::Wall;
-        let mut objects = Vec::new(rt.alloc());
+    // The table of a room with an empty source that is renewed now, a pile, and perhaps a controller
+    // with this owner and reserver.
+    fn table(
+        alloc: Global,
+        index: u32,
+        holders: Option<(u32, u32)>,
+    ) -> Result<RoomTable, AllocError>
+        ensures { IfOk result (λ table. table.index ≡ index) }
+    {
+        let mut objects = Vec::new(alloc);
         objects.push(object(1, Kind::Source, 0, 1))?;
         objects.push(object(2, Kind::Pile, 1001, 0))?;
-        let mut world = World::empty(rt.alloc(), 7);
-        world.push_room(
-            RoomName { column: 0, row: 0 },
-            Terrain::of(rt.alloc(), &grounds)?,
-            RoomTable::of(0, 3, objects),
-        )?;
-        world.push_account(Account {
-            player: 1,
-            limit: 20,
-            bucket: 30,
+        if let Some((owner, other)) = holders {
+            objects.push(controller(3, owner, other))?;
+        }
+        Ok(RoomTable::of(index, 4, objects))
+    }
+
+    // An account with this limit and bucket, and with something in each other field.
+    fn account(alloc: Global, player: u32, limit: u32, bucket: u32) -> Result<Account, AllocError>
+        ensures { IfOk result (λ account. account.player ≡ player) }
+    {
+        Ok(Account {
+            player,
+            limit,
+            bucket,
             points: 40,
-            memory: Bytes::of(rt.alloc(), b"memory")?,
-        })?;
+            memory: Bytes::of(alloc, b"memory")?,
+        })
+    }
+
+    #[test]
+    fn rooms_are_ticked(rt: HostRuntime) -> Result<(), Fail> {
+        let mut grounds = [Ground::Plain; 2500];
+        grounds[49] = Ground::Wall;
+        let mut world = World::empty(rt.alloc(), 7);
+        let owned = table(rt.alloc(), 0, Some((7, 0)))?;
+        let free = table(rt.alloc(), 1, Some((0, 0)))?;
+        let alone = table(rt.alloc(), 2, None)?;
+        world.push_room(
+            RoomName { column: 0, row: 5 },
+            Terrain::of(rt.alloc(), &grounds)?,
+            owned,
+        )?;
+        world.push_room(
+            RoomName { column: 1, row: 5 },
+            Terrain::of(rt.alloc(), &grounds)?,
+            free,
+        )?;
+        world.push_room(
+            RoomName { column: 2, row: 5 },
+            Terrain::of(rt.alloc(), &grounds)?,
+            alone,
+        )?;
         let next = tick_stored(rt.alloc(), &world)?;
-        assert_eq!(rt; (next.tick(), next.rooms(), next.accounts()), (8, 1, 1));
-        let room = &next.room_list()[0];
-        assert_eq!(rt; room.name, RoomName { column: 0, row: 0 });
-        assert_eq!(rt; room.terrain.at(49, 0), Ground::Wall);
-        assert_eq!(rt; (room.table.index(), room.table.next()), (0, 3));
-        let listed = room.table.objects();
-        assert_eq!(rt; listed.len(), 2);
-        assert_eq!(rt; (listed[0].energy, listed[0].timer), (1500, 0));
-        assert_eq!(rt; (listed[1].energy, listed[1].timer), (999, 0));
-        assert_eq!(rt; next.account_list()[0].bucket, 30);
+        assert_eq!(rt; (next.tick(), next.rooms(), next.accounts()), (8, 3, 0));
+        for (room, (column, index, energy, len)) in next
+            .room_list()
+            .iter()
+            .zip([(0, 0, 3000, 3), (1, 1, 1500, 3), (2, 2, 1500, 2)])
+        {
+            assert_eq!(rt; (room.name.column, room.name.row), (column, 5));
+            assert_eq!(rt; room.terrain.at(49, 0), Ground::Wall);
+            assert_eq!(rt; (room.table.index(), room.table.next()), (index, 4));
+            assert_eq!(rt; room.table.len(), len);
+            let source = room
+                .table
+                .nth(0)
+                .map(|source| (source.energy, source.timer));
+            assert_eq!(rt; source, Some((energy, 0)), "in {index}");
+            assert_eq!(rt; room.table.nth(1).map(|pile| pile.energy), Some(999));
+        }
+        Ok(())
+    }
+
+    #[test]
+    fn buckets_are_filled(rt: HostRuntime) -> Result<(), Fail> {
+        for (limit, bucket, bucket_after) in [
+            (20, 9_990, 10_000),
+            (20, 9_980, 10_000),
+            (20, 9_979, 9_999),
+            (0, 30, 30),
+            (500, 0, 500),
+            (0, 10_001, 10_000),
+            (500, 4_294_967_295, 10_000),
+        ] {
+            let before = account(rt.alloc(), 5, limit, bucket)?;
+            let after = rest(rt.alloc(), &before)?;
+            assert_eq!(rt; after.bucket, bucket_after, "at {limit}, {bucket}");
+            assert_eq!(rt; (after.player, after.limit, after.points), (5, limit, 40));
+            assert_eq!(rt; after.memory.as_slice(), b"memory".as_slice());
+        }
+        Ok(())
+    }
+
+    #[test]
+    fn accounts_rest_or_stay(rt: HostRuntime) -> Result<(), Fail> {
+        let mut world = World::empty(rt.alloc(), 7);
+        world.push_account(account(rt.alloc(), 1, 20, 9_990)?)?;
+        world.push_account(account(rt.alloc(), 2, 500, 0)?)?;
+        let rested = rest_stored(rt.alloc(), &world)?;
         assert_eq!(rt;
-            next.account_list()[0].memory.as_slice(),
-            b"memory".as_slice()
+            (rested.tick(), rested.rooms(), rested.accounts()),
+            (8, 0, 2)
         );
+        let accounts = rested.account_list();
+        assert_eq!(rt; (accounts[0].player, accounts[0].bucket), (1, 10_000));
+        assert_eq!(rt; (accounts[1].player, accounts[1].bucket), (2, 500));
+        let plain = tick_stored(rt.alloc(), &world)?;
+        assert_eq!(rt; plain.accounts(), 2);
+        assert_eq!(rt; plain.account_list()[0].bucket, 9_990);
         Ok(())
     }
 
     #[test]
     fn an_empty_world_is_ticked(rt: HostRuntime) -> Result<(), Fail> {
-        let next = tick_plain(rt.alloc(), &World::empty(rt.alloc(), 7))?;
+        let world = World::empty(rt.alloc(), 7);
+        let next = tick_plain(rt.alloc(), &world)?;
         assert_eq!(rt; (next.tick(), next.rooms(), next.accounts()), (8, 0, 0));
+        let rested = tick_rested(rt.alloc(), &world)?;
+        assert_eq!(rt;
+            (rested.tick(), rested.rooms(), rested.accounts()),
+            (8, 0, 0)
+        );
         Ok(())
     }
 }

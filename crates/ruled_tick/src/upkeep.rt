@@ -41,11 +41,7 @@ fn is_controller(object: &Object) -> bool
     matches!(object.kind, Kind::Controller)
 }
 
-fn tick_objects(
-    alloc: Global,
-    objects: &[Object],
-    capacity: u64,
-) -> Result<Vec<Object>, AllocError>
+fn tick_objects(alloc: Global, objects: &[Object], capacity: u64) -> Result<Vec<Object>, AllocError>
     ensures { IfOk result (λ next. next.items ≡ filter_map (upkept capacity) objects.now) }
 {
     let mut next = Vec::with_capacity(alloc, objects.len())?;
@@ -131,20 +127,59 @@ pub mod tests {
         }
     }
 
-    #[test]
-    fn sources_are_renewed(rt: HostRuntime) {
-        for (energy, timer, energy_after, timer_after) in [
-            (0, 1, 1500, 0),
-            (0, 2, 0, 1),
-            (1499, 0, 1499, 300),
-            (1500, 0, 1500, 0),
-            (3000, 1, 3000, 0),
-            (3000, 300, 3000, 299),
-        ] {
-            let source = renew_source(&object(1, Kind::Source, energy, timer));
-            assert_eq!(rt; source.energy, energy_after, "at {energy}, {timer}");
-            assert_eq!(rt; source.timer, timer_after, "at {energy}, {timer}");
+    /// A controller with this owner and this reserver, 0 for nobody.
+    pub fn controller(id: u64, owner: u32, other: u32) -> Object
+        ensures { result.id ≡ id }
+    {
+        Object {
+            owner,
+            other,
+            ..object(id, Kind::Controller, 0, 0)
         }
+    }
+
+    // The energy and the timer of a source after a tick, in a room whose controller has this owner
+    // and reserver, or that has no controller.
+    fn renewed(
+        alloc: Global,
+        energy: u64,
+        timer: u32,
+        holders: Option<(u32, u32)>,
+    ) -> Result<Option<(u64, u32)>, AllocError> {
+        let mut objects = Vec::new(alloc);
+        objects.push(object(1, Kind::Source, energy, timer))?;
+        if let Some((owner, other)) = holders {
+            objects.push(controller(2, owner, other))?;
+        }
+        let table = tick_table(alloc, &RoomTable::of(0, 3, objects))?;
+        Ok(table.nth(0).map(|source| (source.energy, source.timer)))
+    }
+
+    #[test]
+    fn sources_are_renewed(rt: HostRuntime) -> Result<(), Fail> {
+        for (energy, timer, in_free_room, in_taken_room) in [
+            (1499, 0, (1499, 300), (1499, 300)),
+            (1500, 0, (1500, 0), (1500, 300)),
+            (2999, 0, (2999, 0), (2999, 300)),
+            (3000, 0, (3000, 0), (3000, 0)),
+            (1499, 1, (1500, 0), (3000, 0)),
+            (1500, 1, (1500, 0), (3000, 0)),
+            (2999, 1, (2999, 0), (3000, 0)),
+            (3000, 1, (3000, 0), (3000, 0)),
+            (0, 2, (0, 1), (0, 1)),
+            (3000, 300, (3000, 299), (3000, 299)),
+        ] {
+            for (holders, after) in [
+                (None, in_free_room),
+                (Some((0, 0)), in_free_room),
+                (Some((7, 0)), in_taken_room),
+                (Some((0, 7)), in_taken_room),
+            ] {
+                let source = renewed(rt.alloc(), energy, timer, holders)?;
+                assert_eq!(rt; source, Some(after), "at {energy}, {timer}, {holders:?}");
+            }
+        }
+        Ok(())
     }
 
     #[test]
