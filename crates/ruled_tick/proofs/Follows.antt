@@ -18,13 +18,13 @@ use Rattle.world_rules.specs.Tick.{rested, next_world}
 use Rattle.world_rules.specs.Sound.{IsSound}
 use Rattle.world_rules.proofs.Entries.{times}
 use Rattle.world_rules.proofs.Keys.{keyed, accounts_sorted, entries_of_sorted, find_mapped}
-use Rattle.world_rules.proofs.Lifting.{AreIdsOnce, found_in_table, stands_in_room, stands_placed, times_after_all}
+use Rattle.world_rules.proofs.Lifting.{AreIdsOnce, found_in_table, stands_in_room, stands_placed, times_after_all, tables_rise}
 use Rattle.world_rules.proofs.Each.{found_left, IsRising-filter_map, times_in-filter_map}
 use Rattle.world_rules.proofs.Same.{once, tables_at}
 use Rattle.ruled_tick.specs.Ticked.{controller_among, capacity_among, upkept, ticked, ticked_rested, ticked_table, ticked_room, AreInPlace}
 use Rattle.ruled_tick.proofs.Objects.{upkept-id, upkept-IsSame, upkept-IsInRange}
 use Rattle.ruled_tick.proofs.Rising.{rested_rise}
-use Rattle.ruled_tick.proofs.Steps.{ticked-IsRuled, tables_rise}
+use Rattle.ruled_tick.proofs.Steps.{ticked-IsRuled}
 use Rattle.ruled_tick.proofs.Kept.{StandsAs, Succeeds, broken_before}
 
 -- ---- objects

@@ -14,7 +14,7 @@ use Rattle.world_rules.specs.Upkeep.{Sums, unchanged, renewed, decayed, controll
 use Rattle.world_rules.specs.Tick.{ruled, begun, sums_of}
 use Rattle.world_rules.specs.Sound.{IsSound}
 use Rattle.world_rules.proofs.Keys.{keyed, table_sorted, entries_of_sorted, values_of}
-use Rattle.world_rules.proofs.Lifting.{AreIdsOnce, SaysSame, stored_part, with_table, in_every_room-stored, unchanged-in_every_room, once_after_all}
+use Rattle.world_rules.proofs.Lifting.{AreIdsOnce, SaysSame, stored_part, with_table, in_every_room-stored, unchanged-in_every_room, once_after_all, tables_rise}
 use Rattle.world_rules.proofs.Each.{each-stored, each_in_table, IsRising-filter_map, times_in-filter_map}
 use Rattle.world_rules.proofs.Same.{once, tables_at}
 use Rattle.ruled_tick.specs.Ticked.{controller_among, capacity_among, renewed_to, decayed_by_kind, ticked, ticked_room}
@@ -74,10 +74,6 @@ decayed_stored index room rise = let stands = each-stored decayed_by_kind decaye
 
 abbrev with_tables : (Table → Table) → Stored → Stored
 with_tables f stored = record stored { rooms = map (with_table f) stored.rooms }
-
-pub tables_rise : (f : Table → Table) (rooms : List Room) → ((room : Room) → IsRising room.table.objects → IsRising (f room.table).objects) → HaveRisingTables rooms → HaveRisingTables (map (with_table f) rooms)
-tables_rise f [] rises rise = tt
-tables_rise f (room ∷ rooms) rises rise = (rises room rise.0, tables_rise f rooms rises rise.1)
 
 renewed_world : (stored : Stored) → AreIdsOnce stored.rooms → HaveRisingTables stored.rooms → in_every_room renewed (world_of stored) ≡ world_of (with_tables renewed_table stored)
 renewed_world stored once rise = in_every_room-stored renewed renewed_table stored once (λ index room is. renewed_stored index room (tables_at stored.rooms index room rise is))

@@ -21,7 +21,7 @@ pub fn tick_plain(alloc: Global, world: &World) -> Result<World, AllocError>
 }
 
 /// The world after one tick in which no player runs: its rooms are ruled without intents, and each
-/// account gets its limit into its bucket.
+/// account gets its limit of CPU units into its bucket, up to 10,000.
 pub fn tick_rested(alloc: Global, world: &World) -> Result<World, AllocError>
     requires tick { world.now.tick < 2 ^ 64 - 1 }
     requires sound { IsSound world.now }

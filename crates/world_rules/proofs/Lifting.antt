@@ -12,8 +12,8 @@ use Rattle.std.proofs.lemmas.List.Sums.{sum_by-cons, sum_by-append}
 use Rattle.object_store.specs.declared.object.Object.{Object}
 use Rattle.object_store.specs.declared.account.Account.{Account}
 use Rattle.object_store.specs.declared.world.Room.{Room}
-use Rattle.object_store.specs.Tables.{Table}
-use Rattle.object_store.specs.Stored.{Stored}
+use Rattle.object_store.specs.Tables.{Table, IsRising}
+use Rattle.object_store.specs.Stored.{Stored, HaveRisingTables}
 use Rattle.world_rules.specs.World.{Placed, ListedRoom, Frame, World, placed_from, listed_room, world_of}
 use Rattle.world_rules.specs.RoomParts.{RoomPart, standing_in, part_of, placed_in, with_next, with_part, in_frame, in_room, in_rooms_from, in_every_room}
 use Rattle.world_rules.specs.Upkeep.{unchanged}
@@ -343,3 +343,8 @@ module _ (f : Table → Table) (rooms : List Room) (fewer : (id : ℕ) (room : R
 
   pub once_after_all : AreIdsOnce rooms → AreIdsOnce (map (with_table f) rooms)
   once_after_all once id = omega (arith, once id, times_after_all id)
+
+-- tables rise after a change under which each rises
+pub tables_rise : (f : Table → Table) (rooms : List Room) → ((room : Room) → IsRising room.table.objects → IsRising (f room.table).objects) → HaveRisingTables rooms → HaveRisingTables (map (with_table f) rooms)
+tables_rise f [] rises rise = tt
+tables_rise f (room ∷ rooms) rises rise = (rises room rise.0, tables_rise f rooms rises rise.1)

@@ -26,11 +26,11 @@ find_tagged q index (object ∷ objects) =
     let rest = find_tagged q index objects in
     elim (eq_by_cmp nat_cmp q object.id) as (λ b. cond b (Some (tagged index object).1) (find nat_cmp q (map (tagged index) objects)) ≡ put_in index (cond b (Some object) (find nat_cmp q (keyed (λ object. object.id) objects)))) [ true ↦ refl | false ↦ rest ]
 
-pub found_in : (q index : ℕ) (room : ListedRoom) (rooms : List ListedRoom) → find nat_cmp q (placed_from index (room ∷ rooms)) ≡ option_or (put_in index (find nat_cmp q (keyed (λ object. object.id) room.objects))) (find nat_cmp q (placed_from (suc index) rooms))
+found_in : (q index : ℕ) (room : ListedRoom) (rooms : List ListedRoom) → find nat_cmp q (placed_from index (room ∷ rooms)) ≡ option_or (put_in index (find nat_cmp q (keyed (λ object. object.id) room.objects))) (find nat_cmp q (placed_from (suc index) rooms))
 found_in q index room rooms =
     find_append q (map (tagged index) room.objects) (placed_from (suc index) rooms) ∙ ap (λ found. option_or found (find nat_cmp q (placed_from (suc index) rooms))) (find_tagged q index room.objects)
 
-pub other_room : (k index : ℕ) (found : Option Object) (rest : Option Placed) → (index ≡ k → ⊥) → option_and_then (only k) rest ≡ None → option_and_then (only k) (option_or (put_in index found) rest) ≡ None
+other_room : (k index : ℕ) (found : Option Object) (rest : Option Placed) → (index ≡ k → ⊥) → option_and_then (only k) rest ≡ None → option_and_then (only k) (option_or (put_in index found) rest) ≡ None
 other_room k index None rest apart none = none
 other_room k index (Some object) rest apart none = ap (λ (b : Bool). if b then Some object else None) (ne_eqb index k apart)
 
