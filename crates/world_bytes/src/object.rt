@@ -1,5 +1,5 @@
 // Objects at the front of bytes, read in groups of fields.
-ghost use Rattle.std.specs.Prelude.{◌≡◌, ◌+◌, ◌<◌, ◌≤◌, ℕ, true, List, ◌∷◌, ◌++◌, map, length, IfOk, OnOk, OnErr, IfSome, IfNone};
+ghost use Rattle.std.specs.Prelude.{◌≡◌, ◌+◌, ◌<◌, ◌≤◌, ℕ, true, List, ◌∷◌, map, length, IfOk, OnOk, OnErr, IfSome, IfNone};
 ghost use Rattle.game_tables.specs.Kinds.{in_rules};
 ghost use Rattle.game_tables.specs.Numbers.{kind_number, part_number};
 ghost use Rattle.game_tables.specs.declared.kind.Kind.{Kind};

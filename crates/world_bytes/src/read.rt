@@ -1,10 +1,8 @@
 // Rooms and accounts, read from the front of bytes.
-ghost use Rattle.std.specs.Prelude.{◌≡◌, ◌+◌, ◌<◌, ◌≤◌, ◌^◌, ◌↔◌, ℕ, List, ◌++◌, length, IsTrue, All, IfOk, IfErr, OnOk, OnErr};
+ghost use Rattle.std.specs.Prelude.{◌≡◌, ◌+◌, ◌<◌, ◌^◌, ◌↔◌, length, IsTrue, IfOk, IfErr, OnOk, OnErr};
 ghost use Rattle.std.specs.List.{AllByRecursion};
 ghost use Rattle.byte_fields.specs.Front.{Begins, BeginsNone, BeginsOnly};
-ghost use Rattle.object_store.specs.Tables.{IsRising, Table};
-ghost use Rattle.object_store.specs.declared.object.Object.{Object};
-ghost use Rattle.object_store.specs.declared.account.Account.{Account};
+ghost use Rattle.object_store.specs.Tables.{IsRising};
 ghost use Rattle.world_bytes.specs.Forms.{SpellsRoom, SpellsAccount};
 ghost use Rattle.world_bytes.specs.Rows.{Leads, LeadsNone, AreObjects, objects_row, HasMemoryForm, memory_row};
 
@@ -27,7 +25,7 @@ fn is_behind(id: u64, objects: &[Object]) -> bool
     }
 }
 
-// Reads so many objects, which grow as they are read.
+// Reads so many objects, and takes memory as they are read.
 fn read_objects(alloc: Global, count: u32, from: &mut Cursor) -> Result<Vec<Object>, BytesFault>
     ensures found { IfOk result (λ objects. Leads (AreObjects count) objects_row from.old.0 objects.items from.new.0) }
     ensures malformed { IfErr result (λ e. e ≡ BytesFault.Malformed → LeadsNone (AreObjects count) objects_row from.old.0) }

@@ -1,5 +1,5 @@
 // Bytes written out by hand, each cause of a refusal, and every kind there and back.
-ghost use Rattle.std.specs.Prelude.{◌≡◌, IfOk};
+ghost use Rattle.std.specs.Prelude.{◌≡◌};
 
 use crate::{BytesFault, NoMemory, read_account, read_room, write_account, write_room};
 use byte_fields::Cursor;
@@ -17,6 +17,16 @@ const SMALL: [u8; 116] = [
     2, 0, 0, 0, 0, 0, 0, 0, 9, 20, 20, 0, 0, 0, 0, 0, 0, 0, 0,
     0xe7, 0x03, 0, 0, 0, 0, 0, 0, 0, 0, 0, 0, 0, 0, 0, 0,
     0, 0, 0, 0, 0, 0, 0, 0, 0, 0, 0, 0, 0, 0, 0, 0, 0,
+];
+
+// Room 399 whose next serial is 2^32 - 1, with one creep of every part, all of whose numbers differ.
+#[rattlefmt::skip]
+const CREEP: [u8; 72] = [
+    0x8f, 0x01, 0, 0, 0xff, 0xff, 0xff, 0xff, 1, 0, 0, 0,
+    1, 2, 3, 4, 5, 6, 7, 8, 3, 49, 48, 4, 3, 2, 1, 5, 0, 0, 0,
+    0x88, 0x77, 0x66, 0x55, 0x44, 0x33, 0x22, 0x11, 6, 0, 0, 0, 7, 0, 0, 0,
+    0x11, 0x22, 0x33, 0x44, 0x55, 0x66, 0x77, 0x88, 8, 0, 0, 0, 9, 0, 0, 0,
+    8, 1, 2, 3, 4, 5, 6, 7, 8,
 ];
 
 // The account of player 1 with limit 20, bucket 1,000, 70,000 points and the memory text "ab".
@@ -92,28 +102,56 @@ fn all_parts() -> Body {
     body
 }
 
+// What an object has, in the order of its bytes, but for its body.
+fn numbers_of(object: &Object) -> [u64; 12] {
+    [
+        object.id,
+        u64::from(object.kind.number()),
+        u64::from(object.x),
+        u64::from(object.y),
+        u64::from(object.owner),
+        u64::from(object.hits),
+        object.energy,
+        u64::from(object.timer),
+        u64::from(object.extra),
+        object.progress,
+        u64::from(object.other),
+        u64::from(object.other_ticks),
+    ]
+}
+
+// The object of this id in the room that the bytes begin with, and the bytes that are written of this room.
+fn room_back(
+    alloc: Global,
+    bytes: &[u8],
+    id: u64,
+) -> Result<(Option<Object>, Vec<u8>), BytesFault> {
+    let (index, room) = read_room(alloc, &mut Cursor::over(bytes))?;
+    let mut out = Vec::from_slice(alloc, &[0xbb])?;
+    write_room(index, &room, &mut out)?;
+    Ok((room.get(id).copied(), out))
+}
+
+// The bytes of room 399 with this object alone.
+fn written_alone(alloc: Global, object: Object) -> Result<Vec<u8>, NoMemory> {
+    let mut objects = Vec::new(alloc);
+    objects.push(object)?;
+    let mut out = Vec::new(alloc);
+    write_room(399, &RoomTable::of(399, 0xffff_ffff, objects), &mut out)?;
+    Ok(out)
+}
+
 #[test]
 fn a_small_room_has_these_bytes(rt: HostRuntime) -> Result<(), Fail> {
     let bytes = changed(rt.alloc(), &SMALL, &[], &[0xaa])?;
-    let mut from = Cursor::over(&bytes);
-    let (index, room) = read_room(rt.alloc(), &mut from)?;
-    assert_eq!(rt;
-        (index, room.next(), room.len(), from.place()),
-        (0, 3, 2, 116)
-    );
-    assert_eq!(rt;
-        room.get(1)
-            .map(|source| (source.kind, source.x, source.energy)),
-        Some((Kind::Source, 10, 1500))
-    );
-    assert_eq!(rt;
-        room.get(2).map(|pile| (pile.kind, pile.y, pile.energy)),
-        Some((Kind::Pile, 20, 999))
-    );
-    let mut out = Vec::from_slice(rt.alloc(), &[0xbb])?;
-    write_room(index, &room, &mut out)?;
-    assert_eq!(rt; out.len(), 117);
-    assert_eq!(rt; &out[1..], &SMALL[..]);
+    let whole = changed(rt.alloc(), &[0xbb], &[], &SMALL)?;
+    let source = [1, 1, 10, 10, 0, 0, 1500, 0, 0, 0, 0, 0];
+    let pile = [2, 9, 20, 20, 0, 0, 999, 0, 0, 0, 0, 0];
+    for (id, numbers) in [(1, source), (2, pile)] {
+        let (object, out) = room_back(rt.alloc(), &bytes, id)?;
+        assert_eq!(rt; numbers_of(&object.ok_or("no object")?), numbers);
+        assert_eq!(rt; out.as_slice(), whole.as_slice());
+    }
     Ok(())
 }
 
@@ -177,30 +215,14 @@ fn rooms_are_read(rt: HostRuntime) -> Result<(), Fail> {
 fn every_kind_comes_back(rt: HostRuntime) -> Result<(), Fail> {
     for number in 1..=10 {
         let kind = Kind::of_number(number).ok_or("a number of no kind")?;
-        let mut objects = Vec::new(rt.alloc());
-        objects.push(full(0x0807_0605_0403_0201, kind, all_parts()))?;
-        let room = RoomTable::of(399, 0xffff_ffff, objects);
-        let mut out = Vec::new(rt.alloc());
-        write_room(399, &room, &mut out)?;
-        assert_eq!(rt; out.len(), 12 + 52 + 8);
-        let mut from = Cursor::over(&out);
-        let (index, back) = read_room(rt.alloc(), &mut from)?;
-        assert_eq!(rt; (index, back.next(), from.left()), (399, 0xffff_ffff, 0));
-        let object = back.nth(0).ok_or("no object")?;
-        assert_eq!(rt;
-            (object.id, object.kind, object.x, object.y),
-            (0x0807_0605_0403_0201, kind, 49, 48)
-        );
-        assert_eq!(rt;
-            (object.owner, object.hits, object.timer, object.extra),
-            (0x0102_0304, 5, 6, 7)
-        );
-        assert_eq!(rt;
-            (object.energy, object.progress),
-            (0x1122_3344_5566_7788, 0x8877_6655_4433_2211)
-        );
-        assert_eq!(rt; (object.other, object.other_ticks), (8, 9));
-        assert_eq!(rt; object.body.parts(), all_parts().parts());
+        let written = full(0x0807_0605_0403_0201, kind, all_parts());
+        let bytes = written_alone(rt.alloc(), written)?;
+        let bytes_by_hand = changed(rt.alloc(), &CREEP, &[(20, number)], &[])?;
+        assert_eq!(rt; bytes.as_slice(), bytes_by_hand.as_slice());
+        let (read, _) = room_back(rt.alloc(), &bytes, written.id)?;
+        let read = read.ok_or("no object")?;
+        assert_eq!(rt; numbers_of(&read), numbers_of(&written));
+        assert_eq!(rt; read.body.parts(), written.body.parts());
     }
     Ok(())
 }

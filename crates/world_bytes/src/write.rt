@@ -79,7 +79,8 @@ fn put_room(index: u32, room: &RoomTable, out: &mut Vec<u8>) -> Result<(), NoMem
     put_objects(room.objects(), out)
 }
 
-/// Writes the room of this index to the end of the bytes.
+/// Writes the room of this index to the end of the bytes. A room that has no form is written too, and
+/// is not read again as it was.
 pub fn write_room(index: u32, room: &RoomTable, out: &mut Vec<u8>) -> Result<(), NoMemory>
     requires { index ≡ room.now.index }
     ensures written { OnOk result (out.new.items ≡ out.old.items ++ room_bytes room.now) }
@@ -93,12 +94,12 @@ pub fn write_room(index: u32, room: &RoomTable, out: &mut Vec<u8>) -> Result<(),
     written
 }
 
-// Writes the low four bytes of a length.
-fn put_length(length: u64, out: &mut Vec<u8>) -> Result<(), NoMemory>
-    ensures written { OnOk result (out.new.items ≡ out.old.items ++ little_bytes 4 length) }
+// Writes the low four bytes of a length, which are the whole of it for a text that has a form.
+fn put_length(number: u64, out: &mut Vec<u8>) -> Result<(), NoMemory>
+    ensures written { OnOk result (out.new.items ≡ out.old.items ++ little_bytes 4 number) }
     ensures unchanged { OnErr result (out.new.items ≡ out.old.items) }
 {
-    put_u32(out, (length % (1 << 32)) as u32)
+    put_u32(out, (number % (1 << 32)) as u32)
 }
 
 // Writes an account. On want of memory a part of it may stand there.
@@ -114,7 +115,8 @@ fn put_account(account: &Account, out: &mut Vec<u8>) -> Result<(), NoMemory>
     out.extend_from_slice(account.memory.as_slice())
 }
 
-/// Writes the account to the end of the bytes.
+/// Writes the account to the end of the bytes. An account that has no form is written too, and is not
+/// read again as it was.
 pub fn write_account(account: &Account, out: &mut Vec<u8>) -> Result<(), NoMemory>
     ensures written { OnOk result (out.new.items ≡ out.old.items ++ account_bytes account.now) }
     ensures unchanged { OnErr result (out.new.items ≡ out.old.items) }
