@@ -2,6 +2,6 @@ pub mod Minima
 pub mod Twice
 pub mod Found
 pub mod Placing
-pub mod Order
+pub mod Ticks
 pub mod Breaks
 pub mod OnTiles

@@ -1,4 +1,4 @@
--- The rules in the order of the tests.
+-- The rules at each tick.
 use Rattle.std.proofs.Common.{◌≡◌, ℕ, zero, suc, ◌+◌, ◌<◌, ◌≤◌, ◌==◌, cond, List, get_or, Option, Some, None, refl, sym, ap, subst, ◌∙◌, arith, inl, inr}
 use Rattle.std.proofs.lemmas.Bool.{cases_lt}
 use Rattle.object_store.specs.declared.account.Account.{Account}
@@ -7,7 +7,6 @@ use Rattle.world_rules.specs.declared.rule.Rule.TheVariants as rules
 use Rattle.world_rules.specs.World.{Listing}
 use Rattle.world_rules.specs.Rules.{Broken, IsFirstBroken, KeepsRules, IsWithinCounts, rule_place}
 use Rattle.rule_check.specs.declared.view.RoomView.{RoomView}
-use Rattle.rule_check.specs.declared.first.TheConstants.{ORDER}
 use Rattle.rule_check.specs.Views.{viewed}
 use Rattle.rule_check.specs.Checks.{IsLeast, KeptBelow}
 
@@ -33,19 +32,3 @@ first_at_each_tick rooms accounts rule n kept least tick = record {
   earlier = λ other m less broken. kept other m less (any_tick rooms accounts tick 0 other m broken);
   least = λ m less broken. least.1 m less (any_tick rooms accounts tick 0 rule m broken);
 }
-
--- the places of the rules in their order
-pub order_place : (i : ℕ) (d : Rule) → i < 12 → rule_place (get_or ORDER i d) ≡ i + 1
-order_place zero d less = refl
-order_place (suc zero) d less = refl
-order_place (suc (suc zero)) d less = refl
-order_place (suc (suc (suc zero))) d less = refl
-order_place (suc (suc (suc (suc zero)))) d less = refl
-order_place (suc (suc (suc (suc (suc zero))))) d less = refl
-order_place (suc (suc (suc (suc (suc (suc zero)))))) d less = refl
-order_place (suc (suc (suc (suc (suc (suc (suc zero))))))) d less = refl
-order_place (suc (suc (suc (suc (suc (suc (suc (suc zero)))))))) d less = refl
-order_place (suc (suc (suc (suc (suc (suc (suc (suc (suc zero))))))))) d less = refl
-order_place (suc (suc (suc (suc (suc (suc (suc (suc (suc (suc zero)))))))))) d less = refl
-order_place (suc (suc (suc (suc (suc (suc (suc (suc (suc (suc (suc zero))))))))))) d less = refl
-order_place (suc (suc (suc (suc (suc (suc (suc (suc (suc (suc (suc (suc i)))))))))))) d less = absurd (omega arith)
