@@ -1,0 +1,169 @@
+// The record of what one player wants of a tick.
+ghost use Rattle.std.specs.Prelude.{◌≡◌, ◌≤◌, ◌↔◌, IsTrue, [], length, IfOk, if◌then◌else◌, slice_get, option_copied, IsPermutation, IsSortedByKey};
+ghost use Rattle.std.specs.List.{IsDistinct};
+ghost use Rattle.intent_book.specs.Records.{AreOf, accepts, entries_bound, place, place_cmp, put_last, same_place};
+
+use crate::entries::{Entries, Kept, fresh, keep, next_kept, pour};
+use crate::intent::{Intent, Intents};
+use indexmap::IndexMap;
+use std::alloc::{AllocError as NoMemory, Global};
+use std::marker::Model;
+
+/// The most entries of a record.
+pub fn most_entries() -> u32
+    ensures { result ≡ entries_bound }
+{
+    4_096
+}
+
+/// A player's intents in the order in which he last asked for them, no two of one action and actor.
+///
+/// All memory is taken when it is made. Each entry has a number that rises with every put, and the
+/// list is the entries by their numbers, so a put moves no entry.
+#[derive(Drop)]
+pub struct Recorded {
+    player: u32,
+    next: u64,
+    entries: Entries,
+    canonical: Vec<Intent>,
+}
+
+impl Model for Recorded {
+    ghost use Rattle.intent_book.specs.Records.{Record};
+
+    ghost Value = { Record };
+
+    ghost use Rattle.intent_book.specs.Held.{record_of, IsHeld};
+
+    ghost view = { record_of };
+
+    ghost invariant = { IsHeld };
+}
+
+impl Recorded {
+    /// A player's record with no entry yet, and all the memory that it will ever need.
+    pub fn reserve(alloc: Global, player: u32) -> Result<Recorded, NoMemory>
+        ensures { IfOk result (λ r. r ≡ record { player = player; entries = [] }) }
+    {
+        let most = most_entries() as usize;
+        let entries = IndexMap::with_capacity(alloc, most)?;
+        let canonical = Vec::with_capacity(alloc, most)?;
+        Ok(Recorded {
+            player,
+            next: 0,
+            entries,
+            canonical,
+        })
+    }
+
+    /// Whose record it is.
+    pub fn player(&self) -> u32
+        ensures { result ≡ self.now.player }
+    {
+        self.player
+    }
+
+    /// Takes out the entry of the same action and actor, where there is one, and adds the new one at
+    /// the end. It changes nothing, and answers false, exactly where the record is full and no entry
+    /// has that action and actor. It takes no memory.
+    pub fn put(&mut self, intent: Intent) -> bool
+        requires own { intent.player ≡ self.old.player }
+        ensures answer { result ≡ accepts self.old.entries intent }
+        ensures record { self.new ≡ record self.old { entries = (if result then put_last self.old.entries intent else self.old.entries) } }
+    {
+        let order = fresh(&mut self.entries, self.next);
+        self.next = order;
+        if !keep(&mut self.entries, Kept { order, intent }) {
+            return false;
+        }
+        self.next = order + 1;
+        true
+    }
+
+    /// The number of entries.
+    pub fn len(&self) -> u32
+        ensures len { result ≡ length self.now.entries }
+        ensures most { result ≤ entries_bound }
+        ensures distinct { IsDistinct same_place self.now.entries }
+        ensures own { AreOf self.now.player self.now.entries }
+    {
+        self.entries.len() as u32
+    }
+
+    /// Whether there is no entry.
+    pub fn is_empty(&self) -> bool
+        ensures { IsTrue result ↔ (self.now.entries ≡ []) }
+    {
+        self.len() == 0
+    }
+
+    /// The entry at a place, from 0 on. It looks through all entries once for each place before it.
+    pub fn nth(&self, i: u32) -> Option<&Intent>
+        ensures { option_copied result ≡ slice_get self.now.entries i }
+    {
+        let mut from = 0;
+        for _done in 0..i {
+            match next_kept(&self.entries, from) {
+                Some((_, kept)) => from = kept.order + 1,
+                None => return None,
+            }
+        }
+        match next_kept(&self.entries, from) {
+            Some((at, _)) => match self.entries.get_index(at) {
+                Some((_, kept)) => Some(&kept.intent),
+                None => None,
+            },
+            None => None,
+        }
+    }
+
+    /// The entries by action and then by actor. It takes no memory.
+    pub fn into_canonical(self) -> Intents
+        ensures same { IsPermutation self.entries result }
+        ensures sorted { IsSortedByKey place place_cmp result }
+        ensures distinct { IsDistinct same_place result }
+        ensures own { AreOf self.player result }
+        ensures most { length result ≤ entries_bound }
+    {
+        let Recorded {
+            player: _,
+            next: _,
+            entries,
+            mut canonical,
+        } = self;
+        pour(&entries, &mut canonical);
+        canonical.sort_unstable_by_key(|intent| intent.place());
+        Intents::of(canonical)
+    }
+}
+
+#[cfg(test)]
+mod tests {
+    use super::*;
+    use crate::entries::renumber;
+    use crate::tests::{intent, told};
+    use game_tables::Action;
+    use std::test::Fail;
+
+    #[test]
+    fn new_numbers_keep_the_list(rt: HostRuntime) -> Result<(), Fail> {
+        let mut record = Recorded::reserve(rt.alloc(), 7)?;
+        for actor in 0..5 {
+            assert!(rt; record.put(intent(Action::DropLoad, actor, 0)));
+        }
+        assert!(rt; record.put(intent(Action::DropLoad, 1, 1)));
+        assert!(rt; record.put(intent(Action::DropLoad, 3, 2)));
+        assert!(rt; record.put(intent(Action::DropLoad, 1, 3)));
+        assert_eq!(rt; record.next, 8);
+        record.next = renumber(&mut record.entries, record.next);
+        assert_eq!(rt; record.next, 5);
+        assert_eq!(rt; told(record.nth(0)), Some((1, 0, 0)));
+        assert_eq!(rt; told(record.nth(1)), Some((1, 2, 0)));
+        assert_eq!(rt; told(record.nth(2)), Some((1, 4, 0)));
+        assert_eq!(rt; told(record.nth(3)), Some((1, 3, 2)));
+        assert_eq!(rt; told(record.nth(4)), Some((1, 1, 3)));
+        assert!(rt; record.put(intent(Action::DropLoad, 0, 4)));
+        assert_eq!(rt; told(record.nth(4)), Some((1, 0, 4)));
+        Ok(())
+    }
+}

@@ -1,0 +1,104 @@
+// Each public call with ample memory, and the list after puts that replace.
+ghost use Rattle.std.specs.Prelude.{◌≡◌};
+
+use crate::{
+    Action, Body, Bytes, Intent, Intents, Part, PlayerRun, Recorded, RunOutcome, most_entries,
+};
+use std::test::Fail;
+
+pub(crate) fn intent(action: Action, actor: u64, amount: u64) -> Intent
+    ensures { result.player ≡ 7 }
+{
+    Intent {
+        player: 7,
+        action,
+        actor,
+        target: 0,
+        amount,
+        body: Body::new(),
+    }
+}
+
+// The number of the action, the actor and the amount of an entry.
+pub(crate) fn told(entry: Option<&Intent>) -> Option<(u8, u64, u64)> {
+    entry.map(|intent| (intent.action.number(), intent.actor, intent.amount))
+}
+
+#[test]
+fn second_put_stands_last(rt: HostRuntime) -> Result<(), Fail> {
+    let mut record = Recorded::reserve(rt.alloc(), 7)?;
+    assert_eq!(rt; record.player(), 7);
+    assert!(rt; record.is_empty());
+    assert!(rt; record.put(intent(Action::DropLoad, 9, 1)));
+    assert!(rt; record.put(intent(Action::Transfer, 9, 3)));
+    assert!(rt; record.put(intent(Action::DropLoad, 9, 5)));
+    assert_eq!(rt; record.len(), 2);
+    assert_eq!(rt; told(record.nth(0)), Some((2, 9, 3)));
+    assert_eq!(rt; told(record.nth(1)), Some((1, 9, 5)));
+    assert_eq!(rt; told(record.nth(2)), None);
+    let canonical = record.into_canonical();
+    assert_eq!(rt; canonical.len(), 2);
+    assert_eq!(rt; told(canonical.nth(0)), Some((1, 9, 5)));
+    assert_eq!(rt; told(canonical.nth(1)), Some((2, 9, 3)));
+    Ok(())
+}
+
+#[test]
+fn one_action_twice_is_one_entry(rt: HostRuntime) -> Result<(), Fail> {
+    let mut body = Body::new();
+    body.push(Part::Work);
+    body.push(Part::Move);
+    let spawn = Intent {
+        body,
+        ..intent(Action::SpawnCreep, 9, 1)
+    };
+    let mut record = Recorded::reserve(rt.alloc(), 7)?;
+    assert!(rt; record.put(intent(Action::SpawnCreep, 9, 5)));
+    assert!(rt; record.put(spawn));
+    assert_eq!(rt; record.len(), 1);
+    assert_eq!(rt; told(record.nth(0)), Some((21, 9, 1)));
+    let Some(kept) = record.nth(0) else {
+        panic!(rt; "no entry");
+    };
+    assert_eq!(rt; kept.body.parts(), [Part::Work, Part::Move].as_slice());
+    Ok(())
+}
+
+#[test]
+fn full_record_takes_only_what_stands(rt: HostRuntime) -> Result<(), Fail> {
+    let mut record = Recorded::reserve(rt.alloc(), 7)?;
+    for actor in 0..4096 {
+        assert!(rt; record.put(intent(Action::DropLoad, actor, 0)));
+    }
+    assert_eq!(rt; record.len(), most_entries());
+    assert!(rt; !record.put(intent(Action::DropLoad, 4096, 0)));
+    assert!(rt; !record.put(intent(Action::Transfer, 0, 0)));
+    assert_eq!(rt; told(record.nth(0)), Some((1, 0, 0)));
+    assert!(rt; record.put(intent(Action::DropLoad, 0, 8)));
+    assert_eq!(rt; record.len(), 4096);
+    assert_eq!(rt; told(record.nth(0)), Some((1, 1, 0)));
+    let canonical = record.into_canonical();
+    assert_eq!(rt; canonical.len(), 4096);
+    assert_eq!(rt; told(canonical.nth(0)), Some((1, 0, 8)));
+    assert_eq!(rt; told(canonical.nth(4095)), Some((1, 4095, 0)));
+    Ok(())
+}
+
+#[test]
+fn run_holds_its_intents(rt: HostRuntime) -> Result<(), Fail> {
+    let mut intents = Intents::new(rt.alloc());
+    assert!(rt; intents.is_empty());
+    intents.push(intent(Action::Move, 9, 4))?;
+    let run = PlayerRun {
+        player: 7,
+        outcome: RunOutcome::Trapped(3),
+        used: 10_000,
+        intents,
+        memory: Bytes::new(rt.alloc()),
+    };
+    assert_eq!(rt; run.outcome, RunOutcome::Trapped(3));
+    assert_eq!(rt; run.intents.len(), 1);
+    assert_eq!(rt; run.intents.as_slice().len(), 1);
+    assert_eq!(rt; told(run.intents.nth(0)), Some((22, 9, 4)));
+    Ok(())
+}
