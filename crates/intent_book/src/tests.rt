@@ -26,17 +26,17 @@ pub(crate) fn told(entry: Option<&Intent>) -> Option<(u8, u64, u64)> {
 
 #[test]
 fn second_put_stands_last(rt: HostRuntime) -> Result<(), Fail> {
-    let mut record = Recorded::reserve(rt.alloc(), 7)?;
-    assert_eq!(rt; record.player(), 7);
-    assert!(rt; record.is_empty());
-    assert!(rt; record.put(intent(Action::DropLoad, 9, 1)));
-    assert!(rt; record.put(intent(Action::Transfer, 9, 3)));
-    assert!(rt; record.put(intent(Action::DropLoad, 9, 5)));
-    assert_eq!(rt; record.len(), 2);
-    assert_eq!(rt; told(record.nth(0)), Some((2, 9, 3)));
-    assert_eq!(rt; told(record.nth(1)), Some((1, 9, 5)));
-    assert_eq!(rt; told(record.nth(2)), None);
-    let canonical = record.into_canonical();
+    let mut recorded = Recorded::reserve(rt.alloc(), 7)?;
+    assert_eq!(rt; recorded.player(), 7);
+    assert!(rt; recorded.is_empty());
+    assert!(rt; recorded.put(intent(Action::DropLoad, 9, 1)));
+    assert!(rt; recorded.put(intent(Action::Transfer, 9, 3)));
+    assert!(rt; recorded.put(intent(Action::DropLoad, 9, 5)));
+    assert_eq!(rt; recorded.len(), 2);
+    assert_eq!(rt; told(recorded.nth(0)), Some((2, 9, 3)));
+    assert_eq!(rt; told(recorded.nth(1)), Some((1, 9, 5)));
+    assert_eq!(rt; told(recorded.nth(2)), None);
+    let canonical = recorded.into_canonical();
     assert_eq!(rt; canonical.len(), 2);
     assert_eq!(rt; told(canonical.nth(0)), Some((1, 9, 5)));
     assert_eq!(rt; told(canonical.nth(1)), Some((2, 9, 3)));
@@ -52,12 +52,12 @@ fn one_action_twice_is_one_entry(rt: HostRuntime) -> Result<(), Fail> {
         body,
         ..intent(Action::SpawnCreep, 9, 1)
     };
-    let mut record = Recorded::reserve(rt.alloc(), 7)?;
-    assert!(rt; record.put(intent(Action::SpawnCreep, 9, 5)));
-    assert!(rt; record.put(spawn));
-    assert_eq!(rt; record.len(), 1);
-    assert_eq!(rt; told(record.nth(0)), Some((21, 9, 1)));
-    let Some(kept) = record.nth(0) else {
+    let mut recorded = Recorded::reserve(rt.alloc(), 7)?;
+    assert!(rt; recorded.put(intent(Action::SpawnCreep, 9, 5)));
+    assert!(rt; recorded.put(spawn));
+    assert_eq!(rt; recorded.len(), 1);
+    assert_eq!(rt; told(recorded.nth(0)), Some((21, 9, 1)));
+    let Some(kept) = recorded.nth(0) else {
         panic!(rt; "no entry");
     };
     assert_eq!(rt; kept.body.parts(), [Part::Work, Part::Move].as_slice());
@@ -66,18 +66,18 @@ fn one_action_twice_is_one_entry(rt: HostRuntime) -> Result<(), Fail> {
 
 #[test]
 fn full_record_takes_only_what_stands(rt: HostRuntime) -> Result<(), Fail> {
-    let mut record = Recorded::reserve(rt.alloc(), 7)?;
+    let mut recorded = Recorded::reserve(rt.alloc(), 7)?;
     for actor in 0..4096 {
-        assert!(rt; record.put(intent(Action::DropLoad, actor, 0)));
+        assert!(rt; recorded.put(intent(Action::DropLoad, actor, 0)));
     }
-    assert_eq!(rt; record.len(), most_entries());
-    assert!(rt; !record.put(intent(Action::DropLoad, 4096, 0)));
-    assert!(rt; !record.put(intent(Action::Transfer, 0, 0)));
-    assert_eq!(rt; told(record.nth(0)), Some((1, 0, 0)));
-    assert!(rt; record.put(intent(Action::DropLoad, 0, 8)));
-    assert_eq!(rt; record.len(), 4096);
-    assert_eq!(rt; told(record.nth(0)), Some((1, 1, 0)));
-    let canonical = record.into_canonical();
+    assert_eq!(rt; recorded.len(), most_entries());
+    assert!(rt; !recorded.put(intent(Action::DropLoad, 4096, 0)));
+    assert!(rt; !recorded.put(intent(Action::Transfer, 0, 0)));
+    assert_eq!(rt; told(recorded.nth(0)), Some((1, 0, 0)));
+    assert!(rt; recorded.put(intent(Action::DropLoad, 0, 8)));
+    assert_eq!(rt; recorded.len(), 4096);
+    assert_eq!(rt; told(recorded.nth(0)), Some((1, 1, 0)));
+    let canonical = recorded.into_canonical();
     assert_eq!(rt; canonical.len(), 4096);
     assert_eq!(rt; told(canonical.nth(0)), Some((1, 0, 8)));
     assert_eq!(rt; told(canonical.nth(4095)), Some((1, 4095, 0)));
