@@ -3,7 +3,7 @@ use Rattle.std.proofs.Common.{◌≡◌, ℕ, zero, suc, ◌+◌, List, [], ◌�
 use Rattle.world_rules.specs.World.{Frame, World}
 use Rattle.world_rules.specs.RoomParts.{RoomPart, in_frame, in_room, in_rooms_from}
 use Rattle.world_rules.specs.Upkeep.{in_turn, steps}
-use Rattle.world_rules.specs.Tick.{next_world, inner, begun, sums_of, moved}
+use Rattle.world_rules.specs.Tick.{next_world, begun, sums_of, moved}
 
 frame_tick : (change : RoomPart → RoomPart) (world : World) (index : ℕ) (frame : Option Frame) → (in_frame change world index frame).tick ≡ world.tick
 frame_tick change world index None = refl

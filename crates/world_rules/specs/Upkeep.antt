@@ -73,15 +73,15 @@ unchanged part = part
 -- the ten steps, in their order
 abbrev pub steps : Sums → List (RoomPart → RoomPart)
 steps sums =
-    unchanged -- hits change by healing and damage, and what has none left is gone
-    ∷ unchanged -- loads above the capacity fall
-    ∷ unchanged -- creeps age and die
-    ∷ unchanged -- fatigue falls
-    ∷ unchanged -- spawns gain energy
-    ∷ unchanged -- spawns make creeps
-    ∷ unchanged -- controllers lose time
+    unchanged  -- hits change by healing and damage, and what has none left is gone
+    ∷ unchanged  -- loads above the capacity fall
+    ∷ unchanged  -- creeps age and die
+    ∷ unchanged  -- fatigue falls
+    ∷ unchanged  -- spawns gain energy
+    ∷ unchanged  -- spawns make creeps
+    ∷ unchanged  -- controllers lose time
     ∷ renewed
-    ∷ unchanged -- containers and roads decay
+    ∷ unchanged  -- containers and roads decay
     ∷ decayed
     ∷ []
 
