@@ -1,10 +1,2 @@
-pub mod Keys
-pub mod Digits
-pub mod Facts
-pub mod FirstFaults
-pub mod Reading
-pub mod Form
-pub mod Files
+pub mod Readings
 pub mod Drafts
-pub mod Checks
-pub mod Written

@@ -1,38 +1,66 @@
 // The world of a draft that keeps the rules.
-ghost use Rattle.std.specs.Prelude.{◌≡◌, ◌<◌, ◌≤◌, ◌^◌, ℕ, length, IfOk};
-ghost use Rattle.world_rules.specs.World.{world_of, world_listed};
-ghost use Rattle.world_rules.specs.Rules.{KeepsRules};
-ghost use Rattle.world_rules.specs.Sound.{IsSound};
-ghost use Rattle.world_text.specs.Drafts.{drafted};
-ghost use Rattle.world_text.specs.Checks.{IsTableOf, HasEachOnce};
+ghost use Rattle.std.specs.Prelude.{◌≡◌, ◌<◌, ◌^◌, ◌+◌, ◌++◌, [], length, map, IfOk, OnOk};
+ghost use Rattle.std.specs.List.{AllByRecursion};
+ghost use Rattle.rule_check.specs.Views.{viewed_room, IsOrdered};
+ghost use Rattle.object_store.specs.Stored.{AreRising};
+ghost use Rattle.world_rules.specs.World.{listed_room};
+ghost use Rattle.world_text.specs.Drafts.{drafted_room, IsOrderedDraft, IsRisingDraft, HavePlaces};
 
-use crate::draft::{Draft, RoomDraft};
-use object_store::{RoomTable, World};
+use crate::draft::RoomDraft;
+use object_store::{Account, RoomTable, World};
+use rule_check::RoomView;
 use std::alloc::{AllocError, Global};
 
-/// The world that a draft lists.
-pub fn build(alloc: Global, draft: &Draft) -> Result<World, AllocError>
-    requires { KeepsRules (drafted draft.now) }
-    ensures same { IfOk result (λ world. world_of world ≡ world_listed (drafted draft.now)) }
-    ensures sound { IfOk result IsSound }
-    ensures tick { IfOk result (λ world. world.tick ≡ draft.now.tick) }
+/// The rooms of a draft, lent for the test of the rules.
+pub fn views_of(alloc: Global, rooms: &[RoomDraft]) -> Result<Vec<RoomView<'_>>, AllocError>
+    requires { AllByRecursion IsOrderedDraft rooms.now }
+    ensures same { IfOk result (λ views. map viewed_room views.items ≡ map drafted_room rooms.now) }
+    ensures ordered { IfOk result (λ views. AllByRecursion IsOrdered views.items) }
 {
-    let mut world = World::empty(alloc, draft.tick);
-    for (index, room) in draft.rooms.iter().enumerate() {
-        let table = table_of(alloc, index as u32, room)?;
-        let terrain = room.terrain.copy(alloc)?;
-        world.push_room(room.name, terrain, table)?;
+    let mut views = Vec::with_capacity(alloc, rooms.len())?;
+    for room in rooms {
+        views.push(RoomView {
+            name: room.name,
+            terrain: &room.terrain,
+            next: room.next,
+            objects: &room.objects,
+        })?;
     }
-    Ok(world)
+    Ok(views)
 }
 
-// The table of a room, with its objects in rising id.
-fn table_of(alloc: Global, index: u32, room: &RoomDraft) -> Result<RoomTable, AllocError>
-    requires once { HasEachOnce room.now.objects.items }
-    requires within { length room.now.objects.items < 2 ^ 32 }
-    ensures { IfOk result (IsTableOf index room.now) }
+/// Adds rooms at the end of a world.
+pub fn add_rooms(world: &mut World, rooms: Vec<RoomDraft>) -> Result<(), AllocError>
+    requires places { HavePlaces world.old.rooms }
+    requires rising { AllByRecursion IsRisingDraft rooms.items }
+    requires room { length world.old.rooms + length rooms.items < 2 ^ 32 }
+    ensures rooms { OnOk result (map listed_room world.new.rooms ≡ map listed_room world.old.rooms ++ map drafted_room rooms.items) }
+    ensures places { OnOk result (HavePlaces world.new.rooms) }
+    ensures tick { world.new.tick ≡ world.old.tick }
+    ensures accounts { world.new.accounts ≡ world.old.accounts }
 {
-    let mut objects = Vec::from_slice(alloc, &room.objects)?;
-    objects.sort_unstable_by_key(|object| object.id);
-    Ok(RoomTable::of(index, room.next, objects))
+    for room in rooms {
+        let RoomDraft {
+            name,
+            terrain,
+            next,
+            objects,
+        } = room;
+        let table = RoomTable::of(world.rooms(), next, objects);
+        world.push_room(name, terrain, table)?;
+    }
+    Ok(())
+}
+
+/// Gives a world without accounts these.
+pub fn add_accounts(world: &mut World, accounts: Vec<Account>) -> Result<(), AllocError>
+    requires none { world.old.accounts ≡ [] }
+    requires rising { AreRising accounts.items }
+    requires room { length accounts.items < 2 ^ 32 }
+    ensures { OnOk result (world.new ≡ record world.old { accounts = accounts.items }) }
+{
+    for account in accounts {
+        world.push_account(account)?;
+    }
+    Ok(())
 }

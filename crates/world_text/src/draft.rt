@@ -1,7 +1,8 @@
 // A world as its file lists it, before the rules are tested.
-use object_store::{Object, RoomName, Terrain};
+use crate::text::Text;
+use object_store::{Account, Object, RoomName, Terrain};
 
-/// A room with its objects in the file's order.
+/// A room with its objects in the order of their ids, of which two may be the same.
 #[derive(Drop)]
 pub struct RoomDraft {
     pub name: RoomName,
@@ -10,16 +11,17 @@ pub struct RoomDraft {
     pub objects: Vec<Object>,
 }
 
-/// The tick and the rooms of a file.
+/// The accounts of the players, and their numbers with their tokens.
+#[derive(Drop)]
+pub struct Players {
+    pub accounts: Vec<Account>,
+    pub tokens: Vec<(u32, Text)>,
+}
+
+/// The tick, the rooms and the players of a file.
 #[derive(Drop)]
 pub struct Draft {
     pub tick: u64,
     pub rooms: Vec<RoomDraft>,
-}
-
-/// An object with its room.
-#[derive(Clone, Copy)]
-pub struct Standing {
-    pub room: u64,
-    pub object: Object,
+    pub players: Players,
 }

@@ -1,11 +1,25 @@
 // Single keys of a part of a world file.
-ghost use Rattle.std.specs.Prelude.{◌≡◌, ◌≤◌, ◌<◌, IfOk};
-ghost use Rattle.serde_json.specs.View.{view};
-ghost use Rattle.world_text.specs.Reading.{required, optional, formed, whole};
+ghost use Rattle.std.specs.Prelude.{◌≡◌, ◌≤◌, ◌<◌, Some, IfOk, IfErr};
+ghost use Rattle.serde_json.specs.View.{view, items_view};
+ghost use Rattle.serde_json.specs.Find.{get};
+ghost use Rattle.world_form.specs.Keys.{key};
+ghost use Rattle.world_form.specs.Facts.{Requires, Defaults, IsWhole, IsList};
+ghost use Rattle.world_form.specs.FirstFaults.{IsAbsent, required, optional};
 
-use crate::fault::WorldFault;
-use crate::field::Field;
+use crate::values::number_of;
 use serde_json::Value;
+use world_form::{Field, WorldFault};
+
+/// The value of a key that must be there.
+pub fn required_value(part: &Value, field: Field) -> Result<&Value, WorldFault>
+    ensures ok { IfOk result (λ value. get (key field) (view part.now) ≡ Some (view value.now)) }
+    ensures err { IfErr result (λ e. IsAbsent field (view part.now) × (e ≡ WorldFault.Missing field)) }
+{
+    match part.get(field.key()) {
+        Some(value) => Ok(value),
+        None => Err(WorldFault::Missing(field)),
+    }
+}
 
 /// A required whole number in a range.
 pub fn required_number(
@@ -15,16 +29,18 @@ pub fn required_number(
     low: u64,
     high: u64,
 ) -> Result<u64, WorldFault>
-    ensures form { result ≡ required field place (whole low high) (view part.now) }
+    ensures ok { IfOk result (Requires field (IsWhole low high) (view part.now)) }
     ensures within { IfOk result (λ n. n ≤ high) }
+    ensures err { IfErr result (required field (IsWhole low high) place (view part.now)).Fails }
 {
-    let Some(value) = part.get(field.key()) else {
-        return Err(WorldFault::Missing(field));
-    };
-    number_in(value, field, place, low, high)
+    let value = required_value(part, field)?;
+    match number_of(value, low, high) {
+        Some(number) => Ok(number),
+        None => Err(WorldFault::BadValue(field, place)),
+    }
 }
 
-/// A whole number in a range, which is the default where the key is absent.
+/// A whole number from 0 on, which is the default where the key is absent.
 pub fn optional_number(
     part: &Value,
     field: Field,
@@ -33,28 +49,27 @@ pub fn optional_number(
     high: u64,
 ) -> Result<u64, WorldFault>
     requires { default ≤ high }
-    ensures form { result ≡ optional field place default (whole 0 high) (view part.now) }
+    ensures ok { IfOk result (Defaults field (IsWhole 0 high) default (view part.now)) }
     ensures within { IfOk result (λ n. n ≤ high) }
+    ensures err { IfErr result (optional field (IsWhole 0 high) place (view part.now)).Fails }
 {
     let Some(value) = part.get(field.key()) else {
         return Ok(default);
     };
-    number_in(value, field, place, 0, high)
+    match number_of(value, 0, high) {
+        Some(number) => Ok(number),
+        None => Err(WorldFault::BadValue(field, place)),
+    }
 }
 
-// A value that is a whole number in a range.
-fn number_in(
-    value: &Value,
-    field: Field,
-    place: u64,
-    low: u64,
-    high: u64,
-) -> Result<u64, WorldFault>
-    ensures form { result ≡ formed field place (whole low high (view value.now)) }
-    ensures within { IfOk result (λ n. n ≤ high) }
+/// A required list.
+pub fn required_list(part: &Value, field: Field, place: u64) -> Result<&[Value], WorldFault>
+    ensures ok { IfOk result (λ values. Requires field IsList (view part.now) (items_view values.now)) }
+    ensures err { IfErr result (required field IsList place (view part.now)).Fails }
 {
-    match value.as_u64() {
-        Some(number) if low <= number && number <= high => Ok(number),
-        _ => Err(WorldFault::BadValue(field, place)),
+    let value = required_value(part, field)?;
+    match value.as_array() {
+        Some(values) => Ok(values),
+        None => Err(WorldFault::BadValue(field, place)),
     }
 }

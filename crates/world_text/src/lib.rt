@@ -3,22 +3,21 @@
 
 mod build;
 mod draft;
-mod fault;
-mod field;
 mod file;
-mod flat;
 mod keys;
 mod objects;
+mod players;
 mod read;
 mod rooms;
-mod rules;
 #[cfg(test)]
 mod tests;
 mod text;
+mod tokens;
+mod values;
 mod write;
 
-pub use fault::WorldFault;
-pub use field::Field;
 pub use read::{WorldFile, read_world};
 pub use text::Text;
+pub use tokens::Tokens;
+pub use world_form::{Field, WorldFault};
 pub use write::write_world;

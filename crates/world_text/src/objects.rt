@@ -1,102 +1,149 @@
 // The objects of a world file.
-ghost use Rattle.std.specs.Prelude.{◌≡◌, ◌≤◌, ◌<◌, [], length, Some, None, IfOk, Option};
+ghost use Rattle.std.specs.Prelude.{◌≡◌, ◌≢◌, ◌≤◌, ◌<◌, List, [], IfOk, IfErr};
 ghost use Rattle.serde_json.specs.View.{view, items_view};
-ghost use Rattle.game_tables.specs.Bodies.{parts_bound};
-ghost use Rattle.game_tables.specs.Texts.{kind_text, part_text};
-ghost use Rattle.world_text.specs.Reading.{required, optional};
-ghost use Rattle.world_text.specs.Form.{object_at, kind_in, body_in, built, named, all_kinds, part_in, all_parts, parts_of as parts, body_of};
-ghost use Rattle.world_text.specs.declared.field.Field.TheVariants as fields;
+ghost use Rattle.object_store.specs.declared.object.Object.{Object};
+ghost use Rattle.world_form.specs.Facts.{Requires, Defaults, IsKindText, IsBodyList, IsListOf, SayEach, SaysObject};
+ghost use Rattle.world_form.specs.FirstFaults.{IsFirst, required, optional, each_from, object_checks};
+ghost use Rattle.world_form.specs.declared.field.Field.TheVariants as fields;
+ghost use Rattle.world_text.specs.Readings.{SaysIdentity, identity_checks, SaysHolding, holding_checks, SaysCounters, counter_checks, list_checks};
+ghost use Rattle.world_text.specs.Drafts.{IsSorting};
 
-use crate::fault::WorldFault;
-use crate::field::Field;
-use crate::keys::{optional_number, required_number};
-use game_tables::{Body, Kind, Part, hits_max, most_parts};
+use crate::keys::{optional_number, required_list, required_number, required_value};
+use crate::values::{body_of, kind_of};
+use game_tables::{Body, Kind, hits_max, is_in_rules};
 use object_store::Object;
 use serde_json::Value;
+use std::alloc::Global;
+use world_form::{Field, WorldFault};
 
-const MOST_ID: u64 = 0x20_0000_0000_0000;
-
-const MOST_ENERGY: u64 = 0x20_0000_0000_0000;
+const MOST_53: u64 = 0x20_0000_0000_0000;
 
 const MOST_32: u64 = 0xffff_ffff;
 
-/// The object that a part of the file says, or the first fault of its keys.
-#[tactic(auto, unfolding(crate::specs::Form::object_at))]
-pub fn read_object(part: &Value, place: u64) -> Result<Object, WorldFault>
-    ensures { result ≡ object_at place (view part.now) }
+/// What an object is, and where.
+#[derive(Clone, Copy)]
+pub struct Identity {
+    pub id: u64,
+    pub kind: Kind,
+    pub x: u8,
+    pub y: u8,
+}
+
+/// Whose an object is, and what it is made of.
+#[derive(Clone, Copy)]
+pub struct Holding {
+    pub owner: u32,
+    pub body: Body,
+    pub hits: u32,
+}
+
+/// The other numbers of an object.
+#[derive(Clone, Copy)]
+pub struct Counters {
+    pub energy: u64,
+    pub timer: u32,
+    pub extra: u32,
+    pub progress: u64,
+    pub other: u32,
+    pub other_ticks: u32,
+}
+
+/// The objects of a room, in the order of their ids, or the first fault of the list.
+pub fn read_objects(alloc: Global, part: &Value, place: u64) -> Result<Vec<Object>, WorldFault>
+    ensures ok { IfOk result (λ objects. (said : List Object) × Requires fields.Objects (IsListOf SaysObject) (view part.now) said × IsSorting (λ object. object.id) said objects.items) }
+    ensures err { IfErr result (λ e. e ≢ WorldFault.Memory → IsFirst (list_checks fields.Objects object_checks place (view part.now)) e) }
 {
-    let id = required_number(part, Field::Id, place, 1, MOST_ID)?;
-    let named = read_kind(part, place)?;
-    let kind = built_kind(named)?;
+    let values = required_list(part, Field::Objects, place)?;
+    let mut objects = read_object_list(alloc, values)?;
+    objects.sort_unstable_by_key(|object| object.id);
+    Ok(objects)
+}
+
+fn read_object_list(alloc: Global, values: &[Value]) -> Result<Vec<Object>, WorldFault>
+    ensures ok { IfOk result (λ objects. SayEach SaysObject (items_view values.now) objects.items) }
+    ensures err { IfErr result (λ e. e ≢ WorldFault.Memory → IsFirst (each_from object_checks 0 (items_view values.now)) e) }
+{
+    let mut objects = Vec::with_capacity(alloc, values.len())?;
+    for (place, value) in values.iter().enumerate() {
+        let object = read_object(value, place as u64)?;
+        objects.push(object)?;
+    }
+    Ok(objects)
+}
+
+// The object that a part of the file says, or the first fault of its keys.
+fn read_object(part: &Value, place: u64) -> Result<Object, WorldFault>
+    ensures ok { IfOk result (SaysObject (view part.now)) }
+    ensures err { IfErr result (IsFirst (object_checks place (view part.now))) }
+{
+    let identity = read_identity(part, place)?;
+    let holding = read_holding(part, place, identity.kind)?;
+    let counters = read_counters(part, place)?;
+    Ok(Object {
+        id: identity.id,
+        kind: identity.kind,
+        x: identity.x,
+        y: identity.y,
+        owner: holding.owner,
+        hits: holding.hits,
+        energy: counters.energy,
+        timer: counters.timer,
+        extra: counters.extra,
+        progress: counters.progress,
+        other: counters.other,
+        other_ticks: counters.other_ticks,
+        body: holding.body,
+    })
+}
+
+fn read_identity(part: &Value, place: u64) -> Result<Identity, WorldFault>
+    ensures ok { IfOk result (SaysIdentity (view part.now)) }
+    ensures err { IfErr result (IsFirst (identity_checks place (view part.now))) }
+{
+    let id = required_number(part, Field::Id, place, 1, MOST_53)?;
+    let kind = read_kind(part, place)?;
+    if !is_in_rules(kind, 1) {
+        return Err(WorldFault::NotBuilt(kind));
+    }
     let x = required_number(part, Field::X, place, 0, 49)?;
     let y = required_number(part, Field::Y, place, 0, 49)?;
-    let owner = optional_number(part, Field::Owner, place, 0, MOST_32)?;
-    let body = read_body(part, place)?;
-    let full = hits_max(kind, &body) as u64;
-    let hits = optional_number(part, Field::Hits, place, full, MOST_32)?;
-    let energy = optional_number(part, Field::Energy, place, 0, MOST_ENERGY)?;
-    let timer = optional_number(part, Field::Timer, place, 0, MOST_32)?;
-    let extra = optional_number(part, Field::Extra, place, 0, MOST_32)?;
-    let progress = optional_number(part, Field::Progress, place, 0, MOST_ENERGY)?;
-    let other = optional_number(part, Field::Other, place, 0, MOST_32)?;
-    let other_ticks = optional_number(part, Field::OtherTicks, place, 0, MOST_32)?;
-    Ok(Object {
+    Ok(Identity {
         id,
         kind,
         x: x as u8,
         y: y as u8,
-        owner: owner as u32,
-        hits: hits as u32,
-        energy,
-        timer: timer as u32,
-        extra: extra as u32,
-        progress,
-        other: other as u32,
-        other_ticks: other_ticks as u32,
-        body,
     })
 }
 
-// The kind of an object.
 fn read_kind(part: &Value, place: u64) -> Result<Kind, WorldFault>
-    ensures { result ≡ required fields.Kind place kind_in (view part.now) }
+    ensures ok { IfOk result (Requires fields.Kind IsKindText (view part.now)) }
+    ensures err { IfErr result (required fields.Kind IsKindText place (view part.now)).Fails }
 {
-    let Some(value) = part.get(Field::Kind.key()) else {
-        return Err(WorldFault::Missing(Field::Kind));
-    };
+    let value = required_value(part, Field::Kind)?;
     match kind_of(value) {
         Some(kind) => Ok(kind),
         None => Err(WorldFault::BadValue(Field::Kind, place)),
     }
 }
 
-fn kind_of(value: &Value) -> Option<Kind>
-    ensures { result ≡ kind_in (view value.now) }
+fn read_holding(part: &Value, place: u64, kind: Kind) -> Result<Holding, WorldFault>
+    ensures ok { IfOk result (SaysHolding kind (view part.now)) }
+    ensures err { IfErr result (IsFirst (holding_checks place (view part.now))) }
 {
-    let Some(text) = value.as_str() else {
-        return None;
-    };
-    kind_named(text)
-}
-
-fn kind_named(text: &str) -> Option<Kind>
-    ensures { result ≡ named kind_text all_kinds text.now }
-{
-    Kind::of_text(text)
-}
-
-// The kind, where this server knows it.
-fn built_kind(kind: Kind) -> Result<Kind, WorldFault>
-    ensures { result ≡ built kind }
-{
-    match kind {
-        Kind::Source | Kind::Pile => Ok(kind),
-        _ => Err(WorldFault::NotBuilt(kind)),
-    }
+    let owner = optional_number(part, Field::Owner, place, 0, MOST_32)?;
+    let body = read_body(part, place)?;
+    let full = hits_max(kind, &body) as u64;
+    let hits = optional_number(part, Field::Hits, place, full, MOST_32)?;
+    Ok(Holding {
+        owner: owner as u32,
+        body,
+        hits: hits as u32,
+    })
 }
 
 fn read_body(part: &Value, place: u64) -> Result<Body, WorldFault>
-    ensures { result ≡ optional fields.Body place [] body_in (view part.now) }
+    ensures ok { IfOk result (Defaults fields.Body IsBodyList [] (view part.now)) }
+    ensures err { IfErr result (optional fields.Body IsBodyList place (view part.now)).Fails }
 {
     let Some(value) = part.get(Field::Body.key()) else {
         return Ok(Body::new());
@@ -107,51 +154,22 @@ fn read_body(part: &Value, place: u64) -> Result<Body, WorldFault>
     }
 }
 
-fn body_of(value: &Value) -> Option<Body>
-    ensures { result ≡ body_in (view value.now) }
+fn read_counters(part: &Value, place: u64) -> Result<Counters, WorldFault>
+    ensures ok { IfOk result (SaysCounters (view part.now)) }
+    ensures err { IfErr result (IsFirst (counter_checks place (view part.now))) }
 {
-    let Some(values) = value.as_array() else {
-        return None;
-    };
-    parts_within(values)
-}
-
-// A body has no more parts than a body may have.
-#[tactic(auto, using(crate::proofs::Lists::counts))]
-fn parts_within(values: &[Value]) -> Option<Body>
-    ensures { result ≡ body_of (items_view values.now) }
-{
-    if values.len() > most_parts() as usize {
-        return None;
-    }
-    parts_of(values)
-}
-
-fn parts_of(values: &[Value]) -> Option<Body>
-    requires { length values.now ≤ parts_bound }
-    ensures { result ≡ parts (items_view values.now) }
-{
-    let mut body = Body::new();
-    for value in values {
-        let Some(part) = part_of(value) else {
-            return None;
-        };
-        body.push(part);
-    }
-    Some(body)
-}
-
-fn part_of(value: &Value) -> Option<Part>
-    ensures { result ≡ part_in (view value.now) }
-{
-    let Some(text) = value.as_str() else {
-        return None;
-    };
-    part_named(text)
-}
-
-fn part_named(text: &str) -> Option<Part>
-    ensures { result ≡ named part_text all_parts text.now }
-{
-    Part::of_text(text)
+    let energy = optional_number(part, Field::Energy, place, 0, MOST_53)?;
+    let timer = optional_number(part, Field::Timer, place, 0, MOST_32)?;
+    let extra = optional_number(part, Field::Extra, place, 0, MOST_32)?;
+    let progress = optional_number(part, Field::Progress, place, 0, MOST_53)?;
+    let other = optional_number(part, Field::Other, place, 0, MOST_32)?;
+    let other_ticks = optional_number(part, Field::OtherTicks, place, 0, MOST_32)?;
+    Ok(Counters {
+        energy,
+        timer: timer as u32,
+        extra: extra as u32,
+        progress,
+        other: other as u32,
+        other_ticks: other_ticks as u32,
+    })
 }

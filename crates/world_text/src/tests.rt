@@ -87,7 +87,7 @@ fn texts_that_are_no_world_are_refused(rt: HostRuntime) {
         ),
         (
             "{\"version\":1,\"tick\":0,\"rooms\":[],\"players\":[{}]}",
-            WorldFault::BadValue(Field::Players, 0),
+            WorldFault::Missing(Field::Player),
         ),
         (
             "{\"version\":1,\"tick\":0,\"rooms\":[],\"players\":null}",

@@ -1,12 +1,12 @@
 // The text of a world.
-ghost use Rattle.std.specs.Prelude.{◌≡◌, ◌<◌, ◌∷◌, [], length, map, string_bytes, IfOk, OnOk, IsUtf8};
+ghost use Rattle.std.specs.Prelude.{◌≡◌, ◌<◌, ◌^◌, ◌∷◌, [], length, map, string_bytes, IfOk, OnOk, IsUtf8};
 ghost use Rattle.std.specs.List.{AllByRecursion};
 ghost use Rattle.serde_json.specs.Data.{string};
 ghost use Rattle.serde_json.specs.View.{view};
 ghost use Rattle.game_tables.specs.Texts.{part_text};
-ghost use Rattle.world_rules.specs.World.{listing_of};
-ghost use Rattle.world_text.specs.Files.{IsShort, Lists};
-ghost use Rattle.world_text.specs.Written.{list_data, object_data, room_data, account_data, world_data, ground_digit, hex, hex_digit, written, IsWritable};
+ghost use Rattle.world_form.specs.Digits.{ground_digit, hex, hex_digit};
+ghost use Rattle.world_form.specs.Files.{Lists};
+ghost use Rattle.world_form.specs.Written.{list_data, object_data, room_data, account_data, world_data, written, filed_of, IsWritable, IsOfTypes};
 
 use game_tables::Body;
 use object_store::{Account, Ground, Object, Room, Terrain, World};
@@ -17,15 +17,15 @@ use std::alloc::{AllocError, Global};
 pub fn write_world(alloc: Global, world: &World) -> Result<Vec<u8>, AllocError>
     ensures text { IfOk result (λ text. text.items ≡ written world.now) }
     ensures utf8 { IfOk result (λ text. IsUtf8 text.items) }
-    ensures reads_back { IfOk result (λ text. IsWritable world.now → IsShort text.items → Lists text.items (listing_of world.now)) }
+    ensures reads_back { IfOk result (λ text. IsWritable world.now → Lists text.items (filed_of world.now)) }
 {
     world_value(alloc, world)?.to_vec(alloc)
 }
 
-#[tactic(auto, unfolding(crate::specs::Written::world_data))]
+#[tactic(auto, unfolding(world_form::specs::Written::world_data))]
 fn world_value(alloc: Global, world: &World) -> Result<Value, AllocError>
     ensures value { IfOk result (λ value. view value ≡ world_data world.now) }
-    ensures all { OnOk result (AllByRecursion (λ room. length room.terrain ≡ 2500) world.now.rooms) }
+    ensures types { OnOk result (IsOfTypes world.now) }
 {
     let players = account_values(alloc, world.account_list())?;
     let rooms = room_values(alloc, world.room_list())?;
@@ -43,7 +43,7 @@ fn room_values(alloc: Global, rooms: &[Room]) -> Result<Value, AllocError>
     Ok(Value::Array(values))
 }
 
-#[tactic(auto, unfolding(crate::specs::Written::room_data))]
+#[tactic(auto, unfolding(world_form::specs::Written::room_data))]
 fn room_value(alloc: Global, room: &Room) -> Result<Value, AllocError>
     ensures value { IfOk result (λ value. view value ≡ room_data room.now) }
     ensures all { OnOk result (length room.now.terrain ≡ 2500) }
@@ -86,7 +86,7 @@ fn object_values(alloc: Global, objects: &[Object]) -> Result<Value, AllocError>
     Ok(Value::Array(values))
 }
 
-#[tactic(auto, unfolding(crate::specs::Written::object_data))]
+#[tactic(auto, unfolding(world_form::specs::Written::object_data))]
 fn object_value(alloc: Global, object: &Object) -> Result<Value, AllocError>
     ensures { IfOk result (λ value. view value ≡ object_data object.now) }
 {
@@ -119,7 +119,8 @@ fn body_value(alloc: Global, body: &Body) -> Result<Value, AllocError>
 }
 
 fn account_values(alloc: Global, accounts: &[Account]) -> Result<Value, AllocError>
-    ensures { IfOk result (λ value. view value ≡ list_data account_data accounts.now) }
+    ensures value { IfOk result (λ value. view value ≡ list_data account_data accounts.now) }
+    ensures bytes { OnOk result (AllByRecursion (λ account. AllByRecursion (λ byte. byte < 2 ^ 8) account.memory) accounts.now) }
 {
     let mut values = Vec::new(alloc);
     for account in accounts {
@@ -128,9 +129,10 @@ fn account_values(alloc: Global, accounts: &[Account]) -> Result<Value, AllocErr
     Ok(Value::Array(values))
 }
 
-#[tactic(auto, unfolding(crate::specs::Written::account_data))]
+#[tactic(auto, unfolding(world_form::specs::Written::account_data))]
 fn account_value(alloc: Global, account: &Account) -> Result<Value, AllocError>
-    ensures { IfOk result (λ value. view value ≡ account_data account.now) }
+    ensures value { IfOk result (λ value. view value ≡ account_data account.now) }
+    ensures bytes { OnOk result (AllByRecursion (λ byte. byte < 2 ^ 8) account.now.memory) }
 {
     let memory = hex_text(alloc, account.memory.as_slice())?;
     json!(in alloc; {
@@ -144,7 +146,8 @@ fn account_value(alloc: Global, account: &Account) -> Result<Value, AllocError>
 
 // Bytes in lower case hexadecimal.
 fn hex_text(alloc: Global, bytes: &[u8]) -> Result<String, AllocError>
-    ensures { IfOk result (λ text. string_bytes text ≡ hex bytes.now) }
+    ensures digits { IfOk result (λ text. string_bytes text ≡ hex bytes.now) }
+    ensures bytes { OnOk result (AllByRecursion (λ byte. byte < 2 ^ 8) bytes.now) }
 {
     let mut text = String::new(alloc);
     for byte in bytes {

@@ -1,10 +1,17 @@
-use Rattle.std.proofs.Common.{◌≡◌, ◌++◌, ◌∷◌, []}
-use Rattle.std.proofs.lemmas.List.{map_push}
-use Rattle.world_text.specs.Drafts.{drafted_room, drafted_rooms}
-use Rattle.world_text.proofs.Lists.{room_step}
+use Rattle.std.proofs.lemmas.Result.{IfOk-weaker, MatchResult-weaker}
+use Rattle.serde_json.specs.View.{view, items_view}
+use Rattle.world_form.specs.declared.field.Field.TheVariants as fields
+use Rattle.world_form.specs.FirstFaults.{room_checks}
+use Rattle.world_text.proofs.Parts.{rooms_said}
+use Rattle.world_text.proofs.Turns.{list_fault}
 use Rattle.world_text.proofs.rooms.read_rooms.Goals as goal
 
-pub loop-place-preserved : goal.loop-place-preserved
-loop-place-preserved c =
-    let rooms : drafted_rooms c.push.new.self.items ≡ drafted_rooms c.loop-place.rooms.items ++ drafted_room c.in_ok-room.room ∷ [] = rw c.in_ok-push.ensures.items (map_push drafted_room c.loop-place.rooms.items c.in_ok-room.room) in
-    rw rooms (room_step c.args.values.now c.loop-place.place c.index-values-place.result (drafted_room c.in_ok-room.room) (drafted_rooms c.loop-place.rooms.items) _ c.loop-place-test.true c.index-values-place.is c.in_ok-room.ensures c.loop-place.invariant)
+pub returns-clause-ok : goal.returns-clause-ok
+returns-clause-ok c =
+    let there = c.in_ok-values.ensures.ok in
+    let values = items_view c.in_ok-values.values.now in
+    IfOk-weaker c.read_room_list.result _ _ (λ drafts each. let said = rooms_said values drafts.items each in (said.0, (there.0, there.1, (values, there.2, said.1)), said.2)) c.read_room_list.ensures.ok
+
+pub returns-clause-err : goal.returns-clause-err
+returns-clause-err c =
+    MatchResult-weaker c.read_room_list.result c.read_room_list.ensures.err (λ drafts h. h) (λ e first other. list_fault fields.Rooms room_checks 0 (view c.args.part.now) (items_view c.in_ok-values.values.now) e c.in_ok-values.ensures.ok (first other))

@@ -1,6 +1,6 @@
 use Rattle.std.proofs.Common.{◌≡◌, map, take}
 use Rattle.serde_json.specs.View.{view}
-use Rattle.world_text.specs.Written.{object_data}
+use Rattle.world_form.specs.Written.{object_data}
 use Rattle.world_text.proofs.write.object_values.Given as goal
 
 abbrev pub invariant-loop-object : goal.invariant-loop-object

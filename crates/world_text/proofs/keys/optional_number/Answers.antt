@@ -1,0 +1,10 @@
+use Rattle.std.proofs.Common.{◌≡◌, Some, refl, rules}
+use Rattle.serde_json.specs.Find.{get}
+use Rattle.serde_json.specs.View.{view}
+use Rattle.world_form.specs.Keys.{key}
+use Rattle.world_text.proofs.keys.optional_number.Goals as goal
+
+pub returns-in-None-clause-err : goal.returns-in-None-clause-err
+returns-in-None-clause-err c =
+    let found : get (key c.args.field) (view c.args.part.now) ≡ Some (view c.in-Some.value.now) = search rules in
+    ((view c.in-Some.value.now, found, c.in-None.ensures), refl)
