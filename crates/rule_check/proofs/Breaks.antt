@@ -1,8 +1,7 @@
 -- Each rule of the world, in terms of the rooms and accounts.
-use Rattle.std.proofs.Common.{◌≡◌, ◌≢◌, ℕ, ◌+◌, ◌/◌, ◌%◌, ◌^◌, ◌<◌, ◌≤◌, ◌==◌, ◌&&◌, List, [], ◌∷◌, map, length, Bool, true, false, Option, Some, None, refl, sym, ap, subst, ◌∙◌, ◌⊎◌, arith, inl, inr}
+use Rattle.std.proofs.Common.{◌≡◌, ℕ, ◌+◌, ◌/◌, ◌%◌, ◌^◌, ◌<◌, ◌≤◌, ◌==◌, ◌&&◌, List, [], ◌∷◌, map, Option, Some, None, refl, sym, ap, subst, ◌∙◌, arith, inl, inr}
 use Rattle.std.specs.Prelude.{slice_get}
-use Rattle.std.specs.List.{count_by, sum_by, AllByRecursion}
-use Rattle.std.proofs.lemmas.Bool.{eq-eqb}
+use Rattle.std.specs.List.{count_by, AllByRecursion}
 use Rattle.std.proofs.lemmas.List.{length-map}
 use Rattle.std.proofs.lemmas.Option.{same_Some}
 use Rattle.game_tables.specs.Limits.{sites_bound}
@@ -11,10 +10,10 @@ use Rattle.object_store.specs.declared.account.Account.{Account}
 use Rattle.world_rules.specs.declared.rule.Rule.TheVariants as rules
 use Rattle.world_rules.specs.Kinds.{is_controller, is_site}
 use Rattle.world_rules.specs.World.{Placed, Frame, placed, placed_from, world_listed}
-use Rattle.world_rules.specs.Rules.{Broken, Stands, IsWithinCounts, HasOpenCorner, HasNoBirth, IsOnWrongTile, HasWrongOwner, IsInRangeAs, IsInTheWay}
+use Rattle.world_rules.specs.Rules.{Broken, IsWithinCounts, HasOpenCorner, HasNoBirth, IsOnWrongTile, HasWrongOwner, IsInRangeAs}
 use Rattle.rule_check.specs.declared.view.RoomView.{RoomView}
-use Rattle.rule_check.specs.Views.{viewed, viewed_room, IsOrdered}
-use Rattle.rule_check.specs.Checks.{IsLeast, RoomAt, AnyOf, AnyObject, AreWithinCounts, HasNameBefore, IsUnborn, IsListed, HasWrongHolder, IsBlocked, KeptBelow, ids_in, sites_in}
+use Rattle.rule_check.specs.Views.{viewed_room, IsOrdered}
+use Rattle.rule_check.specs.Checks.{IsLeast, RoomAt, AnyOf, AnyObject, AreWithinCounts, HasNameBefore, IsUnborn, HasWrongHolder, IsBlocked, KeptBelow, ids_in, sites_in}
 use Rattle.rule_check.proofs.Minima.{least_like, all_at}
 use Rattle.rule_check.proofs.Twice.{count_two, count_cons, two_of, TwoOf}
 use Rattle.rule_check.proofs.Found.{times}

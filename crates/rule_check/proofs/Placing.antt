@@ -1,22 +1,21 @@
 -- The objects of rooms, as the world has them.
-use Rattle.std.proofs.Common.{◌≡◌, ℕ, zero, suc, ◌+◌, ◌<◌, ◌≤◌, ◌==◌, List, [], ◌∷◌, ◌++◌, map, length, get_or, Bool, true, false, cond, Option, Some, None, refl, sym, ap, subst, ◌∙◌, ◌⊎◌, arith, inl, inr}
+use Rattle.std.proofs.Common.{◌≡◌, ℕ, zero, suc, ◌+◌, ◌<◌, ◌≤◌, ◌==◌, List, [], ◌∷◌, ◌++◌, map, length, Bool, cond, Some, refl, sym, ap, ◌∙◌, arith, inl, inr}
 use Rattle.std.specs.Prelude.{slice_get}
 use Rattle.std.specs.List.{count_by, sum_by}
-use Rattle.std.specs.List.Sorted.{IsNonDecreasingBy}
 use Rattle.std.specs.Cmp.{nat_cmp_total}
 use Rattle.std.specs.FinMap.{get-from_entries}
-use Rattle.std.proofs.lemmas.Bool.{cases_lt, eq-eqb, eqb-true}
+use Rattle.std.proofs.lemmas.Bool.{cases_lt, eq-eqb}
 use Rattle.std.proofs.lemmas.List.{length-append, length-map}
 use Rattle.std.proofs.lemmas.List.Sums.{sum_by-cons, sum_by-append}
-use Rattle.std.proofs.lemmas.Option.{same_Some, slice_get_within, get_or_from_slice_get}
+use Rattle.std.proofs.lemmas.Option.{same_Some}
 use Rattle.object_store.specs.declared.object.Object.{Object}
 use Rattle.object_store.specs.declared.account.Account.{Account}
 use Rattle.world_rules.specs.World.{Placed, Frame, Listing, placed, placed_from, world_listed}
 use Rattle.world_rules.specs.Rules.{Stands, IsRoom, IsPlayer}
 use Rattle.rule_check.specs.declared.view.RoomView.{RoomView}
 use Rattle.rule_check.specs.Views.{viewed, viewed_room, IsOrdered}
-use Rattle.rule_check.specs.Checks.{AnyOf, AnyObject, IsListed, ids_in, IsLeast}
-use Rattle.rule_check.proofs.Minima.{one_at, ids_up}
+use Rattle.rule_check.specs.Checks.{IsListed, ids_in}
+use Rattle.rule_check.proofs.Minima.{ids_up}
 use Rattle.rule_check.proofs.Twice.{count_two, count_cons}
 use Rattle.rule_check.proofs.Found.{mapped_back, mapped_at, left_at, right_at, split_at, found_at, at_found, once_found, times}
 

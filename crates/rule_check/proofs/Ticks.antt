@@ -1,11 +1,9 @@
 -- The rules at each tick.
-use Rattle.std.proofs.Common.{◌≡◌, ℕ, zero, suc, ◌+◌, ◌<◌, ◌≤◌, ◌==◌, cond, List, get_or, Option, Some, None, refl, sym, ap, subst, ◌∙◌, arith, inl, inr}
-use Rattle.std.proofs.lemmas.Bool.{cases_lt}
+use Rattle.std.proofs.Common.{ℕ, List, Some}
 use Rattle.object_store.specs.declared.account.Account.{Account}
 use Rattle.world_rules.specs.declared.rule.Rule.{Rule}
 use Rattle.world_rules.specs.declared.rule.Rule.TheVariants as rules
-use Rattle.world_rules.specs.World.{Listing}
-use Rattle.world_rules.specs.Rules.{Broken, IsFirstBroken, KeepsRules, IsWithinCounts, rule_place}
+use Rattle.world_rules.specs.Rules.{Broken, IsFirstBroken, rule_place}
 use Rattle.rule_check.specs.declared.view.RoomView.{RoomView}
 use Rattle.rule_check.specs.Views.{viewed}
 use Rattle.rule_check.specs.Checks.{IsLeast, KeptBelow}

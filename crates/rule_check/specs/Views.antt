@@ -1,5 +1,5 @@
 -- What the test of the rules is given: rooms, by their index, and accounts.
-use Rattle.std.specs.Prelude.{ℕ, ◌^◌, ◌<◌, List, map, length}
+use Rattle.std.specs.Prelude.{ℕ, List, map}
 use Rattle.std.specs.List.{AllByRecursion}
 use Rattle.std.specs.List.Sorted.{IsNonDecreasingBy}
 use Rattle.object_store.specs.declared.account.Account.{Account}

@@ -10,6 +10,9 @@ use crate::view::RoomView;
 use object_store::Object;
 use std::alloc::{AllocError, Global};
 
+// An id is its birth room's index times this, plus a serial.
+const SERIALS: u64 = 0x1_0000_0000;
+
 /// An object's id is a serial that its birth room has given.
 #[derive(Clone, Copy)]
 pub struct GivenIds<'a> {
@@ -20,11 +23,11 @@ impl ObjectRule for GivenIds<'_> {
     ghost broken = { λ rule room object. IsUnborn rule.rooms.now object.id };
 
     fn is_broken(&self, _room: &RoomView, object: &Object) -> bool {
-        let serial = object.id % 0x1_0000_0000;
+        let serial = object.id % SERIALS;
         if serial == 0 {
             return true;
         }
-        match self.rooms.get((object.id / 0x1_0000_0000) as usize) {
+        match self.rooms.get((object.id / SERIALS) as usize) {
             Some(birth) => birth.next as u64 <= serial,
             None => true,
         }

@@ -56,8 +56,7 @@ fn is_source(object: &Object) -> bool
         && is_plain(object)
 }
 
-// No kind but controllers and sites uses progress, and none but controllers a reservation; of the
-// level, the fatigue and the number of a kind this one uses none.
+// The fields that most kinds don't use are 0.
 fn is_plain(object: &Object) -> bool
     ensures { MatchBool result (IsPlain object.now) (IsPlain object.now → ⊥) }
 {

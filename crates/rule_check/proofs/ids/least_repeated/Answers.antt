@@ -1,7 +1,4 @@
-use Rattle.std.proofs.Common.{ℕ, List, ◌≤◌, ◌==◌}
-use Rattle.std.specs.List.{count_by}
 use Rattle.std.proofs.lemmas.List.Sorted.{IsNonDecreasingBy-from_sort}
-use Rattle.rule_check.specs.Checks.{IsLeast}
 use Rattle.rule_check.proofs.Twice.{least_permuted}
 use Rattle.rule_check.proofs.ids.least_repeated.Goals as goal
 

@@ -1,4 +1,3 @@
-use Rattle.object_store.specs.declared.object.Object.{Object}
 use Rattle.rule_check.proofs.Minima.{NoneBelow}
 use Rattle.rule_check.proofs.objects.first_object.Given as goal
 

@@ -1,6 +1,5 @@
-use Rattle.std.proofs.Common.{◌≡◌, sym, subst}
-use Rattle.rule_check.specs.Checks.{IsLeast, AnyObject}
-use Rattle.rule_check.proofs.Minima.{AnyBelow, least_more, least_end, read_at}
+use Rattle.rule_check.specs.Checks.{AnyObject}
+use Rattle.rule_check.proofs.Minima.{least_more, least_end, read_at}
 use Rattle.rule_check.proofs.objects.least_object.Goals as goal
 
 pub loop-room-preserved : goal.loop-room-preserved
