@@ -270,9 +270,6 @@ renumbered-all n old es free from h none =
     let below : IsBelow free es = below-free free es all in
     (sym (listed-gap free n es (omega (arith, h.order, h.within)) (λ k l m. all k l)) ∙ h.list, (h.kept.0, below, h.kept.2), sym h.full ∙ length-listed free es below)
 
-pub renumbered-none : (n : ℕ) (es : List Row) → IsKept n es → Renumbered n es es 0 0
-renumbered-none n es g = record { list = refl; kept = g; order = omega arith; within = omega arith; gap = λ k l m. absurd (omega arith); full = refl }
-
 -- ---- pouring out
 
 pub intents-more : (es : List Row) (i : ℕ) (e : Row) → slice_get es i ≡ Some e → intents (take (i + 1) es) ≡ intents (take i es) ++ e.1.intent ∷ []
