@@ -1,6 +1,0 @@
-use Rattle.std.proofs.Common.{ℕ, ◌<◌}
-use Rattle.world_text.specs.Checks.{IsTwin}
-use Rattle.world_text.proofs.rules.first_twin.Given as goal
-
-abbrev pub invariant-loop-index : goal.invariant-loop-index
-invariant-loop-index l = (k : ℕ) → k < l.index → IsTwin l.rooms k → ⊥

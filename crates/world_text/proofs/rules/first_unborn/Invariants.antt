@@ -1,7 +1,0 @@
-use Rattle.std.proofs.Common.{ℕ, ◌<◌, get_or}
-use Rattle.world_text.specs.declared.draft.Standing.{Standing}
-use Rattle.world_text.specs.Checks.{IsUnborn, frames_of}
-use Rattle.world_text.proofs.rules.first_unborn.Given as goal
-
-abbrev pub invariant-loop-standing : goal.invariant-loop-standing
-invariant-loop-standing l = (k : ℕ) → k < l.standing-index → (d : Standing) → IsUnborn (frames_of l.rooms) (get_or l.flat k d).object.id → ⊥
