@@ -1,7 +1,7 @@
 -- The objects of rooms, as the world has them.
-use Rattle.std.proofs.Common.{◌≡◌, ℕ, zero, suc, ◌+◌, ◌<◌, ◌≤◌, ◌==◌, List, [], ◌∷◌, ◌++◌, map, length, Bool, cond, Some, refl, sym, ap, ◌∙◌, arith, inl, inr}
+use Rattle.std.proofs.Common.{◌≡◌, ℕ, zero, suc, ◌+◌, ◌<◌, ◌≤◌, ◌==◌, List, [], ◌∷◌, ◌++◌, map, length, Bool, true, false, ◌&&◌, cond, Some, refl, sym, ap, ◌∙◌, arith, inl, inr}
 use Rattle.std.specs.Prelude.{slice_get}
-use Rattle.std.specs.List.{count_by, sum_by}
+use Rattle.std.specs.List.{count_by, sum_by, filter}
 use Rattle.std.specs.Cmp.{nat_cmp_total}
 use Rattle.std.specs.FinMap.{get-from_entries}
 use Rattle.std.proofs.lemmas.Bool.{cases_lt, eq-eqb}
@@ -10,11 +10,12 @@ use Rattle.std.proofs.lemmas.List.Sums.{sum_by-cons, sum_by-append}
 use Rattle.std.proofs.lemmas.Option.{same_Some}
 use Rattle.object_store.specs.declared.object.Object.{Object}
 use Rattle.object_store.specs.declared.account.Account.{Account}
+use Rattle.world_rules.specs.Kinds.{is_site}
 use Rattle.world_rules.specs.World.{Placed, Frame, Listing, placed, placed_from, world_listed}
 use Rattle.world_rules.specs.Rules.{Stands, IsRoom, IsPlayer}
 use Rattle.rule_check.specs.declared.view.RoomView.{RoomView}
 use Rattle.rule_check.specs.Views.{viewed, viewed_room, IsOrdered}
-use Rattle.rule_check.specs.Checks.{IsListed, ids_in}
+use Rattle.rule_check.specs.Checks.{IsListed, ids_in, site_owners_of, owners_in}
 use Rattle.rule_check.proofs.Minima.{ids_up}
 use Rattle.rule_check.proofs.Twice.{count_two, count_cons}
 use Rattle.rule_check.proofs.Found.{mapped_back, mapped_at, left_at, right_at, split_at, found_at, at_found, once_found, times}
@@ -176,6 +177,28 @@ count_ids_in n (room ∷ rooms) =
 -- an id is as often among the ids as among the entries
 pub times_ids : (rooms : List RoomView) (n : ℕ) → count_by (λ m. m == n) (ids_in rooms) ≡ times n (placed_from 0 (map viewed_room rooms))
 times_ids rooms n = count_ids_in n rooms ∙ sym (count_placed (λ e. e.0 == n) (λ object. object.id == n) (λ base object. refl) rooms 0)
+
+count_owners : (n : ℕ) (objects : List Object) → count_by (λ owner. owner == n) (site_owners_of objects) ≡ count_by (λ object. is_site object.kind && (object.owner == n)) objects
+count_owners n [] = refl
+count_owners n (object ∷ objects) =
+    let rest : count_by (λ owner. owner == n) (site_owners_of objects) ≡ count_by (λ (o : Object). is_site o.kind && (o.owner == n)) objects = count_owners n objects in
+    let all = count_cons (λ (o : Object). is_site o.kind && (o.owner == n)) object objects in
+    elim (is_site object.kind) as (λ b. is_site object.kind ≡ b → count_by (λ owner. owner == n) (map (λ (o : Object). o.owner) (cond b (object ∷ filter (λ (o : Object). is_site o.kind) objects) (filter (λ (o : Object). is_site o.kind) objects))) ≡ count_by (λ (o : Object). is_site o.kind && (o.owner == n)) (object ∷ objects)) [
+      | true ↦ λ is.
+          let first : cond {A = ℕ} (is_site object.kind && (object.owner == n)) 1 0 ≡ cond {A = ℕ} (object.owner == n) 1 0 = ap (λ (b : Bool). cond {A = ℕ} (b && (object.owner == n)) 1 0) is in
+          count_cons (λ owner. owner == n) object.owner (site_owners_of objects) ∙ (let both : cond {A = ℕ} (object.owner == n) 1 0 + count_by (λ owner. owner == n) (site_owners_of objects) ≡ count_by (λ (o : Object). is_site o.kind && (o.owner == n)) (object ∷ objects) = omega arith in both)
+      | false ↦ λ is. let first : cond {A = ℕ} (is_site object.kind && (object.owner == n)) 1 0 ≡ 0 = ap (λ (b : Bool). cond {A = ℕ} (b && (object.owner == n)) 1 0) is in (let both : count_by (λ owner. owner == n) (site_owners_of objects) ≡ count_by (λ (o : Object). is_site o.kind && (o.owner == n)) (object ∷ objects) = omega arith in both)
+    ] refl
+
+-- the sites of a player are counted among the owners of all
+pub count_owners_in : (n : ℕ) (rooms : List RoomView) → count_by (λ owner. owner == n) (owners_in rooms) ≡ sum_by (λ room. count_by (λ object. is_site object.kind && (object.owner == n)) room.objects.now) rooms
+count_owners_in n [] = refl
+count_owners_in n (room ∷ rooms) =
+    let rest : count_by (λ owner. owner == n) (owners_in rooms) ≡ sum_by (λ (r : RoomView). count_by (λ object. is_site object.kind && (object.owner == n)) r.objects.now) rooms = count_owners_in n rooms in
+    let first : count_by (λ owner. owner == n) (site_owners_of room.objects.now) ≡ count_by (λ object. is_site object.kind && (object.owner == n)) room.objects.now = count_owners n room.objects.now in
+    let sum : sum_by (λ (r : RoomView). count_by (λ object. is_site object.kind && (object.owner == n)) r.objects.now) (room ∷ rooms) ≡ count_by (λ object. is_site object.kind && (object.owner == n)) room.objects.now + sum_by (λ (r : RoomView). count_by (λ object. is_site object.kind && (object.owner == n)) r.objects.now) rooms = sum_by-cons (λ (r : RoomView). count_by (λ object. is_site object.kind && (object.owner == n)) r.objects.now) room rooms in
+    sum_by-append (λ (owner : ℕ). cond (owner == n) 1 0) (site_owners_of room.objects.now) (owners_in rooms)
+    ∙ (let both : count_by (λ owner. owner == n) (site_owners_of room.objects.now) + count_by (λ owner. owner == n) (owners_in rooms) ≡ sum_by (λ (r : RoomView). count_by (λ object. is_site object.kind && (object.owner == n)) r.objects.now) (room ∷ rooms) = omega arith in both)
 
 -- ---- the objects of one room
 

@@ -1,6 +1,6 @@
 -- What the single tests look at. For private clauses.
-use Rattle.std.specs.Prelude.{◌≡◌, ◌≢◌, ℕ, ◌<◌, ◌≤◌, ◌/◌, ◌%◌, ◌^◌, ◌==◌, ◌&&◌, ◌⊎◌, true, false, List, Option, Some, None, length, map, slice_get, min, sum_by, count_by}
-use Rattle.std.specs.List.{flat_map}
+use Rattle.std.specs.Prelude.{◌≡◌, ◌≢◌, ℕ, ◌<◌, ◌≤◌, ◌/◌, ◌%◌, ◌^◌, ◌⊎◌, true, false, List, Option, Some, None, length, map, slice_get, min, sum_by}
+use Rattle.std.specs.List.{flat_map, filter}
 use Rattle.game_tables.specs.declared.kind.Kind.{Kind}
 use Rattle.game_tables.specs.Kinds.{site_kind, work_to_build}
 use Rattle.game_tables.specs.Limits.{rooms_bound, objects_bound, players_bound}
@@ -81,9 +81,12 @@ HasWrongHolder accounts object =
     ((object.owner ≢ 0) × ((IsListed accounts object.owner → ⊥) ⊎ (may_have_owner object.kind ≡ false)))
     ⊎ ((object.other ≢ 0) × ((IsListed accounts object.other → ⊥) ⊎ (is_controller object.kind ≡ false)))
 
--- the sites of a player in all rooms
-abbrev pub sites_in : ℕ → List RoomView → ℕ
-sites_in player rooms = sum_by (λ room. count_by (λ object. is_site object.kind && (object.owner == player)) room.objects.now) rooms
+-- the owners of the sites among these objects, and of those of all rooms
+abbrev pub site_owners_of : List Object → List ℕ
+site_owners_of objects = map (λ object. object.owner) (filter (λ object. is_site object.kind) objects)
+
+abbrev pub owners_in : List RoomView → List ℕ
+owners_in rooms = flat_map (λ room. site_owners_of room.objects.now) rooms
 
 -- ---- parts of the ranges
 

@@ -1,15 +1,14 @@
 // Rules of how many there may be.
-ghost use Rattle.std.specs.Prelude.{◌≡◌, ◌≤◌, ◌<◌, ◌==◌, ◌&&◌, ℕ, MatchBool, length, count_by, sum_by};
+ghost use Rattle.std.specs.Prelude.{◌≡◌, ◌≤◌, ◌<◌, ◌==◌, ◌++◌, ◌∷◌, [], ℕ, cond, MatchBool, IfOk, OnOk, length, count_by, sum_by};
 ghost use Rattle.game_tables.specs.Limits.{sites_bound};
-ghost use Rattle.world_rules.specs.Kinds.{is_site};
-ghost use Rattle.object_store.specs.declared.object.Object.{Object};
-ghost use Rattle.rule_check.specs.Checks.{IsLeast, AnyOf, AreWithinCounts, sites_in};
-ghost use Rattle.rule_check.specs.declared.view.RoomView.{RoomView};
+ghost use Rattle.world_rules.specs.Kinds.{is_site as site};
+ghost use Rattle.rule_check.specs.Checks.{IsLeast, AnyOf, AreWithinCounts, owners_in, site_owners_of};
 
 use crate::least::lesser;
 use crate::view::RoomView;
 use game_tables::{most_objects, most_players, most_rooms, most_sites};
 use object_store::{Account, Kind, Object};
+use std::alloc::{AllocError, Global};
 
 /// Whether there is a room, and no more rooms, objects and players than may be.
 pub fn are_within_counts(rooms: &[RoomView], accounts: &[Account]) -> bool
@@ -18,88 +17,88 @@ pub fn are_within_counts(rooms: &[RoomView], accounts: &[Account]) -> bool
     rooms.len() >= 1
         && rooms.len() <= most_rooms() as usize
         && accounts.len() <= most_players() as usize
-        && !are_more(rooms, &AllObjects, most_objects() as usize)
+        && !has_more_objects(rooms, most_objects() as usize)
 }
 
-/// The least player with more sites than he may have.
-pub fn least_crowded(rooms: &[RoomView], accounts: &[Account]) -> Option<u64>
-    ensures { IsLeast (AnyOf (λ account n. (account.player ≡ n) × (sites_bound < sites_in n rooms.now)) accounts.now) result }
-{
-    let mut least = None;
-    for account in accounts {
-        least = lesser(least, if_crowded(rooms, account.player));
-    }
-    least
-}
-
-// The player, where he has more sites than he may have.
-fn if_crowded(rooms: &[RoomView], player: u32) -> Option<u64>
-    ensures { IsLeast (λ n. (player ≡ n) × (sites_bound < sites_in n rooms.now)) result }
-{
-    if are_more(rooms, &SitesOf { player }, most_sites() as usize) {
-        Some(player as u64)
-    } else {
-        None
-    }
-}
-
-// Which objects of a room are counted.
-trait Count {
-    ghost counted: { Self → RoomView → ℕ };
-
-    // How many there are in the room.
-    fn in_room(&self, room: &RoomView) -> usize
-        ensures { result ≡ counted self.now room.now };
-}
-
-#[derive(Clone, Copy)]
-struct AllObjects;
-
-impl Count for AllObjects {
-    ghost counted = { λ count room. length room.objects.now };
-
-    fn in_room(&self, room: &RoomView) -> usize {
-        room.objects.len()
-    }
-}
-
-#[derive(Clone, Copy)]
-struct SitesOf {
-    player: u32,
-}
-
-impl Count for SitesOf {
-    ghost counted = { λ count room. count_by (λ object. is_site object.kind && (object.owner == count.player)) room.objects.now };
-
-    fn in_room(&self, room: &RoomView) -> usize {
-        let player = self.player;
-        room.objects
-            .iter()
-            .filter(|object| is_site_of(object, player))
-            .count()
-    }
-}
-
-fn is_site_of(object: &Object, player: u32) -> bool
-    ensures { result ≡ (is_site object.now.kind && (object.now.owner == player)) }
-{
-    match object.kind {
-        Kind::Site => object.owner == player,
-        _ => false,
-    }
-}
-
-// Whether more are counted in all rooms than `most`.
-fn are_more<C: Count>(rooms: &[RoomView], count: &C, most: usize) -> bool
-    ensures { MatchBool result (most < sum_by (C.counted count.now) rooms.now) (sum_by (C.counted count.now) rooms.now ≤ most) }
+// Whether there are more objects in all rooms than `most`.
+fn has_more_objects(rooms: &[RoomView], most: usize) -> bool
+    ensures { MatchBool result (most < sum_by (λ room. length room.objects.now) rooms.now) (sum_by (λ room. length room.objects.now) rooms.now ≤ most) }
 {
     let mut left = most;
     for room in rooms {
-        let here = count.in_room(room);
+        let here = room.objects.len();
         if here > left {
             return true;
         }
         left -= here;
     }
     false
+}
+
+/// The least player with more sites than he may have.
+pub fn least_crowded(
+    alloc: Global,
+    rooms: &[RoomView],
+    accounts: &[Account],
+) -> Result<Option<u64>, AllocError>
+    ensures { IfOk result (λ found. IsLeast (AnyOf (λ account n. (account.player ≡ n) × (sites_bound < count_by (λ owner. owner == n) (owners_in rooms.now))) accounts.now) found) }
+{
+    let owners = site_owners(alloc, rooms)?;
+    let mut least = None;
+    for account in accounts {
+        least = lesser(least, if_crowded(&owners, account.player));
+    }
+    Ok(least)
+}
+
+// The player, where he owns more sites than he may have.
+fn if_crowded(owners: &[u32], player: u32) -> Option<u64>
+    ensures { IsLeast (λ n. (player ≡ n) × (sites_bound < count_by (λ owner. owner == n) owners.now)) result }
+{
+    let sites = owners.iter().filter(|owner| **owner == player).count();
+    if sites > most_sites() as usize {
+        Some(player as u64)
+    } else {
+        None
+    }
+}
+
+// The owners of all sites, room by room.
+fn site_owners(alloc: Global, rooms: &[RoomView]) -> Result<Vec<u32>, AllocError>
+    ensures { IfOk result (λ owners. owners.items ≡ owners_in rooms.now) }
+{
+    let mut owners = Vec::new(alloc);
+    for room in rooms {
+        list_owners(room.objects, &mut owners)?;
+    }
+    Ok(owners)
+}
+
+// Adds the owners of a room's sites.
+fn list_owners(objects: &[Object], owners: &mut Vec<u32>) -> Result<(), AllocError>
+    ensures { OnOk result (owners.new.items ≡ owners.old.items ++ site_owners_of objects.now) }
+{
+    for object in objects {
+        list_owner(object, owners)?;
+    }
+    Ok(())
+}
+
+// Adds the object's owner, where it is a site.
+fn list_owner(object: &Object, owners: &mut Vec<u32>) -> Result<(), AllocError>
+    ensures { OnOk result (owners.new.items ≡ owners.old.items ++ cond (site object.now.kind) (object.now.owner ∷ []) []) }
+{
+    if is_site(object.kind) {
+        owners.push(object.owner)?;
+    }
+    Ok(())
+}
+
+fn is_site(kind: Kind) -> bool
+    ensures { result ≡ site kind }
+{
+    match kind {
+        Kind::Site => true,
+        _ => false,
+    }
 }

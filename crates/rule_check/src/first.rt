@@ -38,7 +38,8 @@ const ORDER: [Rule; 12] = [
 /// index of a room, the id of an object, a player, or 0 for the counts. It is nothing where they
 /// keep all rules.
 ///
-/// It takes memory for the ids and the players, which are sorted, and for the tiles of one room.
+/// It takes memory for the ids and the players, which are sorted, for the tiles of one room, and for
+/// the owners of sites.
 pub fn first_broken(
     alloc: Global,
     rooms: &[RoomView],
@@ -81,7 +82,7 @@ fn least_broken(
         Rule::Controllers => Ok(first_room(&OneController, rooms)),
         Rule::Range => Ok(least_object(&KindsRanges, rooms)),
         Rule::PlayerTwice => Ok(least_repeated(players_of(alloc, accounts)?)),
-        Rule::Sites => Ok(least_crowded(rooms, accounts)),
+        Rule::Sites => least_crowded(alloc, rooms, accounts),
     }
 }
 
