@@ -1,2 +1,3 @@
 pub mod Sights
 pub mod Fields
+pub mod Gathered

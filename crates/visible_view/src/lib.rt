@@ -1,2 +1,6 @@
 // What a player sees of the world.
 #![tactic(auto)]
+
+pub mod gather;
+
+pub use std::alloc::AllocError as NoMemory;
