@@ -1,3 +1,5 @@
 pub mod Gathering
 pub mod Moved
 pub mod Seen
+pub mod Told
+pub mod Few

@@ -30,6 +30,10 @@ first_or_later first xs x within =
 pub none_within : {X : Type 0} (x : X) → Contains [] x → ⊥
 none_within x (k, within, is) = omega arith
 
+pub all_from_within : {X : Type 0} (P : X → Type 0) (xs : List X) → ((x : X) → Contains xs x → P x) → AllByRecursion P xs
+all_from_within P [] holds = tt
+all_from_within P (x ∷ xs) holds = (holds x (Contains-head x xs), all_from_within P xs (λ y within. holds y (Contains-later x xs y within)))
+
 pub Contains-filter : {X : Type 0} (test : X → Bool) (xs : List X) (x : X) → Contains xs x → test x ≡ true → Contains (filter test xs) x
 Contains-filter test [] x within passes = absurd (none_within x within)
 Contains-filter {X} test (first ∷ xs) x within passes =
@@ -52,10 +56,10 @@ Contains-from_filter test xs x within = (
 pub count_head : {X : Type 0} (test : X → Bool) (x : X) (xs : List X) → count_by test (x ∷ xs) ≡ cond (test x) 1 0 + count_by test xs
 count_head test x xs = sum_by-cons (λ y. cond (test y) 1 0) x xs
 
-passed : (b : Bool) → b ≡ true → cond {A = ℕ} b 1 0 ≡ 1
+pub passed : (b : Bool) → b ≡ true → cond {A = ℕ} b 1 0 ≡ 1
 passed b is = ap (λ (c : Bool). cond {A = ℕ} c 1 0) is
 
-failed : (b : Bool) → b ≡ false → cond {A = ℕ} b 1 0 ≡ 0
+pub failed : (b : Bool) → b ≡ false → cond {A = ℕ} b 1 0 ≡ 0
 failed b is = ap (λ (c : Bool). cond {A = ℕ} c 1 0) is
 
 counted : {X : Type 0} (test : X → Bool) (xs : List X) (x : X) → Contains xs x → test x ≡ true → 1 ≤ count_by test xs

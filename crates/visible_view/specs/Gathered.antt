@@ -1,6 +1,6 @@
 -- What is gathered of the stored rooms for a player, room by room. For private clauses.
-use Rattle.std.specs.Prelude.{◌≡◌, ℕ, suc, ◌+◌, ◌<◌, ◌==◌, ◌&&◌, Bool, true, false, if◌then◌else◌, List, [], ◌∷◌, ◌++◌, length, map, Option, option_map, option_and_then}
-use Rattle.std.specs.List.{AllByRecursion, count_by, find, list_any, sum_by}
+use Rattle.std.specs.Prelude.{◌≡◌, ℕ, suc, ◌+◌, ◌^◌, ◌<◌, ◌==◌, ◌&&◌, Bool, true, false, if◌then◌else◌, List, [], ◌∷◌, ◌++◌, length, map, Option, option_map, option_and_then}
+use Rattle.std.specs.List.{All, AllByRecursion, count_by, find, list_any, sum_by}
 use Rattle.object_store.specs.declared.object.Object.{Object}
 use Rattle.object_store.specs.declared.world.Room.{Room}
 use Rattle.world_rules.specs.Kinds.{is_controller, is_site}
@@ -21,6 +21,12 @@ shown_object placed = record { room = placed.room; object = placed.object.now }
 
 abbrev pub controller_in : RoomInView → Option Object
 controller_in room = option_map (λ object. object.now) room.controller
+
+abbrev pub index_in : RoomInView → ℕ
+index_in room = room.index
+
+abbrev pub id_in : ObjectInView → ℕ
+id_in placed = placed.object.now.id
 
 -- ---- what is seen of stored rooms
 
@@ -65,6 +71,13 @@ kept_controller index rooms = option_and_then controller_in (find (λ room. room
 abbrev pub HaveControllers : List RoomInView → List Placed → Type 0
 HaveControllers rooms objects = (index : ℕ) → option_map (λ placed. placed.object) (find (is_controller_at index) objects) ≡ kept_controller index rooms
 
+-- The object's tile is told by two bytes.
+abbrev pub HasByteTile : Object → Type 0
+HasByteTile object = (object.x < 256) × (object.y < 256)
+
+abbrev pub HaveByteTiles : Room → Type 0
+HaveByteTiles room = All HasByteTile room.table.objects
+
 -- ---- room by room
 
 -- One more room is kept, with its controller.
@@ -90,6 +103,16 @@ pub record IsGathered (player : ℕ) (rooms : List Room) (gathered : Gathered) :
   pub shown : map shown_room gathered.rooms.items ≡ from_each (room_if_seen player) 0 rooms
   pub objects : map shown_object gathered.objects.items ≡ from_each (objects_if_seen player) 0 rooms
   pub sites : gathered.sites ≡ sum_by (sites_at player) rooms
-  pub rising : Rises (λ room. room.index) gathered.rooms.items
+  pub rising : Rises index_in gathered.rooms.items
   pub below : AllByRecursion (λ room. room.index < length rooms) gathered.rooms.items
   pub controllers : HaveControllers gathered.rooms.items (map shown_object gathered.objects.items)
+
+-- ---- what a view keeps
+
+-- The rooms rise by their index and the objects by their id, their numbers fit, and the controllers of the rooms are kept with them.
+pub record IsKept (rooms : List RoomInView) (objects : List ObjectInView) : Type 0 where
+  pub places : Rises index_in rooms
+  pub ids : Rises id_in objects
+  pub few_rooms : length rooms < 2 ^ 32
+  pub few_objects : length objects < 2 ^ 32
+  pub controllers : HaveControllers rooms (map shown_object objects)

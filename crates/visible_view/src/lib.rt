@@ -1,6 +1,9 @@
 // What a player sees of the world.
 #![tactic(auto)]
 
-pub mod gather;
+mod field;
+mod gather;
+mod view;
 
 pub use std::alloc::AllocError as NoMemory;
+pub use view::View;

@@ -1,0 +1,229 @@
+// What a player sees of the world, made once a tick and asked at every host call.
+ghost use Rattle.std.specs.Prelude.{◌≡◌, ◌==◌, ◌≤◌, ◌<◌, ◌^◌, length, map, slice_get, Option, Some, None, option_map, IfSome, IfNone, IfOk};
+ghost use Rattle.std.specs.List.{find};
+ghost use Rattle.std.specs.List.Sorted.{IsPartitionPoint};
+ghost use Rattle.game_tables.specs.Limits.{rooms_bound};
+ghost use Rattle.object_store.specs.declared.account.Account.{Account};
+ghost use Rattle.object_store.specs.Stored.{HasAccount, find_account};
+ghost use Rattle.object_store.proofs.Rising.{Rises};
+ghost use Rattle.world_rules.specs.Sound.{IsSound};
+ghost use Rattle.world_rules.specs.World.{world_of};
+ghost use Rattle.visible_view.specs.Sights.{sight_of};
+ghost use Rattle.visible_view.specs.Fields.{capacity_as, controller_at, field_at, field_of as told_field, ground_at, place_of, room_at};
+ghost use Rattle.visible_view.specs.Gathered.{id_in, index_in, shown_object};
+
+use crate::NoMemory;
+use crate::field::{building_capacity, ground_of, is_taken, part_field};
+use crate::gather::{ObjectInView, RoomInView, gather};
+use game_tables::{hits_max, source_capacity};
+use object_store::{Account, Ground, Kind, Object, RoomName, World};
+use std::alloc::Global;
+use std::marker::Model;
+
+/// What a player sees of a world: the rooms in which a creep, a building or a controller of his
+/// stands, with all that is in them, his account, and the number of his sites in all rooms.
+///
+/// It is made once a tick and refers to the world. Its calls take no memory; one by an id or by a
+/// room's index takes time by the logarithm of what is seen, and one by a place always the same.
+#[derive(Drop)]
+pub struct View<'a> {
+    tick: u64,
+    account: &'a Account,
+    sites: u32,
+    rooms: Vec<RoomInView<'a>>,
+    objects: Vec<ObjectInView<'a>>,
+}
+
+impl<'a> Model for View<'a> {
+    ghost use Rattle.std.specs.Prelude.{map};
+    ghost use Rattle.visible_view.specs.Sights.{Sight};
+    ghost use Rattle.visible_view.specs.Gathered.{shown_room, shown_object, IsKept};
+
+    ghost Value = { Sight };
+
+    ghost view = { λ v. record { tick = v.tick; account = v.account.now; sites = v.sites; rooms = map shown_room v.rooms.items; objects = map shown_object v.objects.items } };
+
+    ghost invariant = { λ v. IsKept v.rooms.items v.objects.items };
+}
+
+impl<'a> View<'a> {
+    /// What the player sees.
+    pub fn of(alloc: Global, world: &'a World, player: u32) -> Result<View<'a>, NoMemory>
+        requires account { HasAccount player world.now.accounts }
+        requires sound { IsSound world.now }
+        requires rooms { length world.now.rooms ≤ rooms_bound }
+        ensures { IfOk result (λ view. (account : Account) × (find_account player world.now.accounts ≡ Some account) × (view ≡ sight_of (world_of world.now) account)) }
+    {
+        let account = world.account(player).unwrap();
+        let mut seen = gather(alloc, world.room_list(), player)?;
+        seen.objects.sort_unstable_by_key(|placed| placed.object.id);
+        Ok(View {
+            tick: world.tick(),
+            account,
+            sites: seen.sites as u32,
+            rooms: seen.rooms,
+            objects: seen.objects,
+        })
+    }
+
+    /// The tick at which it is seen.
+    pub fn tick(&self) -> u64
+        ensures { result ≡ self.now.tick }
+    {
+        self.tick
+    }
+
+    /// The player's account.
+    pub fn account(&self) -> &Account
+        ensures { result.now ≡ self.now.account }
+    {
+        self.account
+    }
+
+    /// The number of the player's sites in the whole world.
+    pub fn sites(&self) -> u32
+        ensures { result ≡ self.now.sites }
+    {
+        self.sites
+    }
+
+    /// The number of objects.
+    pub fn count(&self) -> u32
+        ensures { result ≡ length self.now.objects }
+    {
+        self.objects.len() as u32
+    }
+
+    /// The object at a place among those that are seen, from 0 on, in rising id.
+    pub fn object(&self, index: u32) -> Option<&Object>
+        ensures { option_map (λ object. object.now) result ≡ option_map (λ placed. placed.object) (slice_get self.now.objects index) }
+    {
+        let placed = self.objects.get(index as usize)?;
+        Some(placed.object)
+    }
+
+    /// The place of an object of this id.
+    pub fn find(&self, id: u64) -> Option<u32>
+        ensures { result ≡ place_of id self.now.objects }
+    {
+        let place = object_place(&self.objects, id);
+        match self.objects.get(place) {
+            Some(placed) if placed.object.id == id => Some(place as u32),
+            _ => None,
+        }
+    }
+
+    /// The number of rooms.
+    pub fn room_count(&self) -> u32
+        ensures { result ≡ length self.now.rooms }
+    {
+        self.rooms.len() as u32
+    }
+
+    /// The index of the room at a place among those that are seen, from 0 on, in rising index.
+    pub fn room(&self, i: u32) -> Option<u32>
+        ensures { result ≡ option_map (λ room. room.index) (slice_get self.now.rooms i) }
+    {
+        let seen = self.rooms.get(i as usize)?;
+        Some(seen.index)
+    }
+
+    /// The name of a room, by its index in the world.
+    pub fn name(&self, room: u32) -> Option<RoomName>
+        ensures { result ≡ option_map (λ room. room.name) (room_at self.now room) }
+    {
+        let seen = room_of(&self.rooms, room)?;
+        Some(seen.room.name)
+    }
+
+    /// The ground of a tile of a room, by the room's index in the world.
+    pub fn ground(&self, room: u32, x: u32, y: u32) -> Option<Ground>
+        ensures { result ≡ ground_at self.now room x y }
+    {
+        let seen = room_of(&self.rooms, room)?;
+        ground_of(&seen.room.terrain, x, y)
+    }
+
+    /// A field of the object at a place, by the field's number; docs/players.md lists them. There is
+    /// nothing past the fields and past the parts of the body.
+    pub fn field(&self, index: u32, field: u32) -> Option<u64>
+        ensures { result ≡ field_at self.now index field }
+    {
+        let placed = self.objects.get(index as usize)?;
+        self.field_of(placed, field)
+    }
+
+    fn field_of(&self, placed: &ObjectInView, field: u32) -> Option<u64>
+        ensures { result ≡ told_field self.now (shown_object placed.now) field }
+    {
+        let object = placed.object;
+        match field {
+            0 => Some(object.id),
+            1 => Some(u64::from(object.kind.number())),
+            2 => Some(u64::from(placed.room)),
+            3 => Some(u64::from(object.x)),
+            4 => Some(u64::from(object.y)),
+            5 => Some(u64::from(object.owner)),
+            6 => Some(u64::from(object.hits)),
+            7 => Some(u64::from(hits_max(object.kind, &object.body))),
+            8 => Some(object.energy),
+            9 => Some(self.capacity(placed)),
+            10 => Some(u64::from(object.timer)),
+            11 => Some(u64::from(object.extra)),
+            12 => Some(object.progress),
+            13 => Some(u64::from(object.other)),
+            14 => Some(u64::from(object.other_ticks)),
+            15 => Some(object.body.len()),
+            100.. => part_field(object, field - 100),
+            _ => None,
+        }
+    }
+
+    // The energy that an object holds.
+    fn capacity(&self, placed: &ObjectInView) -> u64
+        ensures { result ≡ capacity_as placed.now.object.now.kind (controller_at self.now placed.now.room) placed.now.object.now }
+    {
+        let object = placed.object;
+        match object.kind {
+            Kind::Source => source_capacity(is_taken(self.controller(placed.room))),
+            Kind::Creep => u64::from(object.body.capacity(object.hits)),
+            kind => building_capacity(kind, self.controller(placed.room)),
+        }
+    }
+
+    // The controller of a room that is seen.
+    fn controller(&self, room: u32) -> Option<&Object>
+        ensures { option_map (λ object. object.now) result ≡ controller_at self.now room }
+    {
+        room_of(&self.rooms, room)?.controller
+    }
+}
+
+// The place of an id among the objects, or where it would be.
+fn object_place(objects: &[ObjectInView], id: u64) -> usize
+    requires { Rises id_in objects.now }
+    ensures within { result ≤ length objects.now }
+    ensures between { IsPartitionPoint (λ placed. placed.object.now.id < id) (λ placed. id ≤ placed.object.now.id) objects.now result }
+{
+    objects.partition_point(|placed| placed.object.id < id)
+}
+
+// The place of an index among the rooms, or where it would be.
+fn room_place(rooms: &[RoomInView], index: u32) -> usize
+    requires { Rises index_in rooms.now }
+    ensures within { result ≤ length rooms.now }
+    ensures between { IsPartitionPoint (λ room. room.index < index) (λ room. index ≤ room.index) rooms.now result }
+{
+    rooms.partition_point(|room| room.index < index)
+}
+
+// The room of an index.
+fn room_of<'a>(rooms: &[RoomInView<'a>], index: u32) -> Option<RoomInView<'a>>
+    requires { Rises index_in rooms.now }
+    ensures { result ≡ find (λ room. room.index == index) rooms.now }
+{
+    match rooms.get(room_place(rooms, index)) {
+        Some(room) if room.index == index => Some(*room),
+        _ => None,
+    }
+}
