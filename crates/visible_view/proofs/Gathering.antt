@@ -71,7 +71,7 @@ module _ (index : ℕ) (room : Room) (rooms new : List RoomInView) (objects : Li
   here_or_before q b is =
       let last : cond (keeps.kept.index == q) (Some keeps.kept) None ≡ cond b (Some keeps.kept) None = ap (λ (n : ℕ). cond (n == q) (Some keeps.kept) None) keeps.place ∙ ap (λ (c : Bool). cond c (Some keeps.kept) None) is in
       let all : find (λ (r : RoomInView). r.index == q) new ≡ option_or (find (λ (r : RoomInView). r.index == q) rooms) (cond b (Some keeps.kept) None) =
-          ap (find (λ (r : RoomInView). r.index == q)) keeps.last ∙ find-append (λ (r : RoomInView). r.index == q) rooms (keeps.kept ∷ []) ∙ ap (option_or (find (λ (r : RoomInView). r.index == q) rooms)) last in
+      ap (find (λ (r : RoomInView). r.index == q)) keeps.last ∙ find-append (λ (r : RoomInView). r.index == q) rooms (keeps.kept ∷ []) ∙ ap (option_or (find (λ (r : RoomInView). r.index == q) rooms)) last in
       elim b as (λ c. (index == q) ≡ c → option_or (kept_controller q rooms) (cond c (controller_in keeps.kept) None) ≡ option_and_then controller_in (option_or (find (λ (r : RoomInView). r.index == q) rooms) (cond c (Some keeps.kept) None))) [
         | true ↦ λ here.
             let same = eqb-true index q here in

@@ -115,20 +115,20 @@ pub strictly : {X : Type 0} (key : X → ℕ) (xs : List X) → IsNonDecreasingB
 strictly key [] order once = tt
 strictly {X} key (x ∷ xs) order once =
     let after : (k : ℕ) (d : X) → k < length xs → key x < key (get_or xs k d) = λ k d within.
-        (let le : key x ≤ key (get_or xs k d) = order 0 (suc k) d (omega arith) (omega arith) in
-        let few : count_by (λ y. key y == key x) (x ∷ xs) ≤ 1 = once (key x) in
-        let all = count_head (λ y. key y == key x) x xs in
-        let one = passed (key x == key x) (eq-eqb (key x) (key x) refl) in
-        let apart : key (get_or xs k d) ≡ key x → ⊥ = λ same.
-            (let many : 1 ≤ count_by (λ y. key y == key x) xs = counted (λ y. key y == key x) xs (get_or xs k d) (Contains-get_or xs k d within) (eq-eqb (key (get_or xs k d)) (key x) same) in omega arith) in
-        omega arith) in (
+    (let le : key x ≤ key (get_or xs k d) = order 0 (suc k) d (omega arith) (omega arith) in
+    let few : count_by (λ y. key y == key x) (x ∷ xs) ≤ 1 = once (key x) in
+    let all = count_head (λ y. key y == key x) x xs in
+    let one = passed (key x == key x) (eq-eqb (key x) (key x) refl) in
+    let apart : key (get_or xs k d) ≡ key x → ⊥ = λ same.
+    (let many : 1 ≤ count_by (λ y. key y == key x) xs = counted (λ y. key y == key x) xs (get_or xs k d) (Contains-get_or xs k d within) (eq-eqb (key (get_or xs k d)) (key x) same) in omega arith) in
+    omega arith) in (
       above x xs xs after,
       strictly key xs (λ i j d le within. order (suc i) (suc j) d (omega arith) (omega arith)) (λ q. let few : count_by (λ y. key y == q) (x ∷ xs) ≤ 1 = once q in let all = count_head (λ y. key y == q) x xs in omega arith),
     )
   where
-  above : (x : X) (all rest : List X) → ((k : ℕ) (d : X) → k < length rest → key x < key (get_or rest k d)) → AllByRecursion (λ later. key x < key later) rest
-  above x all [] h = tt
-  above x all (y ∷ rest) h = (h 0 y (omega arith), above x all rest (λ k d within. h (suc k) d (omega arith)))
+    above : (x : X) (all rest : List X) → ((k : ℕ) (d : X) → k < length rest → key x < key (get_or rest k d)) → AllByRecursion (λ later. key x < key later) rest
+    above x all [] h = tt
+    above x all (y ∷ rest) h = (h 0 y (omega arith), above x all rest (λ k d within. h (suc k) d (omega arith)))
 
 all_within : {X : Type 0} (P : X → Type 0) (xs : List X) (x : X) → AllByRecursion P xs → Contains xs x → P x
 all_within P [] x all within = absurd (none_within x within)
@@ -156,12 +156,12 @@ same_rising {X} key (x ∷ xs) (y ∷ ys) one other there back =
       ]
     ] in
     let rest : xs ≡ ys = same_rising key xs ys one.1 other.1
-        (λ z within. elim (first_or_later y ys z (there z (Contains-later x xs z within))) [
-          | inl same ↦ (let less : key x < key z = all_within (λ w. key x < key w) xs z one.0 within in let keys : key x ≡ key z = ap key (first ∙ same) in absurd (omega arith))
-          | inr later ↦ later
-        ])
-        (λ z within. elim (first_or_later x xs z (back z (Contains-later y ys z within))) [
-          | inl same ↦ (let less : key y < key z = all_within (λ w. key y < key w) ys z other.0 within in let keys : key y ≡ key z = ap key (sym first ∙ same) in absurd (omega arith))
-          | inr later ↦ later
-        ]) in
+    (λ z within. elim (first_or_later y ys z (there z (Contains-later x xs z within))) [
+      | inl same ↦ (let less : key x < key z = all_within (λ w. key x < key w) xs z one.0 within in let keys : key x ≡ key z = ap key (first ∙ same) in absurd (omega arith))
+      | inr later ↦ later
+    ])
+    (λ z within. elim (first_or_later x xs z (back z (Contains-later y ys z within))) [
+      | inl same ↦ (let less : key y < key z = all_within (λ w. key y < key w) ys z other.0 within in let keys : key y ≡ key z = ap key (sym first ∙ same) in absurd (omega arith))
+      | inr later ↦ later
+    ]) in
     λ i. first i ∷ rest i

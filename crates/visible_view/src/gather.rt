@@ -35,11 +35,7 @@ pub struct Gathered<'a> {
 }
 
 /// Gathers what a player sees of the rooms.
-pub fn gather<'a>(
-    alloc: Global,
-    rooms: &'a [Room],
-    player: u32,
-) -> Result<Gathered<'a>, AllocError>
+pub fn gather<'a>(alloc: Global, rooms: &'a [Room], player: u32) -> Result<Gathered<'a>, AllocError>
     requires { length rooms.now ≤ rooms_bound }
     ensures all { IfOk result (IsGathered player rooms.now) }
     ensures tiles { OnOk result (All HaveByteTiles rooms.now) }
@@ -99,9 +95,7 @@ fn gives_sight(object: &Object, player: u32) -> bool
     ensures { result ≡ giving_sight player object.now }
 {
     object.owner == player
-        && (matches!(object.kind, Kind::Creep)
-            || is_building(object.kind)
-            || is_controller(object))
+        && (matches!(object.kind, Kind::Creep) || is_building(object.kind) || is_controller(object))
 }
 
 fn is_controller(object: &Object) -> bool

@@ -3,6 +3,8 @@
 
 mod field;
 mod gather;
+#[cfg(test)]
+mod tests;
 mod view;
 
 pub use std::alloc::AllocError as NoMemory;
