@@ -1,8 +1,8 @@
 -- What is gathered of one room more.
 use Rattle.std.proofs.Common.{◌≡◌, ℕ, suc, ◌+◌, ◌<◌, ◌==◌, ◌&&◌, Bool, true, false, cond, if◌then◌else◌, List, [], ◌∷◌, ◌++◌, map, length, Option, Some, None, option_map, option_and_then, refl, sym, ap, subst, ◌∙◌, arith, append_assoc}
-use Rattle.std.specs.List.{AllByRecursion, find, sum_by}
+use Rattle.std.specs.List.{AllByRecursion, find}
 use Rattle.std.specs.Option.{option_or}
-use Rattle.std.proofs.lemmas.Bool.{eq-eqb, eqb-true, ne_eqb}
+use Rattle.std.proofs.lemmas.Bool.{eqb-true, ne_eqb}
 use Rattle.std.proofs.lemmas.List.{map-append, append-nil, length-append}
 use Rattle.std.proofs.lemmas.List.Folds.{find-append}
 use Rattle.std.proofs.lemmas.List.Sums.{sum_by_push}
@@ -15,7 +15,6 @@ use Rattle.world_rules.specs.World.{Placed}
 use Rattle.visible_view.specs.Sights.{SeenRoom}
 use Rattle.visible_view.specs.Gathered.{shown_room, shown_object, controller_in, is_seen, placed_at, from_each, objects_if_seen, room_if_seen, sites_at, is_controller_at, kept_controller, HaveControllers, KeepsRoom, KeepsRoomIf, IsAdded, IsGathered}
 use Rattle.visible_view.specs.declared.gather.RoomInView.{RoomInView}
-use Rattle.visible_view.specs.declared.gather.ObjectInView.{ObjectInView}
 use Rattle.visible_view.specs.declared.gather.Gathered.{Gathered}
 
 from_each_push : {A : Type 0} (taken : ℕ → Room → List A) (index : ℕ) (rooms : List Room) (room : Room) → from_each taken index (rooms ++ room ∷ []) ≡ from_each taken index rooms ++ taken (index + length rooms) room

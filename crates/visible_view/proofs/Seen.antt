@@ -1,13 +1,13 @@
 -- What is gathered, in rising id, is what the player sees of the world.
-use Rattle.std.proofs.Common.{Less, Equal, Greater, ◌≡◌, ℕ, zero, suc, ◌+◌, ◌<◌, ◌≤◌, ◌==◌, ◌&&◌, ◌||◌, Bool, true, false, cond, if◌then◌else◌, T, List, [], ◌∷◌, ◌++◌, map, length, Option, Some, None, option_map, refl, sym, ap, subst, ◌∙◌, inl, inr, arith, append-nil}
+use Rattle.std.proofs.Common.{Less, Equal, Greater, ◌≡◌, ℕ, zero, suc, ◌+◌, ◌<◌, ◌≤◌, ◌==◌, ◌&&◌, ◌||◌, Bool, true, false, cond, if◌then◌else◌, T, List, [], ◌∷◌, ◌++◌, map, length, Some, None, option_map, refl, sym, ap, subst, ◌∙◌, inl, inr, arith}
 use Rattle.std.specs.Prelude.{slice_get}
 use Rattle.std.specs.List as lists
 use Rattle.std.specs.List.{AllByRecursion, Contains, count_by, filter, list_any, sum_by}
 use Rattle.std.specs.List.Sorted.{IsPermutation, IsNonDecreasingBy}
 use Rattle.std.specs.declared.cmp.Ordering.{Ordering}
-use Rattle.std.specs.Ordering.{nat_cmp, eq_by_cmp, is_eq, is_lt}
+use Rattle.std.specs.Ordering.{nat_cmp, is_eq, is_lt}
 use Rattle.std.specs.Cmp.{nat_cmp_total, ranked, unsigned_tied}
-use Rattle.std.specs.FinMap.{find, get, empty, from_entries, entries, entries_sorted, entries-insert, get-entries, get-from_entries, is_sorted, len-empty, len-entries}
+use Rattle.std.specs.FinMap.{find, empty, from_entries, entries, entries_sorted, entries-insert, get-entries, get-from_entries, is_sorted, len-empty, len-entries}
 use Rattle.std.specs.FinMap.Entries.{by_order, put, below_all}
 use Rattle.std.proofs.lemmas.Bool.{cases_eq, eq-eqb, eqb-true, ne_eqb}
 use Rattle.std.proofs.lemmas.List.{length-map, map-append, nil_from_length}
@@ -20,7 +20,7 @@ use Rattle.object_store.specs.declared.object.Object.{Object}
 use Rattle.object_store.specs.declared.world.Room.{Room}
 use Rattle.object_store.specs.Stored.{Stored}
 use Rattle.object_store.proofs.Rising.{Rises, rises-filter}
-use Rattle.world_rules.specs.World.{Placed, Frame, ListedRoom, World, placed, placed_from, listed_room, listing_of, world_of}
+use Rattle.world_rules.specs.World.{Placed, ListedRoom, World, placed, placed_from, listed_room, listing_of, world_of}
 use Rattle.world_rules.specs.declared.rule.Rule.TheVariants.{Controllers}
 use Rattle.world_rules.specs.Kinds.{is_controller}
 use Rattle.world_rules.specs.Rules.{Stands}

@@ -1,14 +1,12 @@
 -- What a module is told of what its player sees.
-use Rattle.std.specs.Prelude.{ℕ, suc, ◌+◌, ◌-◌, ◌*◌, ◌==◌, ◌&&◌, nat_le, nat_lt, Bool, if◌then◌else◌, List, [], ◌∷◌, length, Option, Some, None, option_map, option_and_then, slice_get}
+use Rattle.std.specs.Prelude.{ℕ, suc, ◌+◌, ◌-◌, ◌*◌, ◌==◌, ◌&&◌, nat_lt, if◌then◌else◌, List, [], ◌∷◌, length, Option, Some, None, option_map, option_and_then, slice_get}
 use Rattle.std.specs.List.{find}
 use Rattle.game_tables.specs.Bodies.{load_room, part_hits}
 use Rattle.game_tables.specs.Kinds.{building_room, most_hits, source_room}
 use Rattle.game_tables.specs.Numbers.{kind_number, part_number}
 use Rattle.game_tables.specs.declared.kind.Kind.{Kind}
 use Rattle.game_tables.specs.declared.kind.Kind.TheVariants.{Source, Creep}
-use Rattle.game_tables.specs.declared.kind.Part.{Part}
 use Rattle.room_terrain.specs.Tiles.{tile}
-use Rattle.room_terrain.specs.declared.name.RoomName.{RoomName}
 use Rattle.room_terrain.specs.declared.terrain.Ground.{Ground}
 use Rattle.object_store.specs.declared.object.Object.{Object}
 use Rattle.world_rules.specs.Kinds.{is_controller}

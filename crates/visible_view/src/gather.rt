@@ -122,7 +122,7 @@ fn tally(objects: &[Object], player: u32) -> Tallied
         sites: 0,
     };
     for object in objects {
-        // So a room has few objects, since its rules let few share a tile.
+        // A tile is told by two bytes and has three objects at most, so all objects can be counted.
         prove!(object.x <= u8::MAX);
         prove!(object.y <= u8::MAX);
         found.is_seen |= gives_sight(object, player);

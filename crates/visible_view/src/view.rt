@@ -144,8 +144,11 @@ impl<'a> View<'a> {
         ground_of(&seen.room.terrain, x, y)
     }
 
-    /// A field of the object at a place, by the field's number; docs/players.md lists them. There is
-    /// nothing past the fields and past the parts of the body.
+    /// A field of the object at a place: 0 its id, 1 its kind's number, 2 its room, 3 and 4 its tile,
+    /// 5 its owner, 6 its hits and 7 the most of them, 8 its energy and 9 the most of it, 10 its
+    /// timer, 11 its level, fatigue or kind to be built, 12 its progress, 13 who reserves it and 14
+    /// for how many ticks, 15 the number of its parts, and from 100 on the parts, each by its
+    /// number times 1,000 and its hits.
     pub fn field(&self, index: u32, field: u32) -> Option<u64>
         ensures { result ≡ field_at self.now index field }
     {

@@ -1,7 +1,6 @@
-use Rattle.std.proofs.Common.{◌<◌, arith, subst}
+use Rattle.std.proofs.Common.{arith, subst}
 use Rattle.std.proofs.lemmas.Grind.{common_steps}
 use Rattle.std.proofs.lemmas.List.Elements.{All-more}
-use Rattle.object_store.specs.declared.object.Object.{Object}
 use Rattle.visible_view.specs.Gathered.{HasByteTile}
 use Rattle.visible_view.proofs.gather.tally.Goals as goal
 

@@ -1,4 +1,4 @@
-use Rattle.std.proofs.Common.{◌≡◌, ◌==◌, option_and_then, sym, ap, ◌∙◌}
+use Rattle.std.proofs.Common.{◌==◌, option_and_then, sym, ap, ◌∙◌}
 use Rattle.std.specs.List.{find}
 use Rattle.visible_view.specs.Sights.{Sight}
 use Rattle.visible_view.specs.Fields.{controller_at}

@@ -1,7 +1,6 @@
-use Rattle.std.proofs.Common.{◌≡◌, ◌==◌, List, option_map, option_and_then, sym, ap, ◌∙◌}
+use Rattle.std.proofs.Common.{◌==◌, option_map, sym, ap, ◌∙◌}
 use Rattle.std.specs.List.{find}
 use Rattle.visible_view.specs.Sights.{SeenRoom, Sight}
-use Rattle.visible_view.specs.Fields.{ground_in, room_at}
 use Rattle.visible_view.specs.Gathered.{shown_room, index_in}
 use Rattle.visible_view.specs.declared.gather.RoomInView.{RoomInView}
 use Rattle.visible_view.proofs.Told.{room_told}
