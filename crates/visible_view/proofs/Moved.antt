@@ -3,7 +3,7 @@ use Rattle.std.proofs.Common.{◌≡◌, ℕ, zero, suc, ◌+◌, ◌<◌, ◌�
 use Rattle.std.specs.List.{AllByRecursion, Contains, count_by, filter, find}
 use Rattle.std.specs.List.Sorted.{IsPermutation, IsNonDecreasingBy}
 use Rattle.std.proofs.lemmas.Bool.{eq-eqb}
-use Rattle.std.proofs.lemmas.List.Elements.{All-contains, All-contains_itself, All-filter, filter_passes, Contains-append_cases, Contains-append_right, Contains-get_or}
+use Rattle.std.proofs.lemmas.List.Elements.{All-contains, All-from_recursion, recursion_from_All, All-contains_itself, All-filter, filter_passes, Contains-append_cases, Contains-append_right, Contains-get_or}
 use Rattle.std.proofs.lemmas.List.Sums.{sum_by-cons}
 use Rattle.std.proofs.lemmas.List.Sorted.{IsPermutation-sym, Contains-permutation, sum_by-IsPermutation}
 use Rattle.object_store.proofs.Rising.{Rises}
@@ -31,8 +31,7 @@ pub none_within : {X : Type 0} (x : X) → Contains [] x → ⊥
 none_within x (k, within, is) = omega arith
 
 pub all_from_within : {X : Type 0} (P : X → Type 0) (xs : List X) → ((x : X) → Contains xs x → P x) → AllByRecursion P xs
-all_from_within P [] holds = tt
-all_from_within P (x ∷ xs) holds = (holds x (Contains-head x xs), all_from_within P xs (λ y within. holds y (Contains-later x xs y within)))
+all_from_within P xs holds = recursion_from_All P xs (λ k d lt. holds (get_or xs k d) (Contains-get_or xs k d lt))
 
 pub Contains-filter : {X : Type 0} (test : X → Bool) (xs : List X) (x : X) → Contains xs x → test x ≡ true → Contains (filter test xs) x
 Contains-filter test [] x within passes = absurd (none_within x within)
@@ -131,12 +130,7 @@ strictly {X} key (x ∷ xs) order once =
     above x all (y ∷ rest) h = (h 0 y (omega arith), above x all rest (λ k d within. h (suc k) d (omega arith)))
 
 all_within : {X : Type 0} (P : X → Type 0) (xs : List X) (x : X) → AllByRecursion P xs → Contains xs x → P x
-all_within P [] x all within = absurd (none_within x within)
-all_within P (first ∷ xs) x all within =
-    elim (first_or_later first xs x within) [
-      | inl here ↦ subst P here all.0
-      | inr later ↦ all_within P xs x all.1 later
-    ]
+all_within P xs x all within = All-contains P xs x (All-from_recursion P xs all) within
 
 -- two such lists with the same members are one
 pub same_rising : {X : Type 0} (key : X → ℕ) (xs ys : List X) → Rises key xs → Rises key ys → ((x : X) → Contains xs x → Contains ys x) → ((x : X) → Contains ys x → Contains xs x) → xs ≡ ys
