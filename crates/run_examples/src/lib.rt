@@ -1,5 +1,5 @@
-// Runs and checks over devices in memory, and the calls that fail: examples of the top calls, which are tests
-// alone. They stand in a crate of their own, so that the top calls are not proved once more for them.
+// Runs and checks over devices in memory, and the calls that fail: examples of the top calls, and of what players
+// see, which are tests alone. They stand in a crate of their own, so that the top calls are not proved once more for them.
 #![tactic(auto)]
 
 #[cfg(test)]
@@ -8,5 +8,7 @@ mod run_tests;
 mod status_tests;
 #[cfg(test)]
 mod tool_tests;
+#[cfg(test)]
+mod view_tests;
 #[cfg(test)]
 mod words_tests;

@@ -1,0 +1,106 @@
+// What players see of a world that was read from a file.
+ghost use Rattle.std.specs.Prelude.{◌≡◌};
+
+use object_store::{Ground, RoomName};
+use std::alloc::{AllocError, Global};
+use std::test::Fail;
+use visible_view::View;
+use world_text::read_world;
+
+// Plain ground with walls at the corners.
+fn terrain(alloc: Global) -> Result<String, AllocError> {
+    let mut terrain = String::new(alloc);
+    for at in 0..2500_usize {
+        let corner = at == 0 || at == 49 || at == 2450 || at == 2499;
+        terrain.push(if corner { '1' } else { '0' })?;
+    }
+    Ok(terrain)
+}
+
+// Three rooms: player 1 has a controller in the first, and in the second a creep that was born in the first; in the
+// third he has a site and a reservation, and player 2 a creep.
+fn three_rooms(alloc: Global) -> Result<String, AllocError> {
+    let terrain = terrain(alloc)?;
+    let first =
+        "{\"id\":2,\"kind\":\"source\",\"x\":10,\"y\":10,\"energy\":7},{\"id\":1,\"kind\":\"controller\",\"x\":5,\"y\":5,\"owner\":1,\"extra\":1,\"timer\":5},{\"id\":4,\"kind\":\"site\",\"x\":9,\"y\":9,\"owner\":1,\"extra\":8}";
+    let second =
+        "{\"id\":4294967297,\"kind\":\"pile\",\"x\":7,\"y\":7,\"energy\":5},{\"id\":3,\"kind\":\"creep\",\"x\":6,\"y\":8,\"owner\":1,\"body\":[\"move\",\"carry\"],\"hits\":150,\"energy\":40,\"timer\":9}";
+    let third =
+        "{\"id\":8589934593,\"kind\":\"site\",\"x\":3,\"y\":3,\"owner\":1,\"extra\":7},{\"id\":8589934594,\"kind\":\"controller\",\"x\":5,\"y\":5,\"other\":1,\"other_ticks\":5},{\"id\":8589934595,\"kind\":\"creep\",\"x\":6,\"y\":6,\"owner\":2,\"body\":[\"move\"],\"timer\":9}";
+    let players = "{\"player\":1,\"limit\":20,\"bucket\":30},{\"player\":2,\"limit\":0}";
+    format!(in alloc;
+        "{{\"version\":1,\"tick\":6,\"rooms\":[{{\"name\":\"E0S0\",\"terrain\":\"{terrain}\",\"next\":5,\"objects\":[{first}]}},{{\"name\":\"W0S0\",\"terrain\":\"{terrain}\",\"next\":9,\"objects\":[{second}]}},{{\"name\":\"E2S0\",\"terrain\":\"{terrain}\",\"next\":9,\"objects\":[{third}]}}],\"players\":[{players}]}}"
+    )
+}
+
+#[test]
+fn players_see_their_rooms(rt: HostRuntime) -> Result<(), Fail> {
+    let text = three_rooms(rt.alloc())?;
+    let Ok(file) = read_world(rt.alloc(), text.as_bytes()) else {
+        return Err("refused".into());
+    };
+    let world = &file.world;
+    if world.rooms() > 400 || world.account(1).is_none() || world.account(2).is_none() {
+        return Err("not the world of the file".into());
+    }
+    let one = View::of(rt.alloc(), world, 1)?;
+    assert_eq!(rt; (one.tick(), one.account().bucket, one.sites()), (6, 30, 2));
+    assert_eq!(rt;
+        (one.room_count(), one.room(0), one.room(1), one.room(2)),
+        (2, Some(0), Some(1), None)
+    );
+    assert_eq!(rt; one.name(1), Some(RoomName { column: -1, row: 0 }));
+    assert_eq!(rt; one.name(2), None);
+    assert_eq!(rt;
+        (one.ground(1, 49, 0), one.ground(1, 1, 0)),
+        (Some(Ground::Wall), Some(Ground::Plain))
+    );
+    assert_eq!(rt; (one.ground(2, 1, 1), one.ground(1, 50, 0)), (None, None));
+    // (ids rise over both rooms: the creep of the second stands between objects of the first)
+    assert_eq!(rt; one.count(), 5);
+    for (place, id, room) in [
+        (0, 1, 0),
+        (1, 2, 0),
+        (2, 3, 1),
+        (3, 4, 0),
+        (4, 4_294_967_297, 1),
+    ] {
+        assert_eq!(rt; one.find(id), Some(place));
+        assert_eq!(rt;
+            (one.field(place, 0), one.field(place, 2)),
+            (Some(id), Some(room))
+        );
+    }
+    assert_eq!(rt;
+        (one.find(8_589_934_595), one.field(5, 0), one.field(0, 16)),
+        (None, None, None)
+    );
+    assert_eq!(rt; one.object(2).map_or(0, |creep| creep.energy), 40);
+    for (field, told) in [
+        (1, 3),
+        (3, 6),
+        (4, 8),
+        (5, 1),
+        (6, 150),
+        (7, 200),
+        (8, 40),
+        (9, 50),
+        (10, 9),
+        (15, 2),
+        (100, 1_050),
+        (101, 3_100),
+    ] {
+        assert_eq!(rt; one.field(2, field), Some(told), "field {field}");
+    }
+    assert_eq!(rt;
+        (one.field(2, 102), one.field(1, 9), one.field(0, 11)),
+        (None, Some(3_000), Some(1))
+    );
+    let two = View::of(rt.alloc(), world, 2)?;
+    assert_eq!(rt;
+        (two.room_count(), two.room(0), two.count(), two.sites()),
+        (1, Some(2), 3, 0)
+    );
+    assert_eq!(rt; (two.find(8_589_934_595), two.find(3)), (Some(2), None));
+    Ok(())
+}
