@@ -40,14 +40,8 @@ pub fn add_rooms(world: &mut World, rooms: Vec<RoomDraft>) -> Result<(), AllocEr
     ensures accounts { world.new.accounts ≡ world.old.accounts }
 {
     for room in rooms {
-        let RoomDraft {
-            name,
-            terrain,
-            next,
-            objects,
-        } = room;
-        let table = RoomTable::of(world.rooms(), next, objects);
-        world.push_room(name, terrain, table)?;
+        let table = RoomTable::of(world.rooms(), room.next, room.objects);
+        world.push_room(room.name, room.terrain, table)?;
     }
     Ok(())
 }

@@ -1,11 +1,10 @@
 // The players of a world file.
 ghost use Rattle.std.specs.Prelude.{◌≡◌, ◌≢◌, ◌≤◌, ◌-◌, ◌^◌, List, [], ◌∷◌, IfOk, IfErr};
 ghost use Rattle.serde_json.specs.View.{view, items_view};
-ghost use Rattle.world_form.specs.Facts.{Defaults, IsListOf, IsTokenText, IsMemoryText, Player, SayEach, SaysPlayer};
-ghost use Rattle.world_form.specs.FirstFaults.{IsFirst, optional, each_from, values_at, player_checks, IsMalformed};
+ghost use Rattle.world_form.specs.Facts.{Defaults, IsList, IsListOf, IsTokenText, IsMemoryText, Player, SayEach, SaysPlayer};
+ghost use Rattle.world_form.specs.FirstFaults.{IsFirst, optional, each_from, values_at, player_checks};
 ghost use Rattle.world_form.specs.declared.field.Field.TheVariants as fields;
-ghost use Rattle.world_form.specs.Facts.{IsList};
-ghost use Rattle.world_text.specs.Readings.{Reads, player_of, SaysAccount, account_checks};
+ghost use Rattle.world_text.specs.Readings.{player_of, SaysAccount, account_checks};
 ghost use Rattle.world_text.specs.Drafts.{AreListed, AreSorted};
 
 use crate::draft::Players;

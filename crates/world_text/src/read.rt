@@ -15,7 +15,7 @@ use crate::tokens::Tokens;
 use game_tables::{most_players, most_rooms};
 use object_store::World;
 use rule_check::first_broken;
-use std::alloc::{AllocError, Global};
+use std::alloc::Global;
 use world_form::WorldFault;
 use world_rules::Rule;
 
@@ -45,13 +45,9 @@ pub fn read_world(alloc: Global, bytes: &[u8]) -> Result<WorldFile, WorldFault>
 {
     let draft = read_draft(alloc, bytes)?;
     test_rules(alloc, &draft)?;
-    let Draft {
-        tick,
-        rooms,
-        players,
-    } = draft;
-    let mut world = World::empty(alloc, tick);
-    add_rooms(&mut world, rooms)?;
+    let mut world = World::empty(alloc, draft.tick);
+    add_rooms(&mut world, draft.rooms)?;
+    let players = draft.players;
     add_accounts(&mut world, players.accounts)?;
     Ok(WorldFile {
         world,

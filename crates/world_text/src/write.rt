@@ -167,6 +167,3 @@ fn digit_of(number: u8) -> char
         (b'a' + (number - 10)) as char
     }
 }
-
-#[cfg(test)]
-mod tests;
