@@ -1,38 +1,38 @@
 // World files that are read and refused.
 use crate::{Text, Tokens, WorldFault, read_world, write_world};
 use std::alloc::{AllocError, Global};
+use std::process::Abort;
 use std::test::Fail;
 
-// A key of a part, the answer without it, the answer with each of the values before the slash, and
-// the answer with each of those behind it.
+// A key of a part, and between slashes an answer and the values of the key that lead to it.
 const KEYS: [&str; 27] = [
-    "top version Missing(Version) accepted 1 / BadValue(Version,0) 0 2 \"1\" 1.0 null",
-    "top tick Missing(Tick) accepted 0 9007199254740992 / BadValue(Tick,0) -1 9007199254740993 null 0.0",
-    "top rooms Missing(Rooms) Rule(Counts,0) [] / BadValue(Rooms,0) {} null 5",
-    "top players accepted accepted [] / BadValue(Players,0) {} null 5",
-    "room name Missing(Name) accepted \"W127N127\" \"E127S127\" / BadValue(Name,1) \"E128S0\" \"W0N128\" \"E00S0\" 7",
-    "room terrain Missing(Terrain) BadValue(Terrain,1) \"\" \"0\" / BadValue(Terrain,1) 7 null",
-    "room next Missing(Next) accepted 5 4294967295 / BadValue(Next,1) 0 4294967296 null true",
-    "room objects Missing(Objects) accepted [] / BadValue(Objects,1) {} null \"[]\"",
-    "object id Missing(Id) accepted 1 8 / BadValue(Id,1) 0 9007199254740993 2.0 []",
-    "object kind Missing(Kind) accepted \"pile\" \"source\" / BadValue(Kind,1) \"Pile\" \"\" 9 null",
-    "object x Missing(X) accepted 0 49 / BadValue(X,1) -1 50 \"1\" 1.5",
-    "object y Missing(Y) accepted 0 49 / BadValue(Y,1) -1 50 null {}",
-    "object owner accepted Rule(Owner,4) 7 4294967295 / BadValue(Owner,1) -1 4294967296 null",
-    "object body accepted Rule(Range,4) [\"move\",\"ranged_attack\"] / BadValue(Body,1) [\"arm\"] \"move\" [\"move\",5]",
-    "object hits accepted Rule(Range,4) 1 4294967295 / BadValue(Hits,1) -1 4294967296 null",
-    "object energy Rule(Range,4) Rule(Range,4) 0 9007199254740992 / BadValue(Energy,1) -1 9007199254740993 []",
-    "object timer accepted Rule(Range,4) 1 4294967295 / BadValue(Timer,1) 1.5 4294967296 null",
-    "object extra accepted Rule(Range,4) 1 4294967295 / BadValue(Extra,1) \"\" 4294967296 null",
-    "object progress accepted Rule(Range,4) 1 9007199254740992 / BadValue(Progress,1) true 9007199254740993 null",
-    "object other accepted Rule(Owner,4) 7 4294967295 / BadValue(Other,1) [] 4294967296 null",
-    "object other_ticks accepted Rule(Range,4) 1 4294967295 / BadValue(OtherTicks,1) -1 4294967296 null",
-    "player player Missing(Player) accepted 1 4294967295 / BadValue(Player,1) 0 4294967296 null \"1\"",
-    "player token accepted accepted \"\" \"!~\" / BadValue(Token,1) \"a\\u0020b\" \"\\u007f\" \"é\" null",
-    "player limit Missing(Limit) accepted 0 500 / BadValue(Limit,1) -1 501 null 1e1",
-    "player bucket accepted accepted 0 10000 / BadValue(Bucket,1) -1 10001 null",
-    "player points accepted accepted 0 9007199254740992 / BadValue(Points,1) -1 9007199254740993 null",
-    "player memory accepted accepted \"\" \"09af\" / BadValue(Memory,1) \"0\" \"0A\" \"0g\" 7",
+    "top version/Missing(Version) none/accepted 1/BadValue(Version,0) 0 2 \"1\" 1.0 null",
+    "top tick/Missing(Tick) none/accepted 0 9007199254740992/BadValue(Tick,0) -1 9007199254740993 null 0.0",
+    "top rooms/Missing(Rooms) none/Rule(Counts,0) []/BadValue(Rooms,0) {} null 5",
+    "top players/accepted none/accepted []/BadValue(Players,0) {} null 5",
+    "room name/Missing(Name) none/accepted \"W127N127\" \"E127S127\"/BadValue(Name,1) \"E128S0\" \"W0N128\" \"E00S0\" 7",
+    "room terrain/Missing(Terrain) none/BadValue(Terrain,1) \"\" \"0\"/BadValue(Terrain,1) 7 null",
+    "room next/Missing(Next) none/accepted 5 4294967295/BadValue(Next,1) 0 4294967296 null true",
+    "room objects/Missing(Objects) none/accepted []/BadValue(Objects,1) {} null \"[]\"",
+    "object id/Missing(Id) none/accepted 1 8/BadValue(Id,1) 0 9007199254740993 2.0 []",
+    "object kind/Missing(Kind) none/accepted \"pile\" \"source\"/BadValue(Kind,1) \"Pile\" \"\" 9 null",
+    "object x/Missing(X) none/accepted 0 49/BadValue(X,1) -1 50 \"1\" 1.5",
+    "object y/Missing(Y) none/accepted 0 49/BadValue(Y,1) -1 50 null {}",
+    "object owner/accepted none/Rule(Owner,4) 7 4294967295/BadValue(Owner,1) -1 4294967296 null",
+    "object body/accepted none/Rule(Range,4) [\"move\",\"ranged_attack\"]/BadValue(Body,1) [\"arm\"] \"move\" [\"move\",5]",
+    "object hits/accepted none/Rule(Range,4) 1 4294967295/BadValue(Hits,1) -1 4294967296 null",
+    "object energy/Rule(Range,4) none/Rule(Range,4) 0 9007199254740992/BadValue(Energy,1) -1 9007199254740993 []",
+    "object timer/accepted none/Rule(Range,4) 1 4294967295/BadValue(Timer,1) 1.5 4294967296 null",
+    "object extra/accepted none/Rule(Range,4) 1 4294967295/BadValue(Extra,1) \"\" 4294967296 null",
+    "object progress/accepted none/Rule(Range,4) 1 9007199254740992/BadValue(Progress,1) true 9007199254740993 null",
+    "object other/accepted none/Rule(Owner,4) 7 4294967295/BadValue(Other,1) [] 4294967296 null",
+    "object other_ticks/accepted none/Rule(Range,4) 1 4294967295/BadValue(OtherTicks,1) -1 4294967296 null",
+    "player player/Missing(Player) none/accepted 1 4294967295/BadValue(Player,1) 0 4294967296 null \"1\"",
+    "player token/accepted none/accepted \"\" \"!~\"/BadValue(Token,1) \"a\\u0020b\" \"\\u007f\" \"é\" null",
+    "player limit/Missing(Limit) none/accepted 0 500/BadValue(Limit,1) -1 501 null 1e1",
+    "player bucket/accepted none/accepted 0 10000/BadValue(Bucket,1) -1 10001 null",
+    "player points/accepted none/accepted 0 9007199254740992/BadValue(Points,1) -1 9007199254740993 null",
+    "player memory/accepted none/accepted \"\" \"09af\"/BadValue(Memory,1) \"0\" \"0A\" \"0g\" 7",
 ];
 
 // An answer, and the changes that lead to it: the part, the key and its value. Of two faults the
@@ -131,7 +131,9 @@ fn keys_of(alloc: Global, part: &str, keys: &str, changes: &[&str]) -> Result<St
 
 // A file of two rooms, of which the second has two objects, and two players in falling number. The
 // changes are of the top and of the second room, object and player.
-fn file_of(alloc: Global, changes: &[&str]) -> Result<String, AllocError> {
+fn file_of(alloc: Global, changes: &str) -> Result<String, AllocError> {
+    let words: Vec<&str> = changes.split(' ').collect(alloc)?;
+    let changes = words.as_slice();
     let ground = terrain(alloc)?;
     let object = keys_of(alloc, "object", OBJECT, changes)?;
     let room = format!(in alloc;
@@ -149,7 +151,7 @@ fn file_of(alloc: Global, changes: &[&str]) -> Result<String, AllocError> {
 }
 
 // What a reader of a changed file answers.
-fn answer(alloc: Global, changes: &[&str]) -> Result<String, AllocError> {
+fn answer(alloc: Global, changes: &str) -> Result<String, AllocError> {
     answer_of(alloc, file_of(alloc, changes)?.as_str())
 }
 
@@ -164,26 +166,23 @@ fn answer_of(alloc: Global, text: &str) -> Result<String, AllocError> {
     }
 }
 
+// Tests the values of a key that lead to one answer.
+fn test_values(rt: &impl Abort, alloc: Global, key: &str, group: &str) -> Result<(), AllocError> {
+    let (expected, values) = group.split_once(' ').unwrap_or(("", ""));
+    for value in values.split(' ') {
+        let change = format!(in alloc; "{key} {value}")?;
+        let told = answer(alloc, change.as_str())?;
+        assert_eq!(rt; told.as_str(), expected, "{change}");
+    }
+    Ok(())
+}
+
 #[test]
 fn each_key_is_tested(rt: HostRuntime) -> Result<(), Fail> {
-    let alloc = rt.alloc();
     for row in KEYS {
-        let words: Vec<&str> = row.split(' ').collect(alloc)?;
-        let [part, key, absent, expected, values @ ..] = words.as_slice() else {
-            return Err("row".into());
-        };
-        let told = answer(alloc, &[*part, *key, "none"])?;
-        assert_eq!(rt; told.as_str(), *absent, "no {key}");
-        let mut expected = *expected;
-        let mut is_answer = false;
-        for value in values {
-            if is_answer {
-                expected = *value;
-            } else if *value != "/" {
-                let told = answer(alloc, &[*part, *key, *value])?;
-                assert_eq!(rt; told.as_str(), expected, "{key} {value}");
-            }
-            is_answer = *value == "/";
+        let (key, groups) = row.split_once('/').ok_or("row")?;
+        for group in groups.split('/') {
+            test_values(&rt, rt.alloc(), key, group)?;
         }
     }
     Ok(())
@@ -191,13 +190,10 @@ fn each_key_is_tested(rt: HostRuntime) -> Result<(), Fail> {
 
 #[test]
 fn the_first_of_two_faults_is_named(rt: HostRuntime) -> Result<(), Fail> {
-    let alloc = rt.alloc();
     for row in CHANGES {
-        let words: Vec<&str> = row.split(' ').collect(alloc)?;
-        let [expected, changes @ ..] = words.as_slice() else {
-            return Err("row".into());
-        };
-        assert_eq!(rt; answer(alloc, changes)?.as_str(), *expected, "{row}");
+        let (expected, changes) = row.split_once(' ').ok_or("row")?;
+        let told = answer(rt.alloc(), changes)?;
+        assert_eq!(rt; told.as_str(), expected, "{row}");
     }
     Ok(())
 }
@@ -226,8 +222,8 @@ fn lengths_are_tested(rt: HostRuntime) -> Result<(), Fail> {
             return Err("row".into());
         };
         let many = one.repeat(alloc, times.parse::<u32>()? as usize)?;
-        let value = format!(in alloc; "{open}{many}{close}")?;
-        let told = answer(alloc, &[*part, *key, value.as_str()])?;
+        let change = format!(in alloc; "{part} {key} {open}{many}{close}")?;
+        let told = answer(alloc, change.as_str())?;
         assert_eq!(rt; told.as_str(), *expected, "{row}");
     }
     Ok(())
@@ -236,7 +232,8 @@ fn lengths_are_tested(rt: HostRuntime) -> Result<(), Fail> {
 #[test]
 fn all_kinds_are_read_and_written(rt: HostRuntime) -> Result<(), Fail> {
     let alloc = rt.alloc();
-    let text = file_of(alloc, &["room", "objects", ALL_KINDS])?;
+    let change = format!(in alloc; "room objects {ALL_KINDS}")?;
+    let text = file_of(alloc, change.as_str())?;
     let Ok(file) = read_world(alloc, text.as_bytes()) else {
         return Err("refused".into());
     };
@@ -265,7 +262,8 @@ fn all_kinds_are_read_and_written(rt: HostRuntime) -> Result<(), Fail> {
 #[test]
 fn a_world_has_its_text(rt: HostRuntime) -> Result<(), Fail> {
     let alloc = rt.alloc();
-    let text = file_of(alloc, &["room", "objects", CREEP])?;
+    let change = format!(in alloc; "room objects {CREEP}")?;
+    let text = file_of(alloc, change.as_str())?;
     let Ok(file) = read_world(alloc, text.as_bytes()) else {
         return Err("refused".into());
     };
