@@ -1,12 +1,12 @@
 -- What is built of a draft that keeps the rules is what the file says; a rule that the draft breaks first is the file's fault.
-use Rattle.std.proofs.Common.{◌≡◌, ℕ, ◌<◌, ◌≤◌, ◌^◌, List, [], ◌∷◌, ◌++◌, map, length, refl, sym, ap, subst, ◌∙◌, arith}
+use Rattle.std.proofs.Common.{◌≡◌, ℕ, ◌≤◌, ◌^◌, List, [], ◌∷◌, ◌++◌, map, length, refl, sym, ap, subst, ◌∙◌, arith}
 use Rattle.std.specs.List.{AllByRecursion}
 use Rattle.std.proofs.lemmas.List.{length-map}
 use Rattle.game_tables.specs.Limits.{rooms_bound, players_bound}
 use Rattle.object_store.specs.declared.world.Room.{Room}
 use Rattle.object_store.specs.Tables.{IsRising}
 use Rattle.object_store.specs.Stored.{Stored, HaveRisingTables, AreRising}
-use Rattle.world_rules.specs.World.{ListedRoom, Listing, listed_room, listing_of, world_of, world_listed}
+use Rattle.world_rules.specs.World.{ListedRoom, listed_room, listing_of, world_of, world_listed}
 use Rattle.world_rules.specs.Rules.{KeepsRules}
 use Rattle.world_rules.specs.Sound.{IsSound}
 use Rattle.world_form.specs.declared.fault.WorldFault.{WorldFault}

@@ -1,5 +1,5 @@
 -- Two listings of the same rooms, objects and accounts in other orders break the same rules first, and list the same world where they break none.
-use Rattle.std.proofs.Common.{◌≡◌, ◌≢◌, ℕ, zero, suc, ◌+◌, ◌<◌, ◌≤◌, ◌==◌, ◌⊎◌, ◌&&◌, List, [], ◌∷◌, map, length, get_or, true, false, cond, Option, Some, None, refl, sym, ap, subst, ◌∙◌, arith, inl, inr}
+use Rattle.std.proofs.Common.{◌≡◌, ℕ, zero, suc, ◌+◌, ◌<◌, ◌==◌, ◌&&◌, List, [], ◌∷◌, map, length, get_or, true, cond, Some, None, refl, sym, ap, subst, ◌∙◌, arith, inl, inr}
 use Rattle.std.specs.Prelude.{slice_get}
 use Rattle.std.specs.List.{Contains, count_by}
 use Rattle.std.specs.List.Sorted.{IsPermutation}
@@ -14,7 +14,7 @@ use Rattle.object_store.specs.declared.object.Object.{Object}
 use Rattle.object_store.specs.declared.account.Account.{Account}
 use Rattle.world_rules.specs.declared.rule.Rule.{Rule}
 use Rattle.world_rules.specs.declared.rule.Rule.TheVariants as rules
-use Rattle.world_rules.specs.Kinds.{is_controller, is_site, may_have_owner}
+use Rattle.world_rules.specs.Kinds.{is_controller, is_site}
 use Rattle.world_rules.specs.World.{Placed, Frame, ListedRoom, World, Listing, placed, world_listed}
 use Rattle.world_rules.specs.Rules.{Broken, KeepsRules, IsFirstBroken, rule_place, IsWithinCounts, Stands, IsRoom, IsPlayer, HasEarlierName, HasOpenCorner, HasNoBirth, IsOnWrongTile, IsInTheWay, HasWrongOwner, IsInRangeAs}
 use Rattle.rule_check.proofs.Found.{times, found_at, at_found, once_found}

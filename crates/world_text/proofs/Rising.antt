@@ -1,5 +1,5 @@
 -- Lists in the order of their numbers, each number once: their numbers rise.
-use Rattle.std.proofs.Common.{◌≡◌, ℕ, zero, suc, ◌+◌, ◌<◌, ◌≤◌, ◌^◌, ◌==◌, List, [], ◌∷◌, ◌++◌, map, length, get_or, cond, refl, sym, ap, subst, ◌∙◌, arith, inl, inr}
+use Rattle.std.proofs.Common.{◌≡◌, ℕ, zero, suc, ◌+◌, ◌<◌, ◌≤◌, ◌==◌, List, [], ◌∷◌, ◌++◌, map, length, get_or, cond, refl, sym, ap, ◌∙◌, arith, inl, inr}
 use Rattle.std.specs.List.{AllByRecursion, count_by}
 use Rattle.std.specs.List.Sorted.{IsPermutation, IsNonDecreasingBy}
 use Rattle.std.proofs.lemmas.Bool.{cases_lt, eq-eqb}
@@ -12,7 +12,7 @@ use Rattle.object_store.specs.declared.account.Account.{Account}
 use Rattle.object_store.specs.Tables.{IsRising}
 use Rattle.object_store.specs.Stored.{AreRising}
 use Rattle.world_rules.specs.declared.rule.Rule.TheVariants as rules
-use Rattle.world_rules.specs.World.{Placed, ListedRoom, Listing, placed_from, placed}
+use Rattle.world_rules.specs.World.{Placed, Listing, placed_from, placed}
 use Rattle.world_rules.specs.Rules.{KeepsRules}
 use Rattle.world_form.specs.Facts.{Player}
 use Rattle.world_form.specs.Files.{HaveRisingNumbers, told_tokens}

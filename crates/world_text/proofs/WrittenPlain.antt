@@ -1,8 +1,7 @@
 -- What is written for a world has no floats.
-use Rattle.std.proofs.Common.{◌≡◌, List, [], ◌∷◌, map, false, refl}
+use Rattle.std.proofs.Common.{◌≡◌, List, [], ◌∷◌, false, refl}
 use Rattle.serde_json.specs.Data.{Data, string}
-use Rattle.serde_json.specs.View.{items_of}
-use Rattle.serde_json.specs.Written.{has_float, items_have_float}
+use Rattle.serde_json.specs.Written.{has_float}
 use Rattle.game_tables.specs.Texts.{part_text}
 use Rattle.object_store.specs.declared.object.Object.{Object}
 use Rattle.object_store.specs.declared.account.Account.{Account}

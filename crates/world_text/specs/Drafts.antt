@@ -2,15 +2,14 @@
 use Rattle.std.specs.Prelude.{◌≡◌, ℕ, ◌^◌, ◌<◌, List, [], ◌∷◌, map, length, slice_get, Some}
 use Rattle.std.specs.List.{AllByRecursion}
 use Rattle.std.specs.List.Sorted.{IsPermutation, IsNonDecreasingBy}
-use Rattle.serde_json.specs.Data.{Data, Items}
-use Rattle.object_store.specs.declared.account.Account.{Account}
+use Rattle.serde_json.specs.Data.{Data}
 use Rattle.object_store.specs.declared.world.Room.{Room}
 use Rattle.object_store.specs.Tables.{IsOnTile, IsRising}
 use Rattle.world_rules.specs.World.{ListedRoom, Listing}
 use Rattle.world_rules.specs.Rules.{IsFirstBroken}
 use Rattle.world_form.specs.declared.fault.WorldFault.{WorldFault}
 use Rattle.world_form.specs.declared.fault.WorldFault.TheVariants as faults
-use Rattle.world_form.specs.Facts.{Filed, Player, SaysRoom, SaysPlayer, SayEach}
+use Rattle.world_form.specs.Facts.{Filed, Player, SaysRoom}
 use Rattle.world_form.specs.Files.{told_tokens}
 use Rattle.world_text.specs.declared.draft.RoomDraft.{RoomDraft}
 use Rattle.world_text.specs.declared.draft.Players.{Players}

@@ -1,5 +1,5 @@
 -- What the readers of a file's parts give. For private clauses.
-use Rattle.std.specs.Prelude.{◌≡◌, ℕ, ◌^◌, ◌-◌, true, List, [], ◌∷◌, Option, Some, None}
+use Rattle.std.specs.Prelude.{◌≡◌, ℕ, ◌^◌, true, List, [], ◌∷◌, Option, Some, None}
 use Rattle.serde_json.specs.Data.{Data}
 use Rattle.game_tables.specs.Kinds.{most_hits, in_rules}
 use Rattle.game_tables.specs.Limits.{limit_bound, bucket_bound, points_bound}

@@ -1,7 +1,6 @@
-use Rattle.std.proofs.Common.{◌≡◌, map, ap, ◌∙◌}
+use Rattle.std.proofs.Common.{map, ap, ◌∙◌}
 use Rattle.object_store.specs.Tables.{Table}
 use Rattle.world_rules.specs.World.{ListedRoom, listed_room}
-use Rattle.world_text.specs.Drafts.{drafted_room}
 use Rattle.world_text.proofs.Builds.{rooms_push, places_push}
 use Rattle.world_text.proofs.build.add_rooms.Goals as goal
 

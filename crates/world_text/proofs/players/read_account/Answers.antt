@@ -1,7 +1,7 @@
 use Rattle.std.proofs.Common.{inl, inr}
 use Rattle.std.proofs.lemmas.Result.{err_from_is_err_and}
 use Rattle.serde_json.specs.View.{view}
-use Rattle.game_tables.specs.Limits.{limit_bound, bucket_bound, points_bound}
+use Rattle.game_tables.specs.Limits.{bucket_bound, points_bound}
 use Rattle.world_form.specs.declared.field.Field.TheVariants as fields
 use Rattle.world_form.specs.Facts.{IsWhole}
 use Rattle.world_form.proofs.Said.{default_holds}

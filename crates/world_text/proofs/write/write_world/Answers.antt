@@ -2,7 +2,7 @@ use Rattle.std.proofs.Common.{List, ℕ, ap, ◌∙◌, subst, sym}
 use Rattle.std.proofs.lemmas.Result.{IfOk-weaker}
 use Rattle.serde_json.specs.Written.{compact_text}
 use Rattle.world_form.specs.Files.{Lists}
-use Rattle.world_form.specs.Written.{written, filed_of}
+use Rattle.world_form.specs.Written.{filed_of}
 use Rattle.world_form.proofs.ReadBack.{written-Lists}
 use Rattle.world_text.proofs.WrittenPlain.{world_plain}
 use Rattle.world_text.proofs.write.write_world.Goals as goal
