@@ -3,3 +3,4 @@ pub mod LinesTexts
 pub mod WordsOrder
 pub mod RunsLists
 pub mod Checked
+pub mod WorldFaults

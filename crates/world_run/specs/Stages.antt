@@ -3,6 +3,8 @@ use Rattle.std.specs.Prelude.{ℕ, List, Option}
 use Rattle.std.specs.List.{flat_map}
 use Rattle.std.specs.Io.KnownBytes.{Appends}
 use Rattle.object_store.specs.Stored.{Stored}
+use Rattle.world_form.specs.declared.fault.WorldFault.{WorldFault}
+use Rattle.world_form.specs.declared.fault.WorldFault.TheVariants as faults
 use Rattle.world_io.specs.Told.{AppendsPrefix}
 use Rattle.world_run.specs.Lines.{tick_line}
 use Rattle.world_run.specs.Runs.{Follow, frame}
@@ -21,6 +23,11 @@ IsOfWorld (statuses.World fault) = Unit {0}
 IsOfWorld statuses.ReadFault = Unit {0}
 IsOfWorld statuses.Memory = Unit {0}
 IsOfWorld status = ⊥
+
+-- the status for a fault of the world file
+abbrev pub status_of_fault : WorldFault → Status
+status_of_fault faults.Memory = statuses.Memory
+status_of_fault fault = statuses.World fault
 
 -- The reading of the upload stream can end a run so.
 abbrev pub IsOfUploads : Status → Type 0

@@ -11,7 +11,7 @@ ghost use Rattle.world_rules.specs.World.{World as GameWorld, world_of};
 ghost use Rattle.world_form.specs.Files.{WorldForm};
 ghost use Rattle.world_form.specs.declared.fault.WorldFault.{WorldFault};
 ghost use Rattle.world_run.specs.Lines.{start_line as start_line_of, tick_line as tick_line_of};
-ghost use Rattle.world_run.specs.Stages.{IsOfWords, IsOfWorld, IsOfUploads, IsOfInputs, IsOfRecord, IsOfTick, IsOfTicks, IsOfJournal, Grows, GrowsPart, GrowsLines};
+ghost use Rattle.world_run.specs.Stages.{status_of_fault, IsOfWords, IsOfWorld, IsOfUploads, IsOfInputs, IsOfRecord, IsOfTick, IsOfTicks, IsOfJournal, Grows, GrowsPart, GrowsLines};
 ghost use Rattle.world_run.specs.Words.{AreRun, Asks, AsksAtLeast};
 ghost use Rattle.world_run.specs.Runs.{ReadsWorld, ReadsFault, IsEmpty, IsFilled, IsOfRun, IsPastWords, IsPastWorld, IsPastUploads, IsPastJournal, IsBeforeJournal, Leaves, LeavesPart, Follow, frame as frame_bytes, output};
 
@@ -170,6 +170,7 @@ fn asked_ticks(alloc: Global, words: &[String]) -> Result<u64, Status>
 }
 
 // The world of a file.
+#[tactic(auto, using(crate::proofs::WorldFaults::of_faults))]
 fn load_world<W: Source>(alloc: Global, source: &mut W) -> Result<World, Status>
     ensures found { IfOk result (λ world. ReadsWorld (W.left source.old) (W.left source.new) (world_of world)) }
     ensures sound { IfOk result IsSound }
@@ -191,8 +192,17 @@ fn load_world<W: Source>(alloc: Global, source: &mut W) -> Result<World, Status>
     };
     match read_world(alloc, &bytes) {
         Ok(file) => Ok(file.world),
-        Err(WorldFault::Memory) => Err(Status::Memory),
-        Err(fault) => Err(Status::World(fault)),
+        Err(fault) => Err(refused_world(fault)),
+    }
+}
+
+// The status of a world file with a fault.
+fn refused_world(fault: WorldFault) -> Status
+    ensures { result ≡ status_of_fault fault }
+{
+    match fault {
+        WorldFault::Memory => Status::Memory,
+        _ => Status::World(fault),
     }
 }
 
