@@ -13,7 +13,7 @@ loop-turn-preserved g c =
     record {
       along = along_more _ _ _ _ _ _ _ _ _ _ c.loop-turn.invariant.along c.in-Ok.ensures.ruled c.in-Ok.ensures.sound c.in-Ok.ensures.frame c.in-Ok.ensures.line;
       sound = c.in-Ok.ensures.sound;
-      tick = omega (arith, tick_rises _ _ c.in-Ok.ensures.ruled);
+      tick = omega (arith, tick_rises c.loop-turn.kept.world c.in-Ok.next.world c.in-Ok.ensures.ruled);
       end = c.in-Ok.ensures.end;
       out_steady = c.in-Ok.ensures.steady.0 ∙ c.loop-turn.invariant.out_steady;
       disk_steady = c.in-Ok.ensures.steady.1 ∙ c.loop-turn.invariant.disk_steady;
