@@ -349,7 +349,11 @@ def rules():
     it = world()
     it["rooms"][1]["objects"][SOURCE] = thing(11, "source", 40, 41)
     check("a source beside the controller", it, FINE)
-    changed("Rule PlayerTwice 9", "players", 1, "player", to=9)
+    it = world()
+    it["players"].append({"player": 7, "limit": 3})
+    check("a player twice", it, "Rule PlayerTwice 7")
+    # (where he has another's number, what he held is nobody's before a player is twice)
+    changed("Rule Owner 1", "players", 1, "player", to=9)
     # sites
     for count, said in [(100, "start tick 5 rooms 2 objects 112 players 2"), (101, "Rule Sites 9")]:
         it = world()
