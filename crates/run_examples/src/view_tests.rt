@@ -40,7 +40,7 @@ fn players_see_their_rooms(rt: HostRuntime) -> Result<(), Fail> {
         return Err("refused".into());
     };
     let world = &file.world;
-    if world.rooms() > 400 || world.account(1).is_none() || world.account(2).is_none() {
+    if world.rooms() > 400 || world.account(1).is_none() {
         return Err("not the world of the file".into());
     }
     let one = View::of(rt.alloc(), world, 1)?;
@@ -96,6 +96,19 @@ fn players_see_their_rooms(rt: HostRuntime) -> Result<(), Fail> {
         (one.field(2, 102), one.field(1, 9), one.field(0, 11)),
         (None, Some(3_000), Some(1))
     );
+    Ok(())
+}
+
+#[test]
+fn a_player_sees_no_room_of_another(rt: HostRuntime) -> Result<(), Fail> {
+    let text = three_rooms(rt.alloc())?;
+    let Ok(file) = read_world(rt.alloc(), text.as_bytes()) else {
+        return Err("refused".into());
+    };
+    let world = &file.world;
+    if world.rooms() > 400 || world.account(2).is_none() {
+        return Err("not the world of the file".into());
+    }
     let two = View::of(rt.alloc(), world, 2)?;
     assert_eq!(rt;
         (two.room_count(), two.room(0), two.count(), two.sites()),
