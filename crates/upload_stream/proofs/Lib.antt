@@ -1,0 +1,4 @@
+pub mod Entries
+pub mod Judged
+pub mod Ticks
+pub mod Words

@@ -1,0 +1,13 @@
+// The stream of uploads that a run is given.
+#![tactic(auto)]
+
+mod fault;
+mod laws;
+mod stream;
+#[cfg(test)]
+mod tests;
+
+pub use fault::StreamFault;
+pub use laws::stream_is_judged_once;
+pub use std::alloc::AllocError as NoMemory;
+pub use stream::{Upload, read_uploads, uploads_at};
