@@ -1,3 +1,4 @@
 pub mod Held
 pub mod Numbered
 pub mod Records
+pub mod Refusals

@@ -1,5 +1,5 @@
-// What players want of a tick: their intents, the record of one player's, and how a run of his
-// module ended.
+// What players want of a tick: their intents, the record of one player's, how a run of his module
+// ended, and why one is refused.
 #![tactic(auto)]
 
 mod entries;
@@ -7,6 +7,7 @@ mod intent;
 mod laws;
 mod player_run;
 mod recorded;
+mod refusal;
 #[cfg(test)]
 mod tests;
 
@@ -16,4 +17,5 @@ pub use laws::one_canonical_list;
 pub use object_store::Bytes;
 pub use player_run::{PlayerRun, RunOutcome};
 pub use recorded::{Recorded, most_entries};
+pub use refusal::Refusal;
 pub use std::alloc::AllocError as NoMemory;

@@ -1,4 +1,5 @@
 pub mod Fields
+pub mod Intents
 pub mod Lists
 pub mod Rooms
 pub mod Words

@@ -3,14 +3,16 @@ use Rattle.std.proofs.Common.{◌≡◌, ℕ, ◌%◌, ◌/◌, ◌^◌, ◌≤�
 use Rattle.std.proofs.lemmas.List.{append-nil, take-take, take_at, take_all}
 use Rattle.std.specs.List.{flat_map}
 use Rattle.byteorder.specs.Endian.{little_bytes}
+use Rattle.game_tables.specs.Actions.{action_number}
 use Rattle.game_tables.specs.Numbers.{kind_number, part_number}
 use Rattle.game_tables.specs.declared.kind.Part.{Part}
+use Rattle.intent_book.specs.declared.intent.Intent.{Intent}
 use Rattle.object_store.specs.Tables.{Table}
 use Rattle.object_store.specs.declared.account.Account.{Account}
 use Rattle.object_store.specs.declared.object.Object.{Object}
 use Rattle.world_bytes.specs.declared.object.Head.{Head}
 use Rattle.world_bytes.specs.declared.object.Counts.{Counts}
-use Rattle.world_bytes.specs.Forms.{object_bytes, room_bytes, account_bytes}
+use Rattle.world_bytes.specs.Forms.{object_bytes, room_bytes, account_bytes, intent_bytes}
 use Rattle.world_bytes.specs.Rows.{head_of, head_row, counts_of, counts_row, body_row}
 
 -- one piece behind another
@@ -72,6 +74,15 @@ account_is_written account old a b c d e new f g h i j k =
     let five = then_written old d e _ (little_bytes 4 (length account.memory)) four j in
     then_written old e new _ account.memory five k
 
+pub intent_is_written : (intent : Intent) (old a b c d new : List ℕ) → a ≡ old ++ (action_number intent.action ∷ []) → b ≡ a ++ little_bytes 8 intent.actor → c ≡ b ++ little_bytes 8 intent.target → d ≡ c ++ little_bytes 8 intent.amount → new ≡ d ++ body_row intent.body [] → new ≡ old ++ intent_bytes intent
+unfolding intent_bytes body_row
+intent_is_written intent old a b c d new e f g h i =
+    let two = then_written old a b (action_number intent.action ∷ []) (little_bytes 8 intent.actor) e f in
+    let three = then_written old b c _ (little_bytes 8 intent.target) two g in
+    let four = then_written old c d _ (little_bytes 8 intent.amount) three h in
+    let last : new ≡ d ++ (length intent.body ∷ map part_number intent.body) = i ∙ ap (λ (z : List ℕ). d ++ (length intent.body ∷ z)) (append-nil (map part_number intent.body)) in
+    then_written old d new _ (length intent.body ∷ map part_number intent.body) four last
+
 -- the low four bytes of a number are those of its low part
 pub low_part : (n : ℕ) → little_bytes 4 (n % 2 ^ 32) ≡ little_bytes 4 n
 low_part n =
@@ -86,3 +97,8 @@ room_is_kept old a b c new d e f g h i kept =
     let two = then_written old a b d e g h in
     let three = then_written old b c (d ++ e) f two i in
     kept_behind old c new (d ++ e ++ f) three kept
+
+pub intent_is_kept : (old a b c d new e f g h : List ℕ) → a ≡ old ++ e → b ≡ a ++ f → c ≡ b ++ g → d ≡ c ++ h → take (length d) new ≡ d → take (length old) new ≡ old
+intent_is_kept old a b c d new e f g h i j k l kept =
+    let two = then_written old a b e f i j in
+    room_is_kept old b c d new (e ++ f) g h two k l kept

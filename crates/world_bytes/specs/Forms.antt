@@ -1,11 +1,13 @@
--- The byte forms of objects, rooms and accounts. Numbers are little endian, and each value has one spelling.
+-- The byte forms of objects, rooms, accounts and intents. Numbers are little endian, and each value has one spelling.
 use Rattle.std.specs.Prelude.{◌≡◌, ℕ, ◌≤◌, ◌<◌, ◌^◌, true, List, ◌∷◌, ◌++◌, map, length}
 use Rattle.std.specs.List.{AllByRecursion, flat_map}
 use Rattle.byteorder.specs.Endian.{little_bytes}
+use Rattle.game_tables.specs.Actions.{action_number}
 use Rattle.game_tables.specs.Bodies.{parts_bound}
 use Rattle.game_tables.specs.Kinds.{in_rules}
 use Rattle.game_tables.specs.Limits.{memory_bound}
 use Rattle.game_tables.specs.Numbers.{kind_number, part_number}
+use Rattle.intent_book.specs.declared.intent.Intent.{Intent}
 use Rattle.object_store.specs.declared.account.Account.{Account}
 use Rattle.object_store.specs.declared.object.Object.{Object}
 use Rattle.object_store.specs.Tables.{Table, IsOnTile, IsRising}
@@ -45,6 +47,15 @@ account_bytes account =
     ++ little_bytes 4 (length account.memory)
     ++ account.memory
 
+-- an intent, without its player: 26 bytes and one for each part
+unfoldable pub intent_bytes : Intent → List ℕ
+intent_bytes intent =
+    action_number intent.action
+    ∷ little_bytes 8 intent.actor
+    ++ little_bytes 8 intent.target
+    ++ little_bytes 8 intent.amount
+    ++ length intent.body ∷ map part_number intent.body
+
 -- ---- which values have a form
 
 -- The kind has a number here, the tile is in the room, and the body has no more parts than one may have. The numbers fit their fields.
@@ -80,6 +91,14 @@ pub record HasAccountForm (account : Account) : Type 0 where
   pub bucket : account.bucket < 2 ^ 32
   pub points : account.points < 2 ^ 64
 
+-- The body has no more parts than one may have. The numbers fit their fields.
+pub record HasIntentForm (intent : Intent) : Type 0 where
+  pub parts : length intent.body ≤ parts_bound
+  pub player : intent.player < 2 ^ 32
+  pub actor : intent.actor < 2 ^ 64
+  pub target : intent.target < 2 ^ 64
+  pub amount : intent.amount < 2 ^ 64
+
 -- ---- what bytes spell
 
 -- The bytes are the form of this table, as it is read: without room for more objects.
@@ -89,3 +108,7 @@ SpellsRoom bytes table = HasRoomForm table × (table.spare ≡ 0) × (bytes ≡ 
 -- The bytes are the form of this account.
 abbrev pub SpellsAccount : List ℕ → Account → Type 0
 SpellsAccount bytes account = HasAccountForm account × (bytes ≡ account_bytes account)
+
+-- The bytes are the form of this intent of a player.
+abbrev pub SpellsIntent : ℕ → List ℕ → Intent → Type 0
+SpellsIntent player bytes intent = HasIntentForm intent × (intent.player ≡ player) × (bytes ≡ intent_bytes intent)

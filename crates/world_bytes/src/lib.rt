@@ -1,4 +1,4 @@
-// The byte forms of rooms and accounts, both ways.
+// The byte forms of rooms, accounts and intents, both ways.
 #![tactic(auto)]
 
 mod fault;
@@ -9,9 +9,9 @@ mod write;
 
 pub use fault::BytesFault;
 pub use laws::forms_are_one;
-pub use read::{read_account, read_room};
+pub use read::{read_account, read_intent, read_room};
 pub use std::alloc::AllocError as NoMemory;
-pub use write::{write_account, write_room};
+pub use write::{write_account, write_intent, write_room};
 
 #[cfg(test)]
 mod tests;

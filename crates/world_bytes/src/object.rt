@@ -120,8 +120,8 @@ fn body_of(numbers: &[u8]) -> Option<Body>
     Some(body)
 }
 
-// Reads a body, behind the number of its parts.
-fn read_body(from: &mut Cursor) -> Result<Body, NoForm>
+/// Reads a body, behind the number of its parts. Where there is none, the cursor may stand anywhere.
+pub(crate) fn read_body(from: &mut Cursor) -> Result<Body, NoForm>
     ensures found { IfOk result (λ body. Leads HasBodyForm body_row from.old.0 body from.new.0) }
     ensures none { OnErr result (LeadsNone HasBodyForm body_row from.old.0) }
     ensures place { IfOk result (λ body. from.new.1 ≡ from.old.1 + (1 + length body)) }

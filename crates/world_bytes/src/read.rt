@@ -1,16 +1,19 @@
-// Rooms and accounts, read from the front of bytes.
-ghost use Rattle.std.specs.Prelude.{◌≡◌, ◌+◌, ◌<◌, ◌^◌, ◌↔◌, length, IsTrue, IfOk, IfErr, OnOk, OnErr};
+// Rooms, accounts and intents, read from the front of bytes.
+ghost use Rattle.std.specs.Prelude.{◌≡◌, ◌+◌, ◌<◌, ◌^◌, ◌↔◌, ℕ, List, ◌∷◌, length, IsTrue, IfOk, IfErr, OnOk, OnErr};
 ghost use Rattle.std.specs.List.{AllByRecursion};
 ghost use Rattle.byte_fields.specs.Front.{Begins, BeginsNone, BeginsOnly};
+ghost use Rattle.game_tables.specs.Actions.{action_number};
+ghost use Rattle.game_tables.specs.declared.action.Action.{Action};
 ghost use Rattle.object_store.specs.Tables.{IsRising};
-ghost use Rattle.world_bytes.specs.Forms.{SpellsRoom, SpellsAccount};
+ghost use Rattle.world_bytes.specs.Forms.{SpellsRoom, SpellsAccount, SpellsIntent};
 ghost use Rattle.world_bytes.specs.Rows.{Leads, LeadsNone, AreObjects, objects_row, HasMemoryForm, memory_row};
 
 use crate::NoMemory;
-use crate::fault::BytesFault;
-use crate::object::read_object;
+use crate::fault::{BytesFault, NoForm};
+use crate::object::{read_body, read_object};
 use byte_fields::Cursor;
 use game_tables::most_memory;
+use intent_book::{Action, Intent};
 use object_store::{Account, Bytes, Object, RoomTable};
 use std::alloc::Global;
 
@@ -128,4 +131,53 @@ pub fn read_account(alloc: Global, from: &mut Cursor) -> Result<Account, BytesFa
     let account = account_ahead(alloc, &mut ahead)?;
     *from = ahead;
     Ok(account)
+}
+
+// Reads the number of an action.
+fn read_action(from: &mut Cursor) -> Result<Action, NoForm>
+    ensures found { IfOk result (λ action. from.old.0 ≡ action_number action ∷ from.new.0) }
+    ensures none { OnErr result ((action : Action) (rest : List ℕ) → from.old.0 ≡ action_number action ∷ rest → ⊥) }
+    ensures place { OnOk result (from.new.1 ≡ from.old.1 + 1) }
+{
+    let number = from.u8()?;
+    match Action::of_number(number) {
+        Some(action) => Ok(action),
+        _ => Err(NoForm),
+    }
+}
+
+// Reads an intent of a player. Where there is none, the cursor may stand anywhere.
+fn intent_ahead(player: u32, from: &mut Cursor) -> Result<Intent, NoForm>
+    ensures found { IfOk result (λ intent. Begins (SpellsIntent player) from.old.0 intent from.new.0) }
+    ensures none { OnErr result (BeginsNone (SpellsIntent player) from.old.0) }
+    ensures place { OnOk result (from.new.1 + length from.new.0 ≡ from.old.1 + length from.old.0) }
+{
+    let action = read_action(from)?;
+    let actor = from.u64()?;
+    let target = from.u64()?;
+    let amount = from.u64()?;
+    let body = read_body(from)?;
+    Ok(Intent {
+        player,
+        action,
+        actor,
+        target,
+        amount,
+        body,
+    })
+}
+
+/// Reads the intent of this player at the front. It takes no memory.
+pub fn read_intent(player: u32, from: &mut Cursor) -> Result<Intent, BytesFault>
+    ensures found { IfOk result (λ intent. Begins (SpellsIntent player) from.old.0 intent from.new.0) }
+    ensures only { IfOk result (λ intent. BeginsOnly (SpellsIntent player) from.old.0 intent from.new.0) }
+    ensures place { from.new.1 + length from.new.0 ≡ from.old.1 + length from.old.0 }
+    ensures malformed { IfErr result (λ e. e ≡ BytesFault.Malformed → BeginsNone (SpellsIntent player) from.old.0) }
+    ensures never_memory { IfErr result (λ e. e ≡ BytesFault.Malformed) }
+    ensures unchanged { OnErr result (from.new ≡ from.old) }
+{
+    let mut ahead = from.copy();
+    let intent = intent_ahead(player, &mut ahead)?;
+    *from = ahead;
+    Ok(intent)
 }

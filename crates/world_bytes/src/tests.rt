@@ -1,8 +1,12 @@
-// Bytes written out by hand, each cause of a refusal, and every kind there and back.
+// Bytes written out by hand, each cause of a refusal, and every kind and action there and back.
 ghost use Rattle.std.specs.Prelude.{◌≡◌};
 
-use crate::{BytesFault, NoMemory, read_account, read_room, write_account, write_room};
+use crate::{
+    BytesFault, NoMemory, read_account, read_intent, read_room, write_account, write_intent,
+    write_room,
+};
 use byte_fields::Cursor;
+use intent_book::{Action, Intent};
 use object_store::{Account, Body, Bytes, Kind, Object, Part, RoomTable};
 use std::alloc::Global;
 use std::test::Fail;
@@ -36,6 +40,14 @@ const FIRST_PLAYER: [u8; 26] = [
     0x70, 0x11, 0x01, 0, 0, 0, 0, 0, 2, 0, 0, 0, b'a', b'b',
 ];
 
+// The intent to have a creep of two parts made, all of whose numbers differ.
+#[rattlefmt::skip]
+const SPAWN: [u8; 28] = [
+    21, 1, 2, 3, 4, 5, 6, 7, 8,
+    0x88, 0x77, 0x66, 0x55, 0x44, 0x33, 0x22, 0x11,
+    0x11, 0x22, 0x33, 0x44, 0x55, 0x66, 0x77, 0x88, 2, 1, 8,
+];
+
 // These bytes with others at some places, and more behind them.
 fn changed(
     alloc: Global,
@@ -64,6 +76,13 @@ fn room_read(alloc: Global, bytes: &[u8]) -> (Option<BytesFault>, usize) {
 fn account_read(alloc: Global, bytes: &[u8]) -> (Option<BytesFault>, usize) {
     let mut from = Cursor::over(bytes);
     let fault = read_account(alloc, &mut from).err();
+    (fault, from.place())
+}
+
+// Why the bytes begin with no intent, and the cursor's place afterwards.
+fn intent_read(bytes: &[u8]) -> (Option<BytesFault>, usize) {
+    let mut from = Cursor::over(bytes);
+    let fault = read_intent(9, &mut from).err();
     (fault, from.place())
 }
 
@@ -139,6 +158,40 @@ fn written_alone(alloc: Global, object: Object) -> Result<Vec<u8>, NoMemory> {
     let mut out = Vec::new(alloc);
     write_room(399, &RoomTable::of(399, 0xffff_ffff, objects), &mut out)?;
     Ok(out)
+}
+
+// A body of so many parts.
+fn claims(count: u8) -> Body {
+    let mut body = Body::new();
+    for _ in 0..count {
+        if body.len() < 50 {
+            body.push(Part::Claim);
+        }
+    }
+    body
+}
+
+// What an intent has, in the order of its bytes, but for its body, and its player.
+fn words_of(intent: &Intent) -> (u8, u64, u64, u64, u32) {
+    (
+        intent.action.number(),
+        intent.actor,
+        intent.target,
+        intent.amount,
+        intent.player,
+    )
+}
+
+// Writes an intent of player 9 behind a byte, and reads it again.
+fn intent_back(alloc: Global, intent: &Intent) -> Result<(Vec<u8>, Intent, usize), BytesFault> {
+    let mut out = Vec::from_slice(alloc, &[0xbb])?;
+    write_intent(intent, &mut out)?;
+    out.push(0xaa)?;
+    let mut from = Cursor::over(&out);
+    from.u8()?;
+    let back = read_intent(9, &mut from)?;
+    let place = from.place();
+    Ok((out, back, place))
 }
 
 #[test]
@@ -277,5 +330,58 @@ fn memory_texts_have_a_limit(rt: HostRuntime) -> Result<(), Fail> {
         account_read(rt.alloc(), &above),
         (Some(BytesFault::Malformed), 0)
     );
+    Ok(())
+}
+
+#[test]
+fn every_intent_comes_back(rt: HostRuntime) -> Result<(), Fail> {
+    for number in 1..=22 {
+        let action = Action::of_number(number).ok_or("a number of no action")?;
+        for count in [0u8, 1, 50] {
+            let written = Intent {
+                player: 9,
+                action,
+                actor: 0x0807_0605_0403_0201,
+                target: 0x1122_3344_5566_7788,
+                amount: u64::MAX,
+                body: claims(count),
+            };
+            let (bytes, read, place) = intent_back(rt.alloc(), &written)?;
+            let mut by_hand = changed(rt.alloc(), &[0xbb, number], &[], &SPAWN[1..17])?;
+            by_hand.extend_from_slice(&[255; 8])?;
+            by_hand.push(count)?;
+            by_hand.extend_from_slice(&[8; 50][..count as usize])?;
+            by_hand.push(0xaa)?;
+            assert_eq!(rt; bytes.as_slice(), by_hand.as_slice());
+            assert_eq!(rt; place, 27 + count as usize);
+            assert_eq!(rt; words_of(&read), words_of(&written));
+            assert_eq!(rt; read.body.parts(), written.body.parts());
+        }
+    }
+    Ok(())
+}
+
+#[test]
+fn intents_are_refused(rt: HostRuntime) -> Result<(), Fail> {
+    let rows: [(&[(usize, u8)], &[u8], Option<BytesFault>, usize); 8] = [
+        (&[], &[], None, 28),
+        (&[(0, 1), (25, 0)], &[], None, 26),
+        (&[(0, 0)], &[], Some(BytesFault::Malformed), 0),
+        (&[(0, 23)], &[], Some(BytesFault::Malformed), 0),
+        (&[(26, 0)], &[], Some(BytesFault::Malformed), 0),
+        (&[(27, 9)], &[], Some(BytesFault::Malformed), 0),
+        (&[(25, 50)], &[8; 48], None, 76),
+        (&[(25, 51)], &[8; 49], Some(BytesFault::Malformed), 0),
+    ];
+    for (changes, behind, fault, place) in rows {
+        let bytes = changed(rt.alloc(), &SPAWN, changes, behind)?;
+        assert_eq!(rt; intent_read(&bytes), (fault, place), "{changes:?}");
+    }
+    for end in 0..28 {
+        assert_eq!(rt;
+            intent_read(&SPAWN[..end]),
+            (Some(BytesFault::Malformed), 0)
+        );
+    }
     Ok(())
 }

@@ -1,12 +1,13 @@
-// Rooms and accounts, written to the end of bytes.
+// Rooms, accounts and intents, written to the end of bytes.
 ghost use Rattle.std.specs.Prelude.{◌≡◌, ◌++◌, [], length, take, OnOk, OnErr};
 ghost use Rattle.std.specs.List.{flat_map};
 ghost use Rattle.byteorder.specs.Endian.{little_bytes};
-ghost use Rattle.world_bytes.specs.Forms.{object_bytes, room_bytes, account_bytes};
+ghost use Rattle.world_bytes.specs.Forms.{object_bytes, room_bytes, account_bytes, intent_bytes};
 ghost use Rattle.world_bytes.specs.Rows.{head_of, head_row, counts_of, counts_row, body_row};
 
 use crate::NoMemory;
 use byte_fields::{put_u32, put_u64};
+use intent_book::Intent;
 use object_store::{Account, Body, Object, RoomTable};
 
 // Writes what an object is. On want of memory a part of it may stand there.
@@ -123,6 +124,31 @@ pub fn write_account(account: &Account, out: &mut Vec<u8>) -> Result<(), NoMemor
 {
     let held = out.len();
     let written = put_account(account, out);
+    if written.is_err() {
+        out.truncate(held);
+    }
+    written
+}
+
+// Writes an intent. On want of memory a part of it may stand there.
+fn put_intent(intent: &Intent, out: &mut Vec<u8>) -> Result<(), NoMemory>
+    ensures written { OnOk result (out.new.items ≡ out.old.items ++ intent_bytes intent.now) }
+    ensures kept { OnErr result (take (length out.old.items) out.new.items ≡ out.old.items) }
+{
+    out.push(intent.action.number())?;
+    put_u64(out, intent.actor)?;
+    put_u64(out, intent.target)?;
+    put_u64(out, intent.amount)?;
+    put_body(&intent.body, out)
+}
+
+/// Writes the intent, without its player, to the end of the bytes.
+pub fn write_intent(intent: &Intent, out: &mut Vec<u8>) -> Result<(), NoMemory>
+    ensures written { OnOk result (out.new.items ≡ out.old.items ++ intent_bytes intent.now) }
+    ensures unchanged { OnErr result (out.new.items ≡ out.old.items) }
+{
+    let held = out.len();
+    let written = put_intent(intent, out);
     if written.is_err() {
         out.truncate(held);
     }

@@ -1,0 +1,67 @@
+// The contents of frames, as bytes.
+ghost use Rattle.std.specs.Prelude.{◌≡◌, ◌++◌, IfOk, OnOk};
+ghost use Rattle.byteorder.specs.Endian.{little_bytes};
+ghost use Rattle.tick_journal.specs.Contents.{base_content as base_bytes, magic, tick_content as tick_bytes, whole_record};
+
+use crate::base::put_base_rooms;
+use crate::entries::UploadEntry;
+use crate::parts::{put_accounts, put_runs, put_tables, put_uploads};
+use byte_fields::{put_u32, put_u64};
+use intent_book::PlayerRun;
+use object_store::{Room, World};
+use std::alloc::{AllocError as NoMemory, Global};
+
+// The bytes of a room without its objects: in a tick its index, the serial of its next new object and
+// the number of its objects, and in a base its column, its row and its tiles too.
+const TICK_ROOM: u16 = 12;
+
+const BASE_ROOM: u16 = 2_520;
+
+// Reckons the bytes of rooms: so many for each, and 52 for an object, whose body is left out.
+fn reckoned(each: u16, rooms: &[Room]) -> usize {
+    let mut bytes = 0usize;
+    for room in rooms {
+        let objects = room.table.len() as usize;
+        bytes = bytes.saturating_add(usize::from(each) + 52 * objects);
+    }
+    bytes
+}
+
+// Writes what a journal begins with: its mark, its version, which is 1, and the tick of its world.
+fn put_start(tick: u64, out: &mut Vec<u8>) -> Result<(), NoMemory>
+    ensures { OnOk result (out.new.items ≡ out.old.items ++ (magic ++ little_bytes 4 1 ++ little_bytes 8 tick)) }
+{
+    out.extend_from_slice(b"SWSJ")?;
+    put_u32(out, 1)?;
+    put_u64(out, tick)
+}
+
+/// The content of a journal's first frame: the world that it begins with.
+pub fn base_content(alloc: Global, world: &World) -> Result<Vec<u8>, NoMemory>
+    ensures { IfOk result (λ bytes. bytes.items ≡ base_bytes world.now) }
+{
+    let mut out = Vec::with_capacity(alloc, reckoned(BASE_ROOM, world.room_list()))?;
+    put_start(world.tick(), &mut out)?;
+    put_base_rooms(world.room_list(), &mut out)?;
+    put_accounts(world.account_list(), &mut out)?;
+    Ok(out)
+}
+
+/// The content of a tick's frame, with every account and every room of the world after it.
+pub fn tick_content(
+    alloc: Global,
+    uploads: &[UploadEntry],
+    runs: &[PlayerRun],
+    world: &World,
+) -> Result<Vec<u8>, NoMemory>
+    ensures { IfOk result (λ bytes. bytes.items ≡ tick_bytes (whole_record uploads.now runs.now world.now)) }
+{
+    let mut out = Vec::with_capacity(alloc, reckoned(TICK_ROOM, world.room_list()))?;
+    out.push(b'T')?;
+    put_u64(&mut out, world.tick())?;
+    put_uploads(uploads, &mut out)?;
+    put_runs(runs, &mut out)?;
+    put_accounts(world.account_list(), &mut out)?;
+    put_tables(world.room_list(), &mut out)?;
+    Ok(out)
+}

@@ -1,0 +1,106 @@
+// Uploads, runs, accounts and rooms of a tick, written to the end of bytes.
+ghost use Rattle.std.specs.Prelude.{◌≡◌, ◌++◌, map, OnOk};
+ghost use Rattle.byteorder.specs.Endian.{little_bytes};
+ghost use Rattle.tick_journal.specs.Contents.{outcome_bytes, run_bytes, upload_bytes};
+ghost use Rattle.tick_journal.specs.Lists.{listed};
+ghost use Rattle.world_bytes.specs.Forms.{account_bytes, intent_bytes, room_bytes};
+
+use crate::NoMemory;
+use crate::entries::UploadEntry;
+use byte_fields::{put_u32, put_u64};
+use intent_book::{Intent, PlayerRun, RunOutcome};
+use object_store::{Account, Room};
+use world_bytes::{write_account, write_intent, write_room};
+
+/// Writes the low four bytes of a length, which are the whole of it below 4 GiB.
+pub(crate) fn put_length(length: u64, out: &mut Vec<u8>) -> Result<(), NoMemory>
+    ensures { OnOk result (out.new.items ≡ out.old.items ++ little_bytes 4 length) }
+{
+    put_u32(out, (length % (1 << 32)) as u32)
+}
+
+// Writes an upload, with its bytes behind their number.
+fn put_upload(entry: &UploadEntry, out: &mut Vec<u8>) -> Result<(), NoMemory>
+    ensures { OnOk result (out.new.items ≡ out.old.items ++ upload_bytes entry.now) }
+{
+    put_u32(out, entry.player)?;
+    out.push(entry.result_number)?;
+    put_length(entry.bytes.len(), out)?;
+    out.extend_from_slice(entry.bytes.as_slice())
+}
+
+/// Writes uploads behind their number.
+pub(crate) fn put_uploads(uploads: &[UploadEntry], out: &mut Vec<u8>) -> Result<(), NoMemory>
+    ensures { OnOk result (out.new.items ≡ out.old.items ++ listed upload_bytes uploads.now) }
+{
+    put_length(uploads.len() as u64, out)?;
+    'each: for entry in uploads {
+        put_upload(entry, out)?;
+    }
+    Ok(())
+}
+
+// How a run ended, and the number of its trap or 0.
+fn outcome_numbers(outcome: RunOutcome) -> [u8; 2]
+    ensures { result ≡ outcome_bytes outcome }
+{
+    match outcome {
+        RunOutcome::Finished => [0, 0],
+        RunOutcome::Trapped(trap) => [1, trap],
+        RunOutcome::Spent => [2, 0],
+    }
+}
+
+// Writes intents behind their number.
+fn put_intents(intents: &[Intent], out: &mut Vec<u8>) -> Result<(), NoMemory>
+    ensures { OnOk result (out.new.items ≡ out.old.items ++ listed intent_bytes intents.now) }
+{
+    put_length(intents.len() as u64, out)?;
+    'each: for intent in intents {
+        write_intent(intent, out)?;
+    }
+    Ok(())
+}
+
+// Writes a run without its memory text.
+fn put_run(run: &PlayerRun, out: &mut Vec<u8>) -> Result<(), NoMemory>
+    ensures { OnOk result (out.new.items ≡ out.old.items ++ run_bytes run.now) }
+{
+    put_u32(out, run.player)?;
+    out.extend_from_slice(&outcome_numbers(run.outcome))?;
+    put_u64(out, run.used)?;
+    put_intents(run.intents.as_slice(), out)
+}
+
+/// Writes runs behind their number.
+pub(crate) fn put_runs(runs: &[PlayerRun], out: &mut Vec<u8>) -> Result<(), NoMemory>
+    ensures { OnOk result (out.new.items ≡ out.old.items ++ listed run_bytes runs.now) }
+{
+    put_length(runs.len() as u64, out)?;
+    'each: for run in runs {
+        put_run(run, out)?;
+    }
+    Ok(())
+}
+
+/// Writes accounts behind their number.
+pub(crate) fn put_accounts(accounts: &[Account], out: &mut Vec<u8>) -> Result<(), NoMemory>
+    ensures { OnOk result (out.new.items ≡ out.old.items ++ listed account_bytes accounts.now) }
+{
+    put_length(accounts.len() as u64, out)?;
+    'each: for account in accounts {
+        write_account(account, out)?;
+    }
+    Ok(())
+}
+
+/// Writes rooms without their names and terrains, behind their number.
+pub(crate) fn put_tables(rooms: &[Room], out: &mut Vec<u8>) -> Result<(), NoMemory>
+    ensures { OnOk result (out.new.items ≡ out.old.items ++ listed room_bytes (map (λ room. room.table) rooms.now)) }
+{
+    put_length(rooms.len() as u64, out)?;
+    'each: for room in rooms {
+        write_room(room.table.index(), &room.table, out)?;
+    }
+    Ok(())
+}
