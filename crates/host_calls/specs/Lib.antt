@@ -1,0 +1,4 @@
+pub mod Calls
+pub mod Desks
+pub mod Replies
+pub mod Wishes

@@ -1,0 +1,209 @@
+// The desk that answers the calls of a player's module.
+ghost use Rattle.std.specs.Prelude.{◌≡◌, ◌≤◌, [], length, IfOk};
+ghost use Rattle.game_tables.specs.Codes.{code_number};
+ghost use Rattle.game_tables.specs.Limits.{memory_bound};
+ghost use Rattle.host_calls.specs.Replies.{answers, drop_checks, drop_intent, first_failing, or_code as or_else, read_reply, reply, reply_of, write_reply};
+ghost use Rattle.host_calls.specs.Wishes.{desk_after, named, outcome, recorded};
+
+use crate::call::Call;
+use crate::number::{answer_of, argument, level_of, name_number, unsigned_32};
+use crate::seen::{allowance, field, ground, object, place, room_index, room_name};
+use crate::wish::to_drop;
+use game_tables::{Code, most_memory};
+use intent_book::{Intent, Recorded};
+use object_store::{Bytes, RoomName};
+pub use std::alloc::AllocError as NoMemory;
+use std::alloc::Global;
+use std::marker::Model;
+use visible_view::View;
+use wasm_steps::Host;
+use wasm_store::Pages;
+
+/// Answers the calls of a player's module in one tick, and keeps what he wants and his memory text.
+///
+/// All memory is taken when it is made. A call takes bounded time, whatever is seen and recorded;
+/// only the copies of the memory text take time by its length.
+#[derive(Drop)]
+pub struct Desk<'a, 'v> {
+    view: &'a View<'v>,
+    level: u32,
+    book: Recorded,
+    memory: Vec<u8>,
+}
+
+impl<'a, 'v> Model for Desk<'a, 'v> {
+    ghost use Rattle.std.specs.Prelude.{◌≡◌, ◌≤◌, length, vec_capacity};
+    ghost use Rattle.game_tables.specs.Limits.{memory_bound};
+    ghost use Rattle.host_calls.specs.Desks.{Desk, global_level};
+
+    ghost Value = { Desk };
+
+    ghost view = { λ d. record { sight = d.view.now; book = d.book; memory = d.memory.items } };
+
+    ghost invariant = { λ d. (d.book.player ≡ d.view.now.account.player) × (d.level ≡ global_level d.view.now.account.points) × (length d.memory.items ≤ memory_bound) × (memory_bound ≤ vec_capacity d.memory) };
+}
+
+impl<'a, 'v> Desk<'a, 'v> {
+    /// The desk of the view's player, with this memory text, and nothing recorded.
+    pub fn new(
+        alloc: Global,
+        view: &'a View<'v>,
+        player: u32,
+        memory: &[u8],
+    ) -> Result<Desk<'a, 'v>, NoMemory>
+        requires own { player ≡ view.now.account.player }
+        requires memory { length memory.now ≤ memory_bound }
+        ensures { IfOk result (λ desk. desk ≡ record { sight = view.now; book = record { player = player; entries = [] }; memory = memory.now }) }
+    {
+        let mut text = Vec::with_capacity(alloc, most_memory() as usize)?;
+        text.extend_from_slice(memory)?;
+        Ok(Desk {
+            view,
+            level: level_of(view.account().points),
+            book: Recorded::reserve(alloc, player)?,
+            memory: text,
+        })
+    }
+
+    /// Answers the call of a number. It takes no memory.
+    pub fn answer(&mut self, call: u32, args: &[i64], pages: &mut Pages) -> i64
+        ensures { record { answer = result; desk = self.new; memory = pages.new } ≡ reply call self.old pages.old args.now }
+    {
+        match Call::of_number(call) {
+            Some(call) if args.len() == call.parameters() => self.reply(call, args, pages),
+            _ => told(Code::InvalidArgs),
+        }
+    }
+
+    /// What the player wants, and his memory text. It takes no memory.
+    pub fn finish(self) -> (Recorded, Bytes)
+        ensures book { result.0 ≡ self.entry.book }
+        ensures memory { result.1 ≡ self.entry.memory }
+        ensures most { length result.1 ≤ memory_bound }
+    {
+        let Desk {
+            view: _,
+            level: _,
+            book,
+            memory,
+        } = self;
+        (book, Bytes::from_vec(memory))
+    }
+
+    // Answers a call with as many arguments as its type has.
+    fn reply(&mut self, call: Call, args: &[i64], pages: &mut Pages) -> i64
+        ensures { record { answer = result; desk = self.new; memory = pages.new } ≡ reply_of call self.old pages.old args.now }
+    {
+        let (first, second, third) = (argument(args, 0), argument(args, 1), argument(args, 2));
+        match call {
+            Call::Tick => answer_of(self.view.tick()),
+            Call::Me => answer_of(u64::from(self.view.account().player)),
+            Call::Allowance => answer_of(allowance(self.view.account())),
+            Call::Bucket => answer_of(u64::from(self.view.account().bucket)),
+            Call::Points => answer_of(self.view.account().points),
+            Call::Level => answer_of(u64::from(self.level)),
+            Call::Rooms => answer_of(u64::from(self.view.room_count())),
+            Call::Room => or_code(room_index(self.view, first), Code::InvalidArgs),
+            Call::RoomName => name_or_refusal(room_name(self.view, first)),
+            Call::Terrain => or_code(ground(self.view, first, second, third), Code::InvalidArgs),
+            Call::Count => answer_of(u64::from(self.view.count())),
+            Call::Find => or_code(place(self.view, first), Code::NotFound),
+            Call::Get => or_code(field(self.view, first, second), Code::InvalidArgs),
+            Call::MemoryLength => answer_of(self.memory.len() as u64),
+            Call::MemoryRead => told(self.memory_read(unsigned_32(first), pages)),
+            Call::MemoryWrite => {
+                told(self.memory_write(unsigned_32(first), unsigned_32(second), pages))
+            }
+            Call::DropLoad => told(self.drop_load(first, second)),
+        }
+    }
+
+    // Copies the memory text to an address.
+    fn memory_read(&self, at: u64, pages: &mut Pages) -> Code
+        ensures { record { answer = code_number result; desk = self.now; memory = pages.new } ≡ read_reply self.now pages.old at }
+    {
+        if pages.write_span(at, &self.memory) {
+            Code::Done
+        } else {
+            Code::InvalidArgs
+        }
+    }
+
+    // Makes the bytes of a span the memory text.
+    fn memory_write(&mut self, at: u64, len: u64, pages: &Pages) -> Code
+        ensures { record { answer = code_number result; desk = self.new; memory = pages.now } ≡ write_reply self.old pages.now at len }
+    {
+        if len > u64::from(most_memory()) {
+            return Code::InvalidArgs;
+        }
+        let Some(bytes) = pages.read_span(at, len) else {
+            return Code::InvalidArgs;
+        };
+        self.memory.clear();
+        self.memory.extend_from_slice(bytes).unwrap();
+        Code::Done
+    }
+
+    // Records what a call wants. Where the call was refused or the record is full nothing is changed.
+    pub(crate) fn record(&mut self, wish: Result<Intent, Code>) -> Code
+        requires own { IfOk wish (λ intent. intent.player ≡ self.old.book.player) }
+        ensures code { result ≡ outcome self.old wish }
+        ensures desk { self.new ≡ desk_after self.old wish result }
+    {
+        match wish {
+            Ok(intent) => {
+                if self.book.put(intent) {
+                    Code::Done
+                } else {
+                    Code::Full
+                }
+            }
+            Err(code) => code,
+        }
+    }
+
+    // Drops energy of a creep.
+    fn drop_load(&mut self, id: i64, amount: i64) -> Code
+        ensures code { result ≡ first_failing (drop_checks self.old id amount) }
+        ensures desk { self.new ≡ recorded self.old (drop_intent self.old id amount) result }
+    {
+        let found = object(self.view, id);
+        let wish = to_drop(self.book.player(), found, id, amount);
+        self.record(wish)
+    }
+}
+
+impl<'a, 'v> Host for Desk<'a, 'v> {
+    ghost answers = { answers };
+
+    fn answer(&mut self, call: u32, args: &[i64], pages: &mut Pages) -> i64 {
+        Desk::answer(self, call, args, pages)
+    }
+}
+
+// What there is, or else a code.
+fn or_code(found: Option<u64>, code: Code) -> i64
+    ensures { result ≡ or_else code found }
+{
+    match found {
+        Some(number) => answer_of(number),
+        None => told(code),
+    }
+}
+
+// The number of a room's name, where there is one.
+fn name_or_refusal(found: Option<RoomName>) -> i64
+    ensures { result ≡ named found }
+{
+    match found {
+        Some(name) => name_number(name),
+        None => told(Code::InvalidArgs),
+    }
+}
+
+// A code as a module gets it.
+fn told(code: Code) -> i64
+    ensures { result ≡ code_number code }
+{
+    i64::from(code.number())
+}

@@ -1,0 +1,17 @@
+// The calls of a module to its host, and the desk that answers them.
+#![tactic(auto)]
+
+mod call;
+mod desk;
+mod laws;
+mod number;
+mod seen;
+mod signatures;
+#[cfg(test)]
+mod tests;
+mod wish;
+
+pub use call::Call;
+pub use desk::{Desk, NoMemory};
+pub use laws::desks_answer_once;
+pub use signatures::host_sigs;

@@ -1,0 +1,99 @@
+// The signatures of the calls.
+ghost use Rattle.host_calls.specs.Calls.{AreSignatures, all_calls};
+
+use wasm_module::{HostSig, ValType};
+
+static SIGNATURES: [HostSig; 17] = [
+    HostSig {
+        name: "tick",
+        params: &[],
+        result: Some(ValType::I64),
+    },
+    HostSig {
+        name: "me",
+        params: &[],
+        result: Some(ValType::I32),
+    },
+    HostSig {
+        name: "allowance",
+        params: &[],
+        result: Some(ValType::I32),
+    },
+    HostSig {
+        name: "bucket",
+        params: &[],
+        result: Some(ValType::I32),
+    },
+    HostSig {
+        name: "points",
+        params: &[],
+        result: Some(ValType::I64),
+    },
+    HostSig {
+        name: "level",
+        params: &[],
+        result: Some(ValType::I32),
+    },
+    HostSig {
+        name: "rooms",
+        params: &[],
+        result: Some(ValType::I32),
+    },
+    HostSig {
+        name: "room",
+        params: &[ValType::I32],
+        result: Some(ValType::I32),
+    },
+    HostSig {
+        name: "room_name",
+        params: &[ValType::I32],
+        result: Some(ValType::I32),
+    },
+    HostSig {
+        name: "terrain",
+        params: &[ValType::I32, ValType::I32, ValType::I32],
+        result: Some(ValType::I32),
+    },
+    HostSig {
+        name: "count",
+        params: &[],
+        result: Some(ValType::I32),
+    },
+    HostSig {
+        name: "find",
+        params: &[ValType::I64],
+        result: Some(ValType::I32),
+    },
+    HostSig {
+        name: "get",
+        params: &[ValType::I32, ValType::I32],
+        result: Some(ValType::I64),
+    },
+    HostSig {
+        name: "memory_length",
+        params: &[],
+        result: Some(ValType::I32),
+    },
+    HostSig {
+        name: "memory_read",
+        params: &[ValType::I32],
+        result: Some(ValType::I32),
+    },
+    HostSig {
+        name: "memory_write",
+        params: &[ValType::I32, ValType::I32],
+        result: Some(ValType::I32),
+    },
+    HostSig {
+        name: "drop",
+        params: &[ValType::I64, ValType::I32],
+        result: Some(ValType::I32),
+    },
+];
+
+/// The signatures of all calls, each at its number.
+pub fn host_sigs() -> &'static [HostSig]
+    ensures { AreSignatures result.now all_calls }
+{
+    &SIGNATURES
+}
