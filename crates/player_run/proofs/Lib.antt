@@ -1,0 +1,5 @@
+pub mod Signatures
+pub mod Programs
+pub mod Judged
+pub mod Runs
+pub mod Emitting

@@ -1,0 +1,8 @@
+use Rattle.player_run.proofs.Judged.{accepted_once, refused_or_accepted}
+use Rattle.player_run.proofs.laws.judged_once.Goals as goal
+
+pub returns-clause-accepted : goal.returns-clause-accepted
+returns-clause-accepted c = accepted_once
+
+pub returns-clause-refused : goal.returns-clause-refused
+returns-clause-refused c = refused_or_accepted

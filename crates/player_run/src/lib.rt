@@ -1,0 +1,14 @@
+// Which modules a player may have, and what one emits in a tick.
+#![tactic(auto)]
+
+mod admission;
+mod laws;
+mod outcome;
+mod run;
+#[cfg(test)]
+mod tests;
+
+pub use admission::{Refusal, admit};
+pub use laws::{emitted_once, judged_once};
+pub use run::{NoMemory, run_player};
+pub use wasm_link::Linked;

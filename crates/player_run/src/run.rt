@@ -1,0 +1,75 @@
+// One player's run of a tick.
+ghost use Rattle.std.specs.Prelude.{◌≡◌, ◌≤◌, length, Some, IfOk};
+ghost use Rattle.game_tables.specs.Limits.{memory_bound, rooms_bound};
+ghost use Rattle.object_store.specs.declared.account.Account.{Account};
+ghost use Rattle.object_store.specs.Stored.{HasAccount, find_account};
+ghost use Rattle.intent_book.specs.Records.{entries_bound};
+ghost use Rattle.world_rules.specs.Sound.{IsSound};
+ghost use Rattle.world_rules.specs.World.{world_of};
+ghost use Rattle.visible_view.specs.Sights.{sight_of};
+ghost use Rattle.wasm_link.specs.Kept.{link_view};
+ghost use Rattle.player_run.specs.Emitted.{EmitsBy, fuel_of};
+
+use crate::outcome::{instructions, run_outcome};
+use game_tables::{most_limit, unit_instructions};
+use host_calls::Desk;
+use intent_book::PlayerRun;
+use object_store::{Account, World};
+pub use std::alloc::AllocError as NoMemory;
+use std::alloc::Global;
+use visible_view::View;
+use wasm_link::Linked;
+use wasm_machine::Instance;
+
+/// Runs a player's module on what he sees of the world, with the instructions that his account
+/// allows: 10,000 for each CPU unit. The instance is made anew, and what was recorded and written to
+/// the memory text before a trap or the end of the allowance stands.
+pub fn run_player(
+    alloc: Global,
+    linked: &Linked,
+    world: &World,
+    player: u32,
+) -> Result<PlayerRun, NoMemory>
+    requires account { HasAccount player world.now.accounts }
+    requires memory { (account : Account) → find_account player world.now.accounts ≡ Some account → length account.memory ≤ memory_bound }
+    requires sound { IsSound world.now }
+    requires rooms { length world.now.rooms ≤ rooms_bound }
+    ensures emitted { IfOk result (λ run. (account : Account) × (find_account player world.now.accounts ≡ Some account) × EmitsBy (link_view linked.now) (sight_of (world_of world.now) account) run × (run.used ≤ fuel_of account)) }
+    ensures few { IfOk result (λ run. length run.intents ≤ entries_bound) }
+    ensures short { IfOk result (λ run. length run.memory ≤ memory_bound) }
+{
+    let view = View::of(alloc, world, player)?;
+    run_view(alloc, linked, &view, player)
+}
+
+// Runs a module on what its player sees.
+fn run_view(alloc: Global, linked: &Linked, view: &View, player: u32) -> Result<PlayerRun, NoMemory>
+    requires own { player ≡ view.now.account.player }
+    requires memory { length view.now.account.memory ≤ memory_bound }
+    ensures emitted { IfOk result (EmitsBy (link_view linked.now) view.now) }
+    ensures used { IfOk result (λ run. run.used ≤ fuel_of view.now.account) }
+    ensures few { IfOk result (λ run. length run.intents ≤ entries_bound) }
+    ensures short { IfOk result (λ run. length run.memory ≤ memory_bound) }
+{
+    let account = view.account();
+    let mut desk = Desk::new(alloc, view, player, account.memory.as_slice())?;
+    let mut instance = Instance::new(alloc, linked)?;
+    let outcome = instance.run(&mut desk, fuel(account));
+    let (book, memory) = desk.finish();
+    let _entries = book.len();
+    Ok(PlayerRun {
+        player,
+        outcome: run_outcome(outcome),
+        used: instructions(outcome),
+        intents: book.into_canonical(),
+        memory,
+    })
+}
+
+// The instructions that a player's module may use in this tick.
+fn fuel(account: &Account) -> u64
+    ensures { result ≡ fuel_of account.now }
+{
+    let units = u64::from(account.limit) + u64::from(account.bucket);
+    unit_instructions() * units.min(u64::from(most_limit()))
+}
