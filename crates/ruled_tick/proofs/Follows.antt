@@ -1,6 +1,6 @@
--- A tick of what is stored keeps it sound, and is the tick of the world also where players rest.
-use Rattle.std.proofs.Common.{◌≡◌, ℕ, ◌≤◌, ◌==◌, cond, List, [], ◌∷◌, map, Bool, true, false, Option, Some, None, option_map, option_and_then, slice_get, refl, sym, ap, ◌∙◌, arith}
-use Rattle.std.specs.List.{count_by}
+-- A tick of what is stored keeps it sound, also with its accounts after the runs.
+use Rattle.std.proofs.Common.{◌≡◌, ℕ, ◌≤◌, ◌==◌, cond, List, [], ◌∷◌, map, Bool, true, false, Option, Some, None, option_map, option_and_then, slice_get, refl, sym, ap, subst, ◌∙◌, ◌<◌, inl, arith}
+use Rattle.std.specs.List.{AllByRecursion, count_by}
 use Rattle.std.specs.Ordering.{nat_cmp}
 use Rattle.std.specs.Cmp.{nat_cmp_total}
 use Rattle.std.specs.FinMap.{find, from_entries, entries, get-from_entries}
@@ -10,21 +10,20 @@ use Rattle.game_tables.specs.Kinds.{source_room}
 use Rattle.object_store.specs.declared.object.Object.{Object}
 use Rattle.object_store.specs.declared.account.Account.{Account}
 use Rattle.object_store.specs.declared.world.Room.{Room}
-use Rattle.object_store.specs.Stored.{Stored, AreRising, HaveRisingTables}
-use Rattle.world_rules.specs.World.{Placed, ListedRoom, World, listed_room, listing_of, placed, placed_from, world_of}
+use Rattle.object_store.specs.Stored.{Stored, AreRising, HaveRisingTables, IsLast}
+use Rattle.intent_book.specs.declared.player_run.PlayerRun.{PlayerRun}
+use Rattle.world_rules.specs.World.{Placed, ListedRoom, Frame, listed_room, listing_of, placed, placed_from, world_of}
 use Rattle.world_rules.specs.Upkeep.{is_taken}
 use Rattle.world_rules.specs.Rules.{Stands, IsPlayer}
-use Rattle.world_rules.specs.Tick.{rested, next_world}
+use Rattle.world_rules.specs.Tick.{account_after, run_of}
 use Rattle.world_rules.specs.Sound.{IsSound}
 use Rattle.world_rules.proofs.Entries.{times}
 use Rattle.world_rules.proofs.Keys.{keyed, accounts_sorted, entries_of_sorted, find_mapped}
 use Rattle.world_rules.proofs.Lifting.{AreIdsOnce, found_in_table, stands_in_room, stands_placed, times_after_all, tables_rise}
 use Rattle.world_rules.proofs.Each.{found_left, IsRising-filter_map, times_in-filter_map}
 use Rattle.world_rules.proofs.Same.{once, tables_at}
-use Rattle.ruled_tick.specs.Ticked.{controller_among, capacity_among, upkept, ticked, ticked_rested, ticked_table, ticked_room, AreInPlace}
+use Rattle.ruled_tick.specs.Ticked.{controller_among, accounted, capacity_among, upkept, ticked, ticked_table, ticked_room, AreInPlace}
 use Rattle.ruled_tick.proofs.Objects.{upkept-id, upkept-IsSame, upkept-IsInRange}
-use Rattle.ruled_tick.proofs.Rising.{rested_rise}
-use Rattle.ruled_tick.proofs.Steps.{ticked-IsRuled}
 use Rattle.ruled_tick.proofs.Kept.{StandsAs, Succeeds, broken_before}
 
 -- ---- objects
@@ -80,11 +79,13 @@ module _ (w : Stored) (s : IsSound w) where
       (fewer : (n : ℕ) → count_by (λ account. account.player == n) accounts ≤ count_by (λ account. account.player == n) w.accounts) where
     succeeds : Succeeds (listing_of w) (listing_of (record (ticked w) { accounts = accounts }))
     succeeds = record {
-      rooms = frames w.rooms;
+      fresh = 0;
+      rooms = λ index frame is. (frame, subst (λ (all : List Frame). slice_get all index ≡ Some frame) (frames w.rooms) is, refl, refl);
+      later = λ index frame is. (frame, subst (λ (all : List Frame). slice_get all index ≡ Some frame) (sym (frames w.rooms)) is, omega arith);
       players = players;
       accounts = fewer;
-      stands = λ id p h. stood id p (sym (get-from_entries nat_cmp_total (placed (listing_of (ticked w))) id) ∙ h);
-      counts = ticked_times w.rooms;
+      stands = λ id p h. inl (stood id p (sym (get-from_entries nat_cmp_total (placed (listing_of (ticked w))) id) ∙ h));
+      counts = λ id many. omega (arith, ticked_times w.rooms id);
     }
 
     sound_then : IsSound (record (ticked w) { accounts = accounts })
@@ -92,7 +93,7 @@ module _ (w : Stored) (s : IsSound w) where
       places = in_place;
       tables = ticked_rise w.rooms s.tables;
       accounts = rise;
-      rules = λ rule n a b broken. s.rules rule n a b (broken_before _ _ succeeds rule n a b broken);
+      rules = λ rule n a b broken. (let old = broken_before (listing_of w) (listing_of (record (ticked w) { accounts = accounts })) succeeds rule n a b broken in s.rules rule old.0 a b old.1);
     }
 
 pub ticked-IsSound : (w : Stored) → IsSound w → IsSound (ticked w)
@@ -100,35 +101,52 @@ ticked-IsSound w s = sound_then w s w.accounts s.accounts (λ n player. player) 
 
 -- ---- accounts
 
-keyed_rested : (accounts : List Account) → map (λ (e : ℕ × Account). (e.0, rested e.1)) (keyed (λ account. account.player) accounts) ≡ keyed (λ account. account.player) (map rested accounts)
-keyed_rested [] = refl
-keyed_rested (account ∷ accounts) = let rest = keyed_rested accounts in λ i. (account.player, rested account) ∷ rest i
+-- accounts with one in the place of each, of the same player
+module _ (f : Account → Account) (same : (account : Account) → (f account).player ≡ account.player) where
+  keyed_changed : (accounts : List Account) → map (λ (e : ℕ × Account). (e.0, f e.1)) (keyed (λ account. account.player) accounts) ≡ keyed (λ account. account.player) (map f accounts)
+  keyed_changed [] = refl
+  keyed_changed (account ∷ accounts) = let rest = keyed_changed accounts in λ i. (sym (same account) i, f account) ∷ rest i
 
-rested_players : (w : Stored) (n : ℕ) → IsPlayer (world_of w) n → IsPlayer (world_of (ticked_rested w)) n
-rested_players w n player = (
-  rested player.0,
-  get-from_entries nat_cmp_total (keyed (λ (account : Account). account.player) (map rested w.accounts)) n
-      ∙ ap (find nat_cmp n) (sym (keyed_rested w.accounts))
-      ∙ find_mapped rested n (keyed (λ (account : Account). account.player) w.accounts)
-      ∙ ap (option_map rested) (sym (get-from_entries nat_cmp_total (keyed (λ (account : Account). account.player) w.accounts) n) ∙ player.1),
-)
+  changed_players : (w : Stored) (n : ℕ) → IsPlayer (world_of w) n → IsPlayer (world_of (record (ticked w) { accounts = map f w.accounts })) n
+  changed_players w n player = (
+    f player.0,
+    get-from_entries nat_cmp_total (keyed (λ (account : Account). account.player) (map f w.accounts)) n
+        ∙ ap (find nat_cmp n) (sym (keyed_changed w.accounts))
+        ∙ find_mapped f n (keyed (λ (account : Account). account.player) w.accounts)
+        ∙ ap (option_map f) (sym (get-from_entries nat_cmp_total (keyed (λ (account : Account). account.player) w.accounts) n) ∙ player.1),
+  )
 
-rested_count : (n : ℕ) (accounts : List Account) → count_by (λ account. account.player == n) (map rested accounts) ≤ count_by (λ account. account.player == n) accounts
-rested_count n [] = omega arith
-rested_count n (account ∷ accounts) =
-    let test : Account → ℕ = λ account. cond (account.player == n) 1 0 in
-    omega (arith, rested_count n accounts, sum_by-cons test account accounts, sum_by-cons test (rested account) (map rested accounts))
+  changed_count : (n : ℕ) (accounts : List Account) → count_by (λ account. account.player == n) (map f accounts) ≤ count_by (λ account. account.player == n) accounts
+  changed_count n [] = omega arith
+  changed_count n (account ∷ accounts) =
+      let test : Account → ℕ = λ account. cond (account.player == n) 1 0 in
+      let here = ap (λ (player : ℕ). cond {A = ℕ} (player == n) 1 0) (same account) in
+      omega (arith, changed_count n accounts, sum_by-cons test account accounts, sum_by-cons test (f account) (map f accounts))
 
-pub ticked_rested-IsSound : (w : Stored) → IsSound w → IsSound (ticked_rested w)
-ticked_rested-IsSound w s = sound_then w s (map rested w.accounts) (rested_rise w.accounts s.accounts) (rested_players w) (λ n. rested_count n w.accounts)
+  changed_above : (player : ℕ) (accounts : List Account) → AllByRecursion (λ later. player < later.player) accounts → AllByRecursion (λ later. player < later.player) (map f accounts)
+  changed_above player [] above = tt
+  changed_above player (account ∷ accounts) above = (subst (λ (n : ℕ). player < n) (sym (same account)) above.0, changed_above player accounts above.1)
 
-pub ticked_rested-IsNext : (w : Stored) → IsSound w → world_of (ticked_rested w) ≡ next_world (world_of w)
-ticked_rested-IsNext w s =
-    let with_accounts : List (ℕ × Account) → World = λ es. record (world_of (ticked w)) { accounts = from_entries es } in
-    let all_rested : List (ℕ × Account) → List (ℕ × Account) = λ es. map (λ (e : ℕ × Account). (e.0, rested e.1)) es in
-    let at_rest : World → World = λ after. record after { accounts = from_entries (all_rested (entries after.accounts)) } in
-    sym (
-    ap at_rest (sym (ticked-IsRuled w s))
-    ∙ ap (λ es. with_accounts (all_rested es)) (entries_of_sorted (keyed (λ (account : Account). account.player) w.accounts) (accounts_sorted w.accounts s.accounts))
-    ∙ ap with_accounts (keyed_rested w.accounts)
-    )
+  changed_rise : (accounts : List Account) → AreRising accounts → AreRising (map f accounts)
+  changed_rise [] rising = tt
+  changed_rise (account ∷ accounts) rising = (subst (λ (n : ℕ). AllByRecursion (λ (later : Account). n < later.player) (map f accounts)) (sym (same account)) (changed_above account.player accounts rising.0), changed_rise accounts rising.1)
+
+  pub changed-IsSound : (w : Stored) → IsSound w → IsSound (record (ticked w) { accounts = map f w.accounts })
+  changed-IsSound w s = sound_then w s (map f w.accounts) (changed_rise w.accounts s.accounts) (changed_players w) (λ n. changed_count n w.accounts)
+
+  pub same_players : (accounts : List Account) → map (λ (account : Account). account.player) (map f accounts) ≡ map (λ (account : Account). account.player) accounts
+  same_players [] = refl
+  same_players (account ∷ accounts) = let rest = same_players accounts in λ i. same account i ∷ rest i
+
+  -- an account comes after others also where they are changed
+  pub changed_last : (player : ℕ) (accounts : List Account) → IsLast player accounts → IsLast player (map f accounts)
+  changed_last player [] last = tt
+  changed_last player (account ∷ accounts) last = (subst (λ (n : ℕ). n < player) (sym (same account)) last.0, changed_last player accounts last.1)
+
+  pub changed_entries : (w : Stored) → IsSound w → from_entries {R = nat_cmp} (map (λ (e : ℕ × Account). (e.0, f e.1)) (entries (world_of w).accounts)) ≡ (world_of (record w { accounts = map f w.accounts })).accounts
+  changed_entries w s =
+      ap (λ (es : List (ℕ × Account)). from_entries (map (λ (e : ℕ × Account). (e.0, f e.1)) es)) (entries_of_sorted (keyed (λ (account : Account). account.player) w.accounts) (accounts_sorted w.accounts s.accounts))
+      ∙ ap from_entries (keyed_changed w.accounts)
+
+pub accounted-player : (runs : List PlayerRun) (account : Account) → (accounted runs account).player ≡ account.player
+accounted-player runs account = elim (run_of account.player runs) as (λ run. (account_after 0 account run).player ≡ account.player) [ None ↦ refl | Some run ↦ refl ]

@@ -1,5 +1,13 @@
 pub mod Objects
-pub mod Rising
 pub mod Kept
+pub mod Dropped
+pub mod Entered
+pub mod Actions
+pub mod Acted
+pub mod Rising
 pub mod Steps
 pub mod Follows
+pub mod Chosen
+pub mod Wanted
+pub mod Known
+pub mod Next

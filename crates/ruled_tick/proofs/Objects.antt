@@ -19,10 +19,10 @@ pub record IsSame (before after : Object) : Type 0 where
   pub owner : after.owner ≡ before.owner
   pub other : after.other ≡ before.other
 
-IsSame-refl : (o : Object) → IsSame o o
+pub IsSame-refl : (o : Object) → IsSame o o
 IsSame-refl o = record { id = refl; kind = refl; x = refl; y = refl; owner = refl; other = refl }
 
-IsSame-trans : (one other last : Object) → IsSame one other → IsSame other last → IsSame one last
+pub IsSame-trans : (one other last : Object) → IsSame one other → IsSame other last → IsSame one last
 IsSame-trans one other last a b = record { id = b.id ∙ a.id; kind = b.kind ∙ a.kind; x = b.x ∙ a.x; y = b.y ∙ a.y; owner = b.owner ∙ a.owner; other = b.other ∙ a.other }
 
 -- An object after a step, in the ranges of its kind if it was in them and the capacity is within theirs.

@@ -1,8 +1,10 @@
--- The steps of a tick without intents, on the world and on what is stored.
+-- The steps of a tick, on the world and on what is stored.
 use Rattle.std.proofs.Common.{◌≡◌, ℕ, ◌+◌, List, [], ◌∷◌, map, Option, Some, None, option_and_then, refl, sym, ap, ◌∙◌}
 use Rattle.std.specs.List.{cons_option, filter_map}
 use Rattle.std.specs.List as lists
 use Rattle.game_tables.specs.Kinds.{source_room}
+use Rattle.game_tables.specs.declared.action.Action.TheVariants.{DropLoad}
+use Rattle.intent_book.specs.declared.intent.Intent.{Intent}
 use Rattle.object_store.specs.declared.object.Object.{Object}
 use Rattle.object_store.specs.declared.world.Room.{Room}
 use Rattle.object_store.specs.Tables.{Table, IsRising}
@@ -11,14 +13,17 @@ use Rattle.world_rules.specs.Kinds.{is_controller}
 use Rattle.world_rules.specs.World.{World, ListedRoom, listed_room, world_listed, world_of}
 use Rattle.world_rules.specs.RoomParts.{RoomPart, in_every_room}
 use Rattle.world_rules.specs.Upkeep.{Sums, unchanged, renewed, decayed, controller_of, is_taken, each, in_turn, upkeep}
-use Rattle.world_rules.specs.Tick.{ruled, begun, sums_of}
+use Rattle.world_rules.specs.Intents.{all_actions, counting}
+use Rattle.world_rules.specs.Tick.{Course, ruled, begun, after_actions, entries_of, sums_of}
 use Rattle.world_rules.specs.Sound.{IsSound}
 use Rattle.world_rules.proofs.Keys.{keyed, table_sorted, entries_of_sorted, values_of}
 use Rattle.world_rules.proofs.Lifting.{AreIdsOnce, SaysSame, stored_part, with_table, in_every_room-stored, unchanged-in_every_room, once_after_all, tables_rise}
 use Rattle.world_rules.proofs.Each.{each-stored, each_in_table, IsRising-filter_map, times_in-filter_map}
 use Rattle.world_rules.proofs.Same.{once, tables_at}
+use Rattle.ruled_tick.specs.Entered.{entered_all}
 use Rattle.ruled_tick.specs.Ticked.{controller_among, capacity_among, renewed_to, decayed_by_kind, ticked, ticked_room}
 use Rattle.ruled_tick.proofs.Objects.{renewed-id, decayed-id}
+use Rattle.ruled_tick.proofs.Actions.{acted_world}
 
 -- ---- the steps in force
 
@@ -38,12 +43,16 @@ upkeep_in_force sums world =
     ∙ rest_of_steps last world
     ∙ rest_of_steps (decayed ∷ []) (in_every_room renewed world)
 
--- a tick without intents renews and decays
-pub ruled_in_force : (world : World) → ruled world [] ≡ record (in_every_room decayed (in_every_room renewed world)) { tick = (in_every_room decayed (in_every_room renewed world)).tick + 1 }
-ruled_in_force world =
-    let counted : World → World = λ after. record after { tick = after.tick + 1 } in
-    ap (λ (moved : World). counted (upkeep (sums_of (begun world)) moved)) (unchanged-in_every_room world)
-    ∙ ap counted (upkeep_in_force (sums_of (begun world)) world)
+abbrev counted : World → World
+counted after = record after { tick = after.tick + 1 }
+
+-- after the entries a tick renews and decays
+pub ruled_in_force : (world : World) (intents : List Intent) → ruled world intents ≡ counted (in_every_room decayed (in_every_room renewed (entered_all world world (entries_of DropLoad (counting world intents)))))
+ruled_in_force world intents =
+    let acted : Course = after_actions world all_actions (counting world intents) (begun world) in
+    ap (λ (moved : World). counted (upkeep (sums_of acted) moved)) (unchanged-in_every_room acted.world)
+    ∙ ap counted (upkeep_in_force (sums_of acted) acted.world)
+    ∙ ap (λ (w : World). counted (in_every_room decayed (in_every_room renewed w))) (acted_world world (counting world intents))
 
 -- ---- the same on a stored room
 
@@ -104,14 +113,19 @@ listed_same (room ∷ rooms) =
     let rest = listed_same rooms in
     λ i. record { frame = (listed_room room).frame; objects = objects i } ∷ rest i
 
--- a tick of what is stored is a tick of the world
-pub ticked-IsRuled : (stored : Stored) → IsSound stored → world_of (ticked stored) ≡ ruled (world_of stored) []
-ticked-IsRuled stored sound =
-    let counted : World → World = λ after. record after { tick = after.tick + 1 } in
+-- upkeep of what is stored is that of the world
+ticked_upkeep : (stored : Stored) → IsSound stored → counted (in_every_room decayed (in_every_room renewed (world_of stored))) ≡ world_of (ticked stored)
+ticked_upkeep stored sound =
     let listing : List ListedRoom → World = λ rooms. world_listed (record { tick = stored.tick + 1; rooms = rooms; accounts = stored.accounts }) in
-    sym (
-    ruled_in_force (world_of stored)
-    ∙ ap (λ (world : World). counted (in_every_room decayed world)) (renewed_world stored (once stored sound) sound.tables)
+    ap (λ (world : World). counted (in_every_room decayed world)) (renewed_world stored (once stored sound) sound.tables)
     ∙ ap counted (decayed_world (with_tables renewed_table stored) (renewed_once stored.rooms (once stored sound)) (renewed_rise stored.rooms sound.tables))
     ∙ ap listing (listed_same stored.rooms)
+
+-- a tick of what is stored, as the entries leave it, is a tick of the world
+pub ticked-IsRuled : (stored acted : Stored) (intents : List Intent) → IsSound acted → world_of acted ≡ entered_all (world_of stored) (world_of stored) (entries_of DropLoad (counting (world_of stored) intents))
+    → world_of (ticked acted) ≡ ruled (world_of stored) intents
+ticked-IsRuled stored acted intents sound same = sym (
+    ruled_in_force (world_of stored) intents
+    ∙ ap (λ (w : World). counted (in_every_room decayed (in_every_room renewed w))) (sym same)
+    ∙ ticked_upkeep acted sound
     )

@@ -1,1 +1,4 @@
 pub mod Ticked
+pub mod Placing
+pub mod Standing
+pub mod Entered

@@ -1,14 +1,22 @@
--- What one tick without intents makes of what is stored.
-use Rattle.std.specs.Prelude.{◌≡◌, ℕ, ◌+◌, List, map, filter_map, Option, option_and_then, Some, slice_get}
+-- What one tick makes of what is stored.
+use Rattle.std.specs.Prelude.{◌≡◌, ℕ, ◌+◌, List, [], length, map, filter_map, Option, option_and_then, Some, slice_get}
 use Rattle.std.specs.List.{find}
 use Rattle.game_tables.specs.Kinds.{source_room}
+use Rattle.object_store.specs.declared.account.Account.{Account}
 use Rattle.object_store.specs.declared.object.Object.{Object}
 use Rattle.object_store.specs.declared.world.Room.{Room}
 use Rattle.object_store.specs.Tables.{Table}
 use Rattle.object_store.specs.Stored.{Stored}
+use Rattle.intent_book.specs.declared.intent.Intent.{Intent}
+use Rattle.intent_book.specs.declared.player_run.PlayerRun.{PlayerRun}
+use Rattle.game_tables.specs.declared.action.Action.TheVariants.{DropLoad}
 use Rattle.world_rules.specs.Kinds.{is_controller}
+use Rattle.world_rules.specs.World.{world_of}
+use Rattle.world_rules.specs.Intents.{counting}
+use Rattle.world_rules.specs.Tick.{account_after, entries_of, run_of}
+use Rattle.world_rules.specs.Sound.{IsSound}
+use Rattle.ruled_tick.specs.Entered.{entered_all}
 use Rattle.world_rules.specs.Upkeep.{is_taken, renewed_as, decayed_as}
-use Rattle.world_rules.specs.Tick.{rested}
 
 -- the controller among the objects of a room
 abbrev pub controller_among : List Object → Option Object
@@ -40,10 +48,20 @@ ticked_room room = record room { table = ticked_table room.table }
 abbrev pub ticked : Stored → Stored
 ticked stored = record stored { tick = stored.tick + 1; rooms = map ticked_room stored.rooms }
 
--- the same with the accounts after a tick in which their players did not run
-abbrev pub ticked_rested : Stored → Stored
-ticked_rested stored = record (ticked stored) { accounts = map rested stored.accounts }
+-- an account after these runs, in which no player gains points
+abbrev pub accounted : List PlayerRun → Account → Account
+accounted runs account = account_after 0 account (run_of account.player runs)
 
 -- Each table's index is its room's place.
 abbrev pub AreInPlace : List Room → Type 0
 AreInPlace rooms = (index : ℕ) (room : Room) → slice_get rooms index ≡ Some room → room.table.index ≡ index
+
+-- Without accounts, it is a tick of the rooms as these entries leave them.
+pub record IsRuledRooms (stored : Stored) (intents : List Intent) (after : Stored) : Type 0 where
+  pub acted : Stored
+  pub tick : acted.tick ≡ stored.tick
+  pub accounts : acted.accounts ≡ stored.accounts
+  pub rooms : length acted.rooms ≡ length stored.rooms
+  pub sound : IsSound acted
+  pub same : world_of acted ≡ entered_all (world_of stored) (world_of stored) (entries_of DropLoad (counting (world_of stored) intents))
+  pub next : after ≡ record (ticked acted) { accounts = [] }

@@ -1,9 +1,12 @@
 // The serial tick of the stored world.
 #![tactic(auto)]
 
+mod act;
+mod entries;
+mod standing;
 mod tick;
 mod upkeep;
 
 pub use std::alloc::AllocError as NoMemory;
-pub use tick::{tick_plain, tick_rested};
+pub use tick::{next_world, tick_plain};
 pub use upkeep::tick_table;

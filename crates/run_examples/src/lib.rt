@@ -3,6 +3,8 @@
 #![tactic(auto)]
 
 #[cfg(test)]
+mod player_tests;
+#[cfg(test)]
 mod run_tests;
 #[cfg(test)]
 mod status_tests;

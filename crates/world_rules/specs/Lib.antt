@@ -1,6 +1,7 @@
 pub mod Kinds
 pub mod World
 pub mod RoomParts
+pub mod Drops
 pub mod Intents
 pub mod Upkeep
 pub mod Tick

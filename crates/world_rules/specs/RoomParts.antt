@@ -5,6 +5,7 @@ use Rattle.std.specs.Ordering.{nat_cmp}
 use Rattle.std.specs.FinMap.{FinMap, from_entries, entries}
 use Rattle.room_terrain.specs.declared.terrain.Ground.{Ground}
 use Rattle.object_store.specs.declared.object.Object.{Object}
+use Rattle.object_store.specs.Tables.{Table}
 use Rattle.world_rules.specs.World.{Placed, Frame, World}
 
 -- a room's part of the world: its index, its grounds, the serial of its next new object, and its objects by id
@@ -13,6 +14,15 @@ pub record RoomPart : Type 0 where
   pub grounds : List Ground
   pub next : ℕ
   pub objects : FinMap nat_cmp Object
+
+-- the part of a room with these grounds and this table
+abbrev pub table_part : List Ground → Table → RoomPart
+table_part grounds table = record {
+  index = table.index;
+  grounds = grounds;
+  next = table.next;
+  objects = from_entries (map (λ object. (object.id, object)) table.objects);
+}
 
 -- the object of an entry, where it stands in this room
 abbrev pub standing_in : ℕ → ℕ × Placed → Option (ℕ × Object)

@@ -1,5 +1,5 @@
 -- A world between ticks.
-use Rattle.std.specs.Prelude.{◌≡◌, ◌≢◌, ℕ, map, Some, slice_get}
+use Rattle.std.specs.Prelude.{◌≡◌, ◌≢◌, ℕ, ◌-◌, ◌^◌, ◌≤◌, All, List, map, Some, slice_get}
 use Rattle.object_store.specs.declared.world.Room.{Room}
 use Rattle.object_store.specs.Stored.{Stored, HaveRisingTables, AreRising}
 use Rattle.world_rules.specs.declared.rule.Rule.{Rule}
@@ -20,3 +20,11 @@ without_spare room = record room { table = record room.table { spare = 0 } }
 
 abbrev pub bare : Stored → Stored
 bare stored = record stored { rooms = map without_spare stored.rooms }
+
+-- the greatest serial that a room may have before a tick: enough are left for all that a tick can make
+abbrev pub serials_bound : ℕ
+serials_bound = 2 ^ 32 - 2 ^ 20
+
+-- No room has used up its serials.
+abbrev pub HaveSerials : List Room → Type 0
+HaveSerials rooms = All (λ room. room.table.next ≤ serials_bound) rooms

@@ -1,14 +1,16 @@
 -- The tick of the game.
 use Rattle.std.specs.Prelude.{ℕ, ◌+◌, ◌-◌, ◌/◌, ◌==◌, ◌&&◌, ◌||◌, min, nat_lt, Bool, if◌then◌else◌, List, [], ◌∷◌, ◌++◌, map, Option, Some, None, slice_get}
-use Rattle.std.specs.List.{filter, sum_by}
+use Rattle.std.specs.List.{filter, find, flat_map, sum_by}
 use Rattle.std.specs.FinMap.{from_entries, entries}
 use Rattle.game_tables.specs.Actions.{action_number}
-use Rattle.game_tables.specs.Limits.{bucket_bound, unit_size}
+use Rattle.game_tables.specs.Limits.{bucket_bound, points_bound, unit_size}
 use Rattle.game_tables.specs.declared.action.Action.{Action}
 use Rattle.object_store.specs.declared.account.Account.{Account}
+use Rattle.intent_book.specs.declared.intent.Intent.{Intent}
+use Rattle.intent_book.specs.declared.player_run.PlayerRun.{PlayerRun}
 use Rattle.world_rules.specs.World.{Frame, World}
 use Rattle.world_rules.specs.RoomParts.{RoomPart, part_of, with_part, in_every_room}
-use Rattle.world_rules.specs.Intents.{Intent, Effect, all_actions, room_of, rule_of}
+use Rattle.world_rules.specs.Intents.{Effect, all_actions, counting, room_of, rule_of}
 use Rattle.world_rules.specs.Upkeep.{Sums, upkeep}
 
 -- ---- the entries of a tick
@@ -41,13 +43,13 @@ abbrev pub after_rule_in : Course → Intent → Option ℕ → Course
 after_rule_in course intent (Some index) = after_rule course intent index (slice_get course.world.rooms index)
 after_rule_in course intent None = course
 
--- the course after an entry, whose rule changes the part of its actor's room alone
-abbrev pub after_entry : Course → Intent → Course
-after_entry course intent = after_rule_in course intent (room_of course.world intent.action intent.actor)
+-- the course after an entry, whose rule changes the part of its actor's room alone: the room in which the actor stands in the world before the tick
+abbrev pub after_entry : World → Course → Intent → Course
+after_entry before course intent = after_rule_in course intent (room_of before intent.action intent.actor)
 
-abbrev pub after_entries : Course → List Intent → Course
-after_entries course [] = course
-after_entries course (intent ∷ later) = after_entries (after_entry course intent) later
+abbrev pub after_entries : World → Course → List Intent → Course
+after_entries before course [] = course
+after_entries before course (intent ∷ later) = after_entries before (after_entry before course intent) later
 
 -- by player, then by actor
 abbrev pub comes_before : Intent → Intent → Bool
@@ -66,15 +68,11 @@ abbrev pub entries_of : Action → List Intent → List Intent
 entries_of action intents = in_order (filter (λ intent. action_number intent.action == action_number action) intents)
 
 -- the course after all entries, action by action
-abbrev pub after_actions : List Action → List Intent → Course → Course
-after_actions [] intents course = course
-after_actions (action ∷ later) intents course = after_actions later intents (after_entries course (entries_of action intents))
+abbrev pub after_actions : World → List Action → List Intent → Course → Course
+after_actions before [] intents course = course
+after_actions before (action ∷ later) intents course = after_actions before later intents (after_entries before course (entries_of action intents))
 
 -- ---- the tick
-
--- the entries that count. Which drop others will matter with the first action.
-abbrev pub counting : World → List Intent → List Intent
-counting world intents = intents
 
 -- The movers of a room move all at once. Movement is not in force yet.
 abbrev pub moved : List Intent → RoomPart → RoomPart
@@ -90,7 +88,7 @@ sums_of course = record { damage = sum_for course.damage; healing = sum_for cour
 -- what happens inside the rooms: the entries, then movement, then upkeep
 abbrev pub inner : World → List Intent → Course
 inner world intents =
-    let acted : Course = after_actions all_actions (counting world intents) (begun world) in
+    let acted : Course = after_actions world all_actions (counting world intents) (begun world) in
     record acted { world = upkeep (sums_of acted) (in_every_room (moved (counting world intents)) acted.world) }
 
 -- Creeps that moved onto a border tile cross to the next room. Crossings are not in force yet.
@@ -111,12 +109,25 @@ gained world intents = (inner world intents).gains
 abbrev pub bucket_after : Account → ℕ → ℕ
 bucket_after account used = min bucket_bound (account.limit + account.bucket - (used + (unit_size - 1)) / unit_size)
 
--- an account after a tick in which its player did not run
-abbrev pub rested : Account → Account
-rested account = record account { bucket = bucket_after account 0 }
+-- the points of an account after it gained some
+abbrev pub points_after : Account → ℕ → ℕ
+points_after account gain = min points_bound (account.points + gain)
 
--- the world after a tick in which no player runs
-abbrev pub next_world : World → World
-next_world world =
-    let after : World = ruled world [] in
-    record after { accounts = from_entries (map (λ entry. (entry.0, rested entry.1)) (entries after.accounts)) }
+-- an account after a tick in which its player gained points, without a run of his and with one, which leaves his memory text
+abbrev pub account_after : ℕ → Account → Option PlayerRun → Account
+account_after gain account None = record account { bucket = bucket_after account 0; points = points_after account gain }
+account_after gain account (Some run) = record account { bucket = bucket_after account run.used; points = points_after account gain; memory = run.memory }
+
+-- the run of a player
+abbrev pub run_of : ℕ → List PlayerRun → Option PlayerRun
+run_of player runs = find (λ run. run.player == player) runs
+
+-- all that the runs want
+abbrev pub intents_of : List PlayerRun → List Intent
+intents_of runs = flat_map (λ run. run.intents) runs
+
+-- the world after a tick in which these are the runs
+abbrev pub next_world : World → List PlayerRun → World
+next_world world runs =
+    let after : World = ruled world (intents_of runs) in
+    record after { accounts = from_entries (map (λ entry. (entry.0, account_after (sum_for (gained world (intents_of runs)) entry.0) entry.1 (run_of entry.0 runs))) (entries after.accounts)) }

@@ -1,5 +1,5 @@
 // Worked examples of the definitions.
-ghost use Rattle.world_rules.specs.Examples.{Renews, Decays, Vanishes};
+ghost use Rattle.world_rules.specs.Examples.{Renews, Decays, Vanishes, Drops, Grows, DropsNothing};
 
 /// Says what the definitions of upkeep give in worked examples. It does nothing when it runs: its
 /// contract is what the check has computed.
@@ -17,4 +17,21 @@ pub fn upkeep_examples()
     ensures loses_two { Decays 1001 999 }
     ensures loses_one { Decays 1000 999 }
     ensures vanishes { Vanishes 1 }
+{}
+
+/// Says what the definitions of what a creep drops give in worked examples. It does nothing when it
+/// runs.
+pub fn drop_examples()
+    // An amount of 0 wants all, one above the load what there is.
+    ensures some { Drops 20 5 15 5 }
+    ensures all { Drops 20 0 0 20 }
+    ensures too_much { Drops 20 21 0 20 }
+
+    // A pile that lies there grows, up to its most.
+    ensures grows { Grows 1 5 6 }
+    ensures most { Grows 999999998 5 1000000000 }
+
+    // Another player's creep drops nothing, and one that carries nothing neither.
+    ensures another { DropsNothing 2 20 }
+    ensures empty { DropsNothing 1 0 }
 {}

@@ -6,6 +6,6 @@ mod examples;
 mod rule;
 mod sound;
 
-pub use examples::upkeep_examples;
+pub use examples::{drop_examples, upkeep_examples};
 pub use rule::Rule;
 pub use sound::stored_in_one_way;

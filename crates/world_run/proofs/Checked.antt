@@ -1,14 +1,8 @@
 -- The answer to the bytes that a source gave.
 use Rattle.std.proofs.Common.{◌≡◌, ℕ, List, [], ◌++◌, Option, Some, None, ◌⊎◌, inl, inr, ap, sym, subst, ◌∙◌}
 use Rattle.std.proofs.lemmas.List.{append-nil}
-use Rattle.wasm_link.specs.Linking.{Link, IsLinked, IsLinkable, IsFault}
-use Rattle.wasm_link.specs.declared.fault.LinkFault.{LinkFault}
-use Rattle.wasm_module.specs.Sections.{Syntax}
-use Rattle.wasm_module.specs.Syntax.{Ops}
-use Rattle.wasm_validate.specs.Floats.{HasNoFloat}
-use Rattle.wasm_validate.specs.Modules.{IsValid}
 use Rattle.world_io.specs.Told.{GaveAll}
-use Rattle.world_run.specs.Checks.{Checks, IsAnswer, IsUnlinked, ReadsAnswer}
+use Rattle.world_run.specs.Checks.{Checks, IsAnswer, ReadsAnswer}
 use Rattle.world_run.specs.declared.status.Status.{Status}
 use Rattle.world_run.specs.declared.status.Status.TheVariants.{Memory}
 
@@ -27,10 +21,3 @@ pub calls_for : (old new : Option (List ℕ)) (left bytes : List ℕ) (status : 
 calls_for old new left bytes status told gave h =
     let whole : bytes ≡ left = gave_whole new left bytes (subst (λ o. GaveAll o new bytes) told gave) in
     subst (λ bs. (status ≡ Memory) ⊎ Checks bs status) whole h
-
--- What was linked links.
-pub linkable : (m : Syntax Ops) (link : Link) → IsLinked [] m link → IsLinkable [] m
-linkable m link h = record { imports = h.imports; main = link.main; loop = h.main; segments = h.segments }
-
-pub unlinked : (m : Syntax Ops) (why named : LinkFault) → HasNoFloat m → IsValid m → IsFault [] m why → why ≡ named → IsUnlinked m named
-unlinked m why named no_float valid refused is = (no_float, valid, subst (IsFault [] m) is refused)

@@ -4,3 +4,4 @@ pub mod WordsOrder
 pub mod RunsLists
 pub mod Checked
 pub mod WorldFaults
+pub mod Hosts

@@ -1,19 +1,21 @@
--- The worlds of a run, one after another.
-use Rattle.std.proofs.Common.{◌≡◌, ℕ, suc, ◌+◌, ◌≤◌, List, [], ◌∷◌, ◌++◌, length, take, Option, Some, None, refl, ap, sym, ◌∙◌, zero-add, arith, length-append}
+-- The steps of a run, one after another.
+use Rattle.std.proofs.Common.{◌≡◌, ℕ, suc, ◌+◌, ◌≤◌, List, [], ◌∷◌, ◌++◌, length, take, Option, Some, None, refl, ap, sym, subst, ◌∙◌, zero-add, arith}
 use Rattle.std.proofs.lemmas.List.{append-nil, length_push}
 use Rattle.std.proofs.lemmas.List.Concat.{flat_map-append}
 use Rattle.std.specs.List.{flat_map}
 use Rattle.std.specs.Io.KnownBytes.{Appends}
 use Rattle.object_store.specs.Stored.{Stored}
 use Rattle.world_io.specs.Disk.{LengthIs}
-use Rattle.world_io.specs.Told.{Gave, AppendsPrefix}
+use Rattle.world_io.specs.Told.{AppendsPrefix}
 use Rattle.world_io.proofs.Known.{appends_more}
-use Rattle.world_rules.specs.World.{world_of}
-use Rattle.world_rules.specs.Tick.{next_world}
 use Rattle.world_rules.proofs.Ticks.{next_world-tick}
-use Rattle.world_rules.specs.Sound.{IsSound}
-use Rattle.world_run.specs.Lines.{start_line, tick_line}
-use Rattle.world_run.specs.Runs.{Follow, frame, Fills, IsEmpty, Leaves, LeavesPart}
+use Rattle.world_rules.specs.Sound.{HaveSerials}
+use Rattle.world_rules.specs.World.{world_of}
+use Rattle.upload_stream.specs.Streams.{Upload}
+use Rattle.hosted_tick.specs.Hosting.{Held, IsHosted}
+use Rattle.world_run.specs.Steps.{Step}
+use Rattle.world_run.specs.Lines.{start_line, step_lines}
+use Rattle.world_run.specs.Runs.{Follow, IsStep, base_frame, step_frame, last_of, opened, Fills, IsEmpty, Leaves, LeavesPart}
 use Rattle.world_run.specs.Stages.{Grows, GrowsPart}
 
 -- ---- known bytes
@@ -33,17 +35,6 @@ pub appends_part : (a b c : Option (List ℕ)) (xs ys : List ℕ) → Appends a 
 appends_part a b c xs ys h k =
     (length xs + k.0, rw (← take_second xs ys k.0) (appends_more a b c xs (take k.0 ys) h k.1))
 
--- from nothing no byte is taken
-pub gave_none : (new : Option (List ℕ)) → Gave (Some []) new 1 → ⊥
-gave_none None h = absurd h.1
-gave_none (Some ys) h =
-    let e : length h.0 + length ys ≡ 0 = sym (length-append h.0 ys) ∙ sym (ap length h.1) in
-    let one : length h.0 ≡ 1 = h.2 in
-    omega (arith, e, one)
-
-pub gave_none_of : (old new : Option (List ℕ)) → old ≡ Some [] → Gave old new 1 → ⊥
-gave_none_of old new e h = gave_none new (rw e at h)
-
 pub is_empty : (disk : Option (List ℕ)) (len : ℕ) → LengthIs disk len → len ≤ 0 → IsEmpty disk
 is_empty None len h low = tt
 is_empty (Some []) len h low = refl
@@ -55,89 +46,91 @@ fills None new bytes e h = tt
 fills (Some old) None bytes e h = absurd h
 fills (Some old) (Some new) bytes e h = (e, ap Some (h ∙ ap (λ z. z ++ bytes) e))
 
--- ---- the worlds of a run
+-- ---- the steps of a run
 
--- the last world
-abbrev pub last_of : Stored → List Stored → Stored
-last_of first [] = first
-last_of first (next ∷ later) = last_of next later
+pub last_more : (first : Held) (steps : List Step) (step : Step) → last_of first (steps ++ step ∷ []) ≡ step.after
+last_more first [] step = refl
+last_more first (x ∷ steps) step = last_more x.after steps step
 
-pub last_more : (first : Stored) (later : List Stored) (next : Stored) → last_of first (later ++ next ∷ []) ≡ next
-last_more first [] next = refl
-last_more first (x ∷ later) next = last_more x later next
+pub follow_more : (stream : List Upload) (first : Held) (steps : List Step) (step : Step) → Follow stream first steps → HaveSerials (last_of first steps).world.rooms → IsStep stream (last_of first steps) step → IsHosted step.after.world → Follow stream first (steps ++ step ∷ [])
+follow_more stream first [] step h serials is hosted = (h, serials, is, hosted)
+follow_more stream first (x ∷ steps) step h serials is hosted = (h.0, h.1, h.2, follow_more stream x.after steps step h.3 serials is hosted)
 
-pub follow_more : (first : Stored) (later : List Stored) (next : Stored) → Follow first later → world_of next ≡ next_world (world_of (last_of first later)) → IsSound next → Follow first (later ++ next ∷ [])
-follow_more first [] next h e sound = (h, e, sound)
-follow_more first (x ∷ later) next h e sound = (h.0, h.1, follow_more x later next h.2 e sound)
-
-pub flat_more : (f : Stored → List ℕ) (later : List Stored) (next : Stored) → flat_map f later ++ f next ≡ flat_map f (later ++ next ∷ [])
-flat_more f later next = ap (λ z. flat_map f later ++ z) (sym (append-nil (f next))) ∙ sym (flat_map-append f later (next ∷ []))
+pub flat_more : (f : Step → List ℕ) (steps : List Step) (step : Step) → flat_map f steps ++ f step ≡ flat_map f (steps ++ step ∷ [])
+flat_more f steps step = ap (λ z. flat_map f steps ++ z) (sym (append-nil (f step))) ∙ sym (flat_map-append f steps (step ∷ []))
 
 -- So many ticks ran from the first world to the last.
-pub record Along (disk_old disk_new sink_old sink_new : Option (List ℕ)) (first : Stored) (count : ℕ) (last : Stored) : Type 0 where
-  pub later : List Stored
-  pub counted : length later ≡ count
-  pub grows : Grows disk_old disk_new sink_old sink_new first later
-  pub ended : last_of first later ≡ last
+pub record Along (disk_old disk_new sink_old sink_new : Option (List ℕ)) (stream : List Upload) (first : Held) (count : ℕ) (last : Held) : Type 0 where
+  pub steps : List Step
+  pub counted : length steps ≡ count
+  pub grows : Grows disk_old disk_new sink_old sink_new stream first steps
+  pub ended : last_of first steps ≡ last
 
-pub along_none : (disk sink : Option (List ℕ)) (first : Stored) → IsSound first → Along disk disk sink sink first 0 first
-along_none disk sink first sound = record {
-  later = [];
+pub along_none : (disk sink : Option (List ℕ)) (stream : List Upload) (first : Held) → IsHosted first.world → Along disk disk sink sink stream first 0 first
+along_none disk sink stream first hosted = record {
+  steps = [];
   counted = refl;
-  grows = record { follow = sound; frames = appends_nothing disk; lines = appends_nothing sink };
+  grows = record { follow = hosted; frames = appends_nothing disk; lines = appends_nothing sink };
   ended = refl;
 }
 
--- The next world follows the last one.
-follow_last : (first : Stored) (later : List Stored) (last next : Stored) → last_of first later ≡ last → world_of next ≡ next_world (world_of last) → world_of next ≡ next_world (world_of (last_of first later))
-follow_last first later last next e h = h ∙ ap (λ w. next_world (world_of w)) (sym e)
+-- A step behind the last one.
+pub record Further (stream : List Upload) (last : Held) (step : Step) : Type 0 where
+  pub serials : HaveSerials last.world.rooms
+  pub step_is : IsStep stream last step
+  pub hosted : IsHosted step.after.world
 
-pub along_more : (disk_old disk disk_new sink_old sink sink_new : Option (List ℕ)) (first : Stored) (count : ℕ) (last next : Stored) → Along disk_old disk sink_old sink first count last → world_of next ≡ next_world (world_of last) → IsSound next → Appends disk disk_new (frame next) → Appends sink sink_new (tick_line next) → Along disk_old disk_new sink_old sink_new first (count + 1) next
-along_more disk_old disk disk_new sink_old sink sink_new first count last next so_far rule sound bytes line = record {
-  later = so_far.later ++ next ∷ [];
-  counted = length_push so_far.later next ∙ ap (λ n. n + 1) so_far.counted;
+follow_last : (stream : List Upload) (first : Held) (steps : List Step) (last : Held) (step : Step) → Follow stream first steps → last_of first steps ≡ last → Further stream last step → Follow stream first (steps ++ step ∷ [])
+follow_last stream first steps last step h e more =
+    let there : Further stream (last_of first steps) step = subst (λ (held : Held). Further stream held step) (sym e) more in
+    follow_more stream first steps step h there.serials there.step_is there.hosted
+
+pub along_more : (disk_old disk disk_new sink_old sink sink_new : Option (List ℕ)) (stream : List Upload) (first : Held) (count : ℕ) (last : Held) (step : Step) → Along disk_old disk sink_old sink stream first count last → Further stream last step → Appends disk disk_new (step_frame step) → Appends sink sink_new (step_lines step) → Along disk_old disk_new sink_old sink_new stream first (count + 1) step.after
+along_more disk_old disk disk_new sink_old sink sink_new stream first count last step so_far more bytes line = record {
+  steps = so_far.steps ++ step ∷ [];
+  counted = length_push so_far.steps step ∙ ap (λ n. n + 1) so_far.counted;
   grows = record {
-    follow = follow_more first so_far.later next so_far.grows.follow (follow_last first so_far.later last next so_far.ended rule) sound;
-    frames = rw (← flat_more frame so_far.later next) (appends_more disk_old disk disk_new (flat_map frame so_far.later) (frame next) so_far.grows.frames bytes);
-    lines = rw (← flat_more tick_line so_far.later next) (appends_more sink_old sink sink_new (flat_map tick_line so_far.later) (tick_line next) so_far.grows.lines line);
+    follow = follow_last stream first so_far.steps last step so_far.grows.follow so_far.ended more;
+    frames = rw (← flat_more step_frame so_far.steps step) (appends_more disk_old disk disk_new (flat_map step_frame so_far.steps) (step_frame step) so_far.grows.frames bytes);
+    lines = rw (← flat_more step_lines so_far.steps step) (appends_more sink_old sink sink_new (flat_map step_lines so_far.steps) (step_lines step) so_far.grows.lines line);
   };
-  ended = last_more first so_far.later next;
+  ended = last_more first so_far.steps step;
 }
 
-pub along_part : (disk_old disk disk_new sink_old sink sink_new : Option (List ℕ)) (first : Stored) (count : ℕ) (last next : Stored) → Along disk_old disk sink_old sink first count last → world_of next ≡ next_world (world_of last) → IsSound next → Appends disk disk_new (frame next) → AppendsPrefix sink sink_new (tick_line next) → (later : List Stored) × (length later ≡ count + 1) × GrowsPart disk_old disk_new sink_old sink_new first later
-along_part disk_old disk disk_new sink_old sink sink_new first count last next so_far rule sound bytes line = (
-  so_far.later ++ next ∷ [],
-  length_push so_far.later next ∙ ap (λ n. n + 1) so_far.counted,
+pub along_part : (disk_old disk disk_new sink_old sink sink_new : Option (List ℕ)) (stream : List Upload) (first : Held) (count : ℕ) (last : Held) (step : Step) → Along disk_old disk sink_old sink stream first count last → Further stream last step → Appends disk disk_new (step_frame step) → AppendsPrefix sink sink_new (step_lines step) → (steps : List Step) × (length steps ≡ count + 1) × GrowsPart disk_old disk_new sink_old sink_new stream first steps
+along_part disk_old disk disk_new sink_old sink sink_new stream first count last step so_far more bytes line = (
+  so_far.steps ++ step ∷ [],
+  length_push so_far.steps step ∙ ap (λ n. n + 1) so_far.counted,
   record {
-    follow = follow_more first so_far.later next so_far.grows.follow (follow_last first so_far.later last next so_far.ended rule) sound;
-    frames = rw (← flat_more frame so_far.later next) (appends_more disk_old disk disk_new (flat_map frame so_far.later) (frame next) so_far.grows.frames bytes);
-    lines = rw (← flat_more tick_line so_far.later next) (appends_part sink_old sink sink_new (flat_map tick_line so_far.later) (tick_line next) so_far.grows.lines line);
+    follow = follow_last stream first so_far.steps last step so_far.grows.follow so_far.ended more;
+    frames = rw (← flat_more step_frame so_far.steps step) (appends_more disk_old disk disk_new (flat_map step_frame so_far.steps) (step_frame step) so_far.grows.frames bytes);
+    lines = rw (← flat_more step_lines so_far.steps step) (appends_part sink_old sink sink_new (flat_map step_lines so_far.steps) (step_lines step) so_far.grows.lines line);
   },
 )
 
-pub tick_rises : (world next : Stored) → world_of next ≡ next_world (world_of world) → next.tick ≡ world.tick + 1
-tick_rises world next e = ap (λ w. w.tick) e ∙ next_world-tick (world_of world)
+pub tick_rises : (stream : List Upload) (before : Held) (step : Step) → IsStep stream before step → step.after.world.tick ≡ before.world.tick + 1
+tick_rises stream before step is = ap (λ w. w.tick) is.ruled ∙ next_world-tick (world_of before.world) step.runs
 
 -- ---- a run from an empty disk
 
-pub leaves : (disk_old disk disk_new sink_old sink sink_new : Option (List ℕ)) (first : Stored) (later : List Stored) → IsEmpty disk_old → Appends disk_old disk (frame first) → Appends sink_old sink (start_line first) → Grows disk disk_new sink sink_new first later → Leaves disk_old disk_new sink_old sink_new first later
-leaves disk_old disk disk_new sink_old sink sink_new first later empty bytes line grows = record {
+pub leaves : (disk_old disk disk_new sink_old sink sink_new : Option (List ℕ)) (stream : List Upload) (first : Stored) (steps : List Step) → IsEmpty disk_old → Appends disk_old disk (base_frame first) → Appends sink_old sink (start_line first) → Grows disk disk_new sink sink_new stream (opened first) steps → Leaves disk_old disk_new sink_old sink_new stream first steps
+leaves disk_old disk disk_new sink_old sink sink_new stream first steps empty bytes line grows = record {
   follow = grows.follow;
-  journal_is = fills disk_old disk_new _ empty (appends_more disk_old disk disk_new (frame first) (flat_map frame later) bytes grows.frames);
-  output_is = appends_more sink_old sink sink_new (start_line first) (flat_map tick_line later) line grows.lines;
+  journal_is = fills disk_old disk_new _ empty (appends_more disk_old disk disk_new (base_frame first) (flat_map step_frame steps) bytes grows.frames);
+  output_is = appends_more sink_old sink sink_new (start_line first) (flat_map step_lines steps) line grows.lines;
 }
 
-pub leaves_part : (disk_old disk disk_new sink_old sink sink_new : Option (List ℕ)) (first : Stored) (later : List Stored) → IsEmpty disk_old → Appends disk_old disk (frame first) → Appends sink_old sink (start_line first) → GrowsPart disk disk_new sink sink_new first later → LeavesPart disk_old disk_new sink_old sink_new first later
-leaves_part disk_old disk disk_new sink_old sink sink_new first later empty bytes line grows = record {
+pub leaves_part : (disk_old disk disk_new sink_old sink sink_new : Option (List ℕ)) (stream : List Upload) (first : Stored) (steps : List Step) → IsEmpty disk_old → Appends disk_old disk (base_frame first) → Appends sink_old sink (start_line first) → GrowsPart disk disk_new sink sink_new stream (opened first) steps → LeavesPart disk_old disk_new sink_old sink_new stream first steps
+leaves_part disk_old disk disk_new sink_old sink sink_new stream first steps empty bytes line grows = record {
   follow = grows.follow;
-  journal_is = fills disk_old disk_new _ empty (appends_more disk_old disk disk_new (frame first) (flat_map frame later) bytes grows.frames);
-  output_is = appends_part sink_old sink sink_new (start_line first) (flat_map tick_line later) line grows.lines;
+  journal_is = fills disk_old disk_new _ empty (appends_more disk_old disk disk_new (base_frame first) (flat_map step_frame steps) bytes grows.frames);
+  output_is = appends_part sink_old sink sink_new (start_line first) (flat_map step_lines steps) line grows.lines;
 }
 
 -- The opening line was cut off.
-pub leaves_start : (disk_old disk_new sink_old sink_new : Option (List ℕ)) (first : Stored) → IsSound first → IsEmpty disk_old → Appends disk_old disk_new (frame first) → AppendsPrefix sink_old sink_new (start_line first) → LeavesPart disk_old disk_new sink_old sink_new first []
-leaves_start disk_old disk_new sink_old sink_new first sound empty bytes line = record {
-  follow = sound;
-  journal_is = rw append-nil (fills disk_old disk_new (frame first) empty bytes);
+pub leaves_start : (disk_old disk_new sink_old sink_new : Option (List ℕ)) (stream : List Upload) (first : Stored) → IsHosted first → IsEmpty disk_old → Appends disk_old disk_new (base_frame first) → AppendsPrefix sink_old sink_new (start_line first) → LeavesPart disk_old disk_new sink_old sink_new stream first []
+leaves_start disk_old disk_new sink_old sink_new stream first hosted empty bytes line = record {
+  follow = hosted;
+  journal_is = rw append-nil (fills disk_old disk_new (base_frame first) empty bytes);
   output_is = rw append-nil line;
 }

@@ -1,45 +1,19 @@
 -- What a check of a module answers.
 use Rattle.std.specs.Prelude.{◌≡◌, ℕ, ◌+◌, ◌^◌, ◌⊎◌, List, [], Option, codes}
-use Rattle.wasm_module.specs.Syntax.{Ops}
-use Rattle.wasm_module.specs.Sections.{Syntax, Spells}
-use Rattle.wasm_module.specs.Limits.{WithinBytes, IsWithin, IsTooLarge}
-use Rattle.wasm_module.specs.declared.module.Limit.{Limit}
-use Rattle.wasm_link.specs.Linking.{IsFault, IsLinkable}
-use Rattle.wasm_link.specs.declared.fault.LinkFault.{LinkFault}
-use Rattle.wasm_link.specs.declared.fault.LinkFault.TheVariants as fault
-use Rattle.wasm_validate.specs.Floats.{HasNoFloat}
-use Rattle.wasm_validate.specs.Modules.{IsValid}
 use Rattle.world_io.specs.Told.{GaveAll, Gave}
-use Rattle.world_run.specs.declared.status.Refusal.TheVariants as refusals
+use Rattle.intent_book.specs.declared.refusal.Refusal.TheVariants as refusals
+use Rattle.player_run.specs.Admission.{IsAccepted, IsRefused}
 use Rattle.world_run.specs.declared.status.Status.{Status}
 use Rattle.world_run.specs.declared.status.Status.TheVariants as statuses
 
 -- ---- the answer
 
--- It has no float and is valid, and this is why it is not linked where a host offers no calls.
-abbrev pub IsUnlinked : Syntax Ops → LinkFault → Type 0
-IsUnlinked m why = HasNoFloat m × IsValid m × IsFault [] m why
-
--- The answer that a module calls for: a float stands in it; or none does, and it is not valid; or it is, and links where a host offers no calls, or not.
-abbrev pub Judged : Syntax Ops → Status → Type 0
-Judged m statuses.Done = HasNoFloat m × IsValid m × IsLinkable [] m
-Judged m (statuses.Refused refusals.FloatRefused) = HasNoFloat m → ⊥
-Judged m (statuses.Refused refusals.Invalid) = HasNoFloat m × (IsValid m → ⊥)
-Judged m (statuses.Refused refusals.UnknownImport) = (place : ℕ) × IsUnlinked m (fault.UnknownImport place)
-Judged m (statuses.Refused refusals.ImportKind) = (place : ℕ) × IsUnlinked m (fault.ImportKind place)
-Judged m (statuses.Refused refusals.NoLoop) = IsUnlinked m fault.NoLoop
-Judged m (statuses.Refused refusals.Segment) = (place : ℕ) × IsUnlinked m (fault.Segment place)
-Judged m status = ⊥
-
--- These bytes spell this module, which is within the limits.
-abbrev pub SpellsWithin : List ℕ → Syntax Ops → Type 0
-SpellsWithin bytes m = Spells bytes m × WithinBytes bytes × IsWithin m
-
--- The answer that these bytes call for: they spell none, they pass a limit, or they spell a module within the limits that calls for it.
+-- The answer that these bytes call for: they are a module that a player may have, or they are refused.
 abbrev pub Checks : List ℕ → Status → Type 0
-Checks bytes (statuses.Refused refusals.Malformed) = WithinBytes bytes × ((m : Syntax Ops) → Spells bytes m → ⊥)
-Checks bytes (statuses.Refused refusals.TooLarge) = (limit : Limit) × IsTooLarge bytes limit
-Checks bytes status = (m : Syntax Ops) × SpellsWithin bytes m × Judged m status
+Checks bytes statuses.Done = IsAccepted bytes
+Checks bytes (statuses.Refused refusals.Memory) = ⊥
+Checks bytes (statuses.Refused refusal) = IsRefused bytes refusal
+Checks bytes status = ⊥
 
 -- The line that is printed for an answer, and nothing for any other status.
 abbrev pub answer_line : Status → List ℕ

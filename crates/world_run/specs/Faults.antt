@@ -8,8 +8,8 @@ use Rattle.world_form.specs.declared.field.Field.{Field}
 use Rattle.world_form.specs.declared.field.Field.TheVariants as fields
 use Rattle.world_form.specs.declared.fault.WorldFault.{WorldFault}
 use Rattle.world_form.specs.declared.fault.WorldFault.TheVariants as faults
-use Rattle.world_run.specs.declared.status.Refusal.{Refusal}
-use Rattle.world_run.specs.declared.status.Refusal.TheVariants as refusals
+use Rattle.intent_book.specs.declared.refusal.Refusal.{Refusal}
+use Rattle.intent_book.specs.declared.refusal.Refusal.TheVariants as refusals
 use Rattle.world_run.specs.declared.status.Status.{Status}
 use Rattle.world_run.specs.declared.status.Status.TheVariants as statuses
 
@@ -87,14 +87,17 @@ world_fault_text (faults.Rule rule n) = codes "Rule " ++ rule_name rule ++ and_n
 world_fault_text faults.Memory = codes "Memory"
 
 abbrev pub refusal_name : Refusal → List ℕ
-refusal_name refusals.Malformed = codes "Malformed"
+refusal_name refusals.UnknownPlayer = codes "UnknownPlayer"
+refusal_name refusals.WrongToken = codes "WrongToken"
 refusal_name refusals.TooLarge = codes "TooLarge"
+refusal_name refusals.Malformed = codes "Malformed"
 refusal_name refusals.FloatRefused = codes "FloatRefused"
 refusal_name refusals.Invalid = codes "Invalid"
 refusal_name refusals.UnknownImport = codes "UnknownImport"
 refusal_name refusals.ImportKind = codes "ImportKind"
 refusal_name refusals.NoLoop = codes "NoLoop"
 refusal_name refusals.Segment = codes "Segment"
+refusal_name refusals.Memory = codes "Memory"
 
 abbrev pub status_number : Status → ℕ
 status_number statuses.Done = 0
@@ -105,6 +108,7 @@ status_number statuses.ReadFault = 5
 status_number statuses.WriteFault = 6
 status_number statuses.DiskFault = 7
 status_number (statuses.NotAJournal at) = 8
+status_number (statuses.IdsExhausted index) = 10
 status_number statuses.Memory = 11
 status_number (statuses.Refused refusal) = 12
 
@@ -117,6 +121,7 @@ status_text statuses.ReadFault = codes "ReadFault"
 status_text statuses.WriteFault = codes "WriteFault"
 status_text statuses.DiskFault = codes "DiskFault"
 status_text (statuses.NotAJournal at) = codes "NotAJournal" ++ and_number at
+status_text (statuses.IdsExhausted index) = codes "IdsExhausted" ++ and_number index
 status_text statuses.Memory = codes "Memory"
 status_text (statuses.Refused refusal) = codes "Refused " ++ refusal_name refusal
 

@@ -1,5 +1,6 @@
 pub mod Words
 pub mod Commands
+pub mod Steps
 pub mod Lines
 pub mod Faults
 pub mod Runs

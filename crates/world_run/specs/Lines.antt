@@ -1,8 +1,14 @@
 -- The lines that a run prints.
-use Rattle.std.specs.Prelude.{ℕ, List, ◌++◌, length, decimal, codes}
-use Rattle.std.specs.List.{sum_by}
+use Rattle.std.specs.Prelude.{ℕ, List, [], ◌++◌, ◌==◌, if◌then◌else◌, length, decimal, codes}
+use Rattle.std.specs.List.{flat_map, sum_by}
 use Rattle.object_store.specs.Stored.{Stored}
+use Rattle.intent_book.specs.declared.player_run.PlayerRun.{PlayerRun}
+use Rattle.intent_book.specs.declared.player_run.RunOutcome.{RunOutcome}
+use Rattle.intent_book.specs.declared.player_run.RunOutcome.TheVariants.{Finished, Trapped, Spent}
+use Rattle.world_rules.specs.Tick.{intents_of}
 use Rattle.world_rules.specs.World.{placed, listing_of}
+use Rattle.tick_journal.specs.declared.entries.UploadEntry.{UploadEntry}
+use Rattle.world_run.specs.Steps.{Step}
 
 -- the number of objects of a world
 abbrev pub object_count : Stored → ℕ
@@ -20,9 +26,44 @@ start_line world =
     ++ codes " objects " ++ decimal (object_count world)
     ++ codes " players " ++ decimal (length world.accounts) ++ codes "\n"
 
--- after a tick, with the numbers of the new world; no intent is recorded yet
-unfoldable pub tick_line : Stored → List ℕ
-tick_line world =
+-- the result of an upload, by its number
+unfoldable pub result_text : ℕ → List ℕ
+result_text number =
+    if number == 0 then codes "accepted"
+    else if number == 1 then codes "refused UnknownPlayer"
+    else if number == 2 then codes "refused WrongToken"
+    else if number == 3 then codes "refused TooLarge"
+    else if number == 4 then codes "refused Malformed"
+    else if number == 5 then codes "refused FloatRefused"
+    else if number == 6 then codes "refused Invalid"
+    else if number == 7 then codes "refused UnknownImport"
+    else if number == 8 then codes "refused ImportKind"
+    else if number == 9 then codes "refused NoLoop"
+    else if number == 10 then codes "refused Segment"
+    else []
+
+-- for each upload of a tick
+unfoldable pub upload_line : UploadEntry → List ℕ
+upload_line entry = codes "upload player " ++ decimal entry.player ++ codes " " ++ result_text entry.result_number ++ codes "\n"
+
+-- how a run ended
+unfoldable pub outcome_text : RunOutcome → List ℕ
+outcome_text Finished = codes "finished"
+outcome_text (Trapped trap) = codes "trapped"
+outcome_text Spent = codes "spent"
+
+-- for each run of a tick, with the instructions that it used
+unfoldable pub run_line : PlayerRun → List ℕ
+run_line run = codes "player " ++ decimal run.player ++ codes " " ++ outcome_text run.outcome ++ codes " " ++ decimal run.used ++ codes "\n"
+
+-- after a tick, with the numbers of the new world and of the intents that were recorded
+unfoldable pub tick_line : Stored → ℕ → List ℕ
+tick_line world intents =
     codes "tick " ++ decimal world.tick
     ++ codes " objects " ++ decimal (object_count world)
-    ++ codes " intents 0 energy " ++ decimal (total_energy world) ++ codes "\n"
+    ++ codes " intents " ++ decimal intents
+    ++ codes " energy " ++ decimal (total_energy world) ++ codes "\n"
+
+-- all lines of a tick
+abbrev pub step_lines : Step → List ℕ
+step_lines step = flat_map upload_line step.uploads ++ flat_map run_line step.runs ++ tick_line step.after.world (length (intents_of step.runs))

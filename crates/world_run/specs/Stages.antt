@@ -2,12 +2,14 @@
 use Rattle.std.specs.Prelude.{ℕ, List, Option}
 use Rattle.std.specs.List.{flat_map}
 use Rattle.std.specs.Io.KnownBytes.{Appends}
-use Rattle.object_store.specs.Stored.{Stored}
+use Rattle.upload_stream.specs.Streams.{Upload}
+use Rattle.hosted_tick.specs.Hosting.{Held}
 use Rattle.world_form.specs.declared.fault.WorldFault.{WorldFault}
 use Rattle.world_form.specs.declared.fault.WorldFault.TheVariants as faults
 use Rattle.world_io.specs.Told.{AppendsPrefix}
-use Rattle.world_run.specs.Lines.{tick_line}
-use Rattle.world_run.specs.Runs.{Follow, frame}
+use Rattle.world_run.specs.Steps.{Step}
+use Rattle.world_run.specs.Lines.{step_lines}
+use Rattle.world_run.specs.Runs.{Follow, step_frame}
 use Rattle.world_run.specs.declared.status.Status.{Status}
 use Rattle.world_run.specs.declared.status.Status.TheVariants as statuses
 
@@ -51,8 +53,16 @@ IsOfRecord statuses.DiskFault = Unit {0}
 IsOfRecord statuses.WriteFault = Unit {0}
 IsOfRecord status = ⊥
 
+-- The recording of the opening world can end a run so.
+abbrev pub IsOfStart : Status → Type 0
+IsOfStart statuses.DiskFault = Unit {0}
+IsOfStart statuses.WriteFault = Unit {0}
+IsOfStart statuses.Memory = Unit {0}
+IsOfStart status = ⊥
+
 -- A tick can end a run so.
 abbrev pub IsOfTick : Status → Type 0
+IsOfTick (statuses.IdsExhausted index) = Unit {0}
 IsOfTick statuses.DiskFault = Unit {0}
 IsOfTick statuses.WriteFault = Unit {0}
 IsOfTick statuses.Memory = Unit {0}
@@ -68,19 +78,19 @@ abbrev pub IsOfJournal : Status → Type 0
 IsOfJournal (statuses.NotAJournal at) = Unit {0}
 IsOfJournal status = IsOfTicks status
 
--- Each world is what a tick without players makes of the one before; their frames came to the disk, and their lines to the sink.
-pub record Grows (disk_old disk_new sink_old sink_new : Option (List ℕ)) (first : Stored) (later : List Stored) : Type 0 where
-  pub follow : Follow first later
-  pub frames : Appends disk_old disk_new (flat_map frame later)
-  pub lines : Appends sink_old sink_new (flat_map tick_line later)
+-- Each step is the tick after the world before it; their frames came to the disk, and their lines to the sink.
+pub record Grows (disk_old disk_new sink_old sink_new : Option (List ℕ)) (stream : List Upload) (first : Held) (steps : List Step) : Type 0 where
+  pub follow : Follow stream first steps
+  pub frames : Appends disk_old disk_new (flat_map step_frame steps)
+  pub lines : Appends sink_old sink_new (flat_map step_lines steps)
 
 -- The same, but that only a part of the lines came to the sink.
-pub record GrowsPart (disk_old disk_new sink_old sink_new : Option (List ℕ)) (first : Stored) (later : List Stored) : Type 0 where
-  pub follow : Follow first later
-  pub frames : Appends disk_old disk_new (flat_map frame later)
-  pub lines : AppendsPrefix sink_old sink_new (flat_map tick_line later)
+pub record GrowsPart (disk_old disk_new sink_old sink_new : Option (List ℕ)) (stream : List Upload) (first : Held) (steps : List Step) : Type 0 where
+  pub follow : Follow stream first steps
+  pub frames : Appends disk_old disk_new (flat_map step_frame steps)
+  pub lines : AppendsPrefix sink_old sink_new (flat_map step_lines steps)
 
 -- The same, but that nothing is said of the disk.
-pub record GrowsLines (sink_old sink_new : Option (List ℕ)) (first : Stored) (later : List Stored) : Type 0 where
-  pub follow : Follow first later
-  pub lines : Appends sink_old sink_new (flat_map tick_line later)
+pub record GrowsLines (sink_old sink_new : Option (List ℕ)) (stream : List Upload) (first : Held) (steps : List Step) : Type 0 where
+  pub follow : Follow stream first steps
+  pub lines : Appends sink_old sink_new (flat_map step_lines steps)

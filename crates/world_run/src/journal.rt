@@ -1,22 +1,19 @@
-// The plain journal: a frame for each world.
+// The frames of the journal on the disk.
 ghost use Rattle.std.specs.Prelude.{◌≡◌, ◌≤◌, ℕ, IfOk, OnOk};
 ghost use Rattle.std.specs.Io.KnownBytes.{Appends};
 ghost use Rattle.world_io.specs.Causes.{HasCause};
 ghost use Rattle.world_io.specs.Disk.{LengthIs};
 ghost use Rattle.world_run.specs.Runs.{frame};
 
-use object_store::World;
 use std::alloc::{AllocError, Global};
 use world_io::{Disk, Failed};
-use world_text::write_world;
 
-/// The frame of a world: its text behind the text's length.
-pub(crate) fn frame_of(alloc: Global, world: &World) -> Result<Vec<u8>, AllocError>
-    ensures { IfOk result (λ bytes. bytes.items ≡ frame world.now) }
+/// The frame of a content: the content behind its length.
+pub(crate) fn frame_of(alloc: Global, content: &[u8]) -> Result<Vec<u8>, AllocError>
+    ensures { IfOk result (λ bytes. bytes.items ≡ frame content.now) }
 {
-    let text = write_world(alloc, world)?;
-    let mut bytes = Vec::from_slice(alloc, &(text.len() as u64).to_le_bytes())?;
-    bytes.extend_from_slice(&text)?;
+    let mut bytes = Vec::from_slice(alloc, &(content.len() as u64).to_le_bytes())?;
+    bytes.extend_from_slice(content)?;
     Ok(bytes)
 }
 

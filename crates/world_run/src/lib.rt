@@ -1,15 +1,18 @@
 // The commands of the program, from the bytes of their inputs to the bytes that they write.
 #![tactic(auto)]
 
+mod inputs;
 mod journal;
 mod lines;
 mod run;
 mod status;
+mod ticks;
 mod tool;
 mod words;
 
+pub use player_run::Refusal;
 pub use run::run_alone;
-pub use status::{Refusal, Status};
+pub use status::Status;
 pub use std::alloc::AllocError as NoMemory;
 pub use tool::tool_main;
 pub use words::{Command, WordsFault, read_words};

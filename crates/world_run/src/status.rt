@@ -3,30 +3,10 @@ ghost use Rattle.std.specs.Prelude.{◌≡◌, string_bytes, IfOk};
 ghost use Rattle.world_run.specs.Faults.{field_name, kind_name, rule_name, refusal_name, world_fault_text, status_number, status_text, fault_text};
 
 use game_tables::Kind;
+use player_run::Refusal;
 use std::alloc::{AllocError, Global};
 use world_rules::Rule;
 use world_text::{Field, WorldFault};
-
-/// Why a module is refused.
-#[derive(Clone, Copy, Debug, PartialEq, Eq)]
-pub enum Refusal {
-    /// The bytes spell no module.
-    Malformed,
-    /// They pass a limit.
-    TooLarge,
-    /// A float type or an instruction on floats stands in the module.
-    FloatRefused,
-    /// The module has no typing.
-    Invalid,
-    /// An import names no call of the host.
-    UnknownImport,
-    /// An import names a call of the host, and is no function, or one of another type.
-    ImportKind,
-    /// No function of no parameters and no result is exported as `loop`.
-    NoLoop,
-    /// A segment passes the end of the table or the memory.
-    Segment,
-}
 
 /// How a call of the program ends, with its exit status.
 #[derive(Clone, Copy, Debug, PartialEq, Eq)]
@@ -47,6 +27,8 @@ pub enum Status {
     DiskFault,
     /// 8: the journal is refused, at this place.
     NotAJournal(u64),
+    /// 10: the room of this index has too few serials left for a tick.
+    IdsExhausted(u32),
     /// 11: there is not enough memory.
     Memory,
     /// 12: the module is refused.
@@ -67,6 +49,7 @@ impl Status {
             Status::WriteFault => 6,
             Status::DiskFault => 7,
             Status::NotAJournal(_) => 8,
+            Status::IdsExhausted(_) => 10,
             Status::Memory => 11,
             Status::Refused(_) => 12,
         }
@@ -98,6 +81,7 @@ impl Status {
             Status::WriteFault => String::from_str(alloc, "WriteFault"),
             Status::DiskFault => String::from_str(alloc, "DiskFault"),
             Status::NotAJournal(place) => format!(in alloc; "NotAJournal {place}"),
+            Status::IdsExhausted(index) => format!(in alloc; "IdsExhausted {index}"),
             Status::Memory => String::from_str(alloc, "Memory"),
             Status::Refused(refusal) => {
                 let name = name_of_refusal(refusal);
@@ -216,13 +200,16 @@ fn name_of_refusal(refusal: Refusal) -> &'static str
     ensures { result.now ≡ refusal_name refusal }
 {
     match refusal {
-        Refusal::Malformed => "Malformed",
+        Refusal::UnknownPlayer => "UnknownPlayer",
+        Refusal::WrongToken => "WrongToken",
         Refusal::TooLarge => "TooLarge",
+        Refusal::Malformed => "Malformed",
         Refusal::FloatRefused => "FloatRefused",
         Refusal::Invalid => "Invalid",
         Refusal::UnknownImport => "UnknownImport",
         Refusal::ImportKind => "ImportKind",
         Refusal::NoLoop => "NoLoop",
         Refusal::Segment => "Segment",
+        Refusal::Memory => "Memory",
     }
 }

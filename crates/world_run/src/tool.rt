@@ -3,22 +3,16 @@ ghost use Rattle.std.specs.Prelude.{◌≡◌, ◌≢◌, ◌⊎◌, ℕ, ◌≤
 ghost use Rattle.std.specs.Io.KnownBytes.{Appends};
 ghost use Rattle.world_io.specs.Causes.{Rose};
 ghost use Rattle.world_io.specs.Told.{AppendsPrefix};
-ghost use Rattle.wasm_module.specs.Limits.{WithinBytes, IsWithin};
-ghost use Rattle.wasm_module.specs.Sections.{Spells, module_view};
-ghost use Rattle.wasm_validate.specs.Floats.{HasNoFloat};
-ghost use Rattle.wasm_validate.specs.Modules.{IsValid};
-ghost use Rattle.world_run.specs.Checks.{Checks, Judged, answer_line, ReadsAnswer, IsAnswer, IsBeforeLine, IsOfCheck, IsOfReading};
+ghost use Rattle.world_run.specs.Checks.{Checks, answer_line, ReadsAnswer, IsAnswer, IsBeforeLine, IsOfCheck, IsOfReading};
 ghost use Rattle.world_run.specs.Runs.{IsPastWords};
 ghost use Rattle.world_run.specs.Stages.{IsOfWords};
 ghost use Rattle.world_run.specs.Words.{AreCheck};
 ghost use Rattle.world_run.specs.declared.status.Status.{Status as StatusView};
 
-use crate::status::{Refusal, Status};
+use crate::status::Status;
 use crate::words::{Command, WordsFault, read_words};
+use player_run::{Refusal, admit};
 use std::alloc::Global;
-use wasm_link::{LinkFault, link};
-use wasm_module::{DecodeFault, Module, decode};
-use wasm_validate::{Valid, ValidFault, validate};
 use world_io::{Disk, ReadStop, Sink, Source, read_all, write_all};
 
 /// The most bytes of a module, 1 MiB.
@@ -27,8 +21,8 @@ const MOST_BYTES: u64 = 1_048_576;
 /// Runs a command that only reads: so far `check MODULE`.
 ///
 /// The module is read to its end, or to one byte past 1 MiB. What is printed is one line: `accepted`
-/// where the bytes spell a valid module without floats, within the limits, that links where a host
-/// offers no calls, and else `refused` and why. The disk is left as it is.
+/// where the bytes spell a valid module without floats, within the limits, that links to the host
+/// calls, and else `refused` and why. The disk is left as it is.
 pub fn tool_main<S: Source, O: Sink, D: Disk>(
     alloc: Global,
     words: &[String],
@@ -117,43 +111,10 @@ fn answer<S: Source>(alloc: Global, input: &mut S) -> Status
 fn verdict(alloc: Global, bytes: &[u8]) -> Status
     ensures { (result ≡ Status.Memory) ⊎ Checks bytes.now result }
 {
-    match decode(alloc, bytes) {
-        Ok(found) => judge(alloc, found),
-        Err(DecodeFault::Malformed) => Status::Refused(Refusal::Malformed),
-        Err(DecodeFault::TooLarge(_)) => Status::Refused(Refusal::TooLarge),
-        Err(DecodeFault::Memory) => Status::Memory,
-    }
-}
-
-// What a module calls for.
-fn judge(alloc: Global, found: Module) -> Status
-    requires spelled { (bytes : List ℕ) × WithinBytes bytes × Spells bytes (module_view found) }
-    requires within { IsWithin (module_view found) }
-    ensures { (result ≡ Status.Memory) ⊎ Judged (module_view found) result }
-{
-    match validate(alloc, found) {
-        Ok(valid) => judge_links(alloc, valid),
-        Err(ValidFault::FloatRefused(_)) => Status::Refused(Refusal::FloatRefused),
-        Err(ValidFault::Invalid(_)) => Status::Refused(Refusal::Invalid),
-        Err(ValidFault::Memory(_)) => Status::Memory,
-    }
-}
-
-// What a valid module calls for: no host offers it a call.
-fn judge_links(alloc: Global, valid: Valid) -> Status
-    requires spelled { (bytes : List ℕ) × WithinBytes bytes × Spells bytes (module_view valid) }
-    requires within { IsWithin (module_view valid) }
-    requires no_float { HasNoFloat (module_view valid) }
-    requires valid { IsValid (module_view valid) }
-    ensures { (result ≡ Status.Memory) ⊎ Judged (module_view valid) result }
-{
-    match link(alloc, valid, &[]) {
+    match admit(alloc, bytes) {
         Ok(_) => Status::Done,
-        Err(LinkFault::UnknownImport(_)) => Status::Refused(Refusal::UnknownImport),
-        Err(LinkFault::ImportKind(_)) => Status::Refused(Refusal::ImportKind),
-        Err(LinkFault::NoLoop) => Status::Refused(Refusal::NoLoop),
-        Err(LinkFault::Segment(_)) => Status::Refused(Refusal::Segment),
-        Err(LinkFault::Memory) => Status::Memory,
+        Err(Refusal::Memory) => Status::Memory,
+        Err(refusal) => Status::Refused(refusal),
     }
 }
 

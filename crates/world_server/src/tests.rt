@@ -15,38 +15,24 @@ fn words_of(alloc: Global, texts: &[&str]) -> Result<Vec<String>, AllocError> {
     Ok(words)
 }
 
-// The text of a world of one room with a source and a pile, as it is written.
-fn world_text(
-    alloc: Global,
-    tick: u64,
-    source: u64,
-    timer: u64,
-    pile: u64,
-) -> Result<String, AllocError> {
+// The text of a world of one room with a source that is renewed now and a pile.
+fn world_text(alloc: Global) -> Result<String, AllocError> {
     let mut terrain = String::new(alloc);
     for tile in 0..2500u32 {
         let is_corner = tile == 0 || tile == 49 || tile == 2450 || tile == 2499;
         terrain.push_str(if is_corner { "1" } else { "0" })?;
     }
-    let fields = "\"other\":0,\"other_ticks\":0,\"owner\":0,\"progress\":0,";
     format!(in alloc;
-        "{{\"players\":[],\"rooms\":[{{\"name\":\"E0S0\",\"next\":3,\"objects\":[\
-        {{\"body\":[],\"energy\":{source},\"extra\":0,\"hits\":0,\"id\":1,\"kind\":\"source\",{fields}\"timer\":{timer},\"x\":10,\"y\":10}},\
-        {{\"body\":[],\"energy\":{pile},\"extra\":0,\"hits\":0,\"id\":2,\"kind\":\"pile\",{fields}\"timer\":0,\"x\":20,\"y\":20}}\
-        ],\"terrain\":\"{terrain}\"}}],\"tick\":{tick},\"version\":1}}"
+        "{{\"version\":1,\"tick\":0,\"rooms\":[{{\"name\":\"E0S0\",\"terrain\":\"{terrain}\",\"next\":3,\"objects\":[\
+        {{\"id\":1,\"kind\":\"source\",\"x\":10,\"y\":10,\"timer\":1}},\
+        {{\"id\":2,\"kind\":\"pile\",\"x\":20,\"y\":20,\"energy\":1001}}]}}]}}"
     )
-}
-
-fn push_frame(journal: &mut Vec<u8>, text: &str) -> Result<(), AllocError> {
-    journal.extend_from_slice(&(text.len() as u64).to_le_bytes())?;
-    Ok(journal.extend_from_slice(text.as_bytes())?)
 }
 
 #[test]
 fn a_run_takes_its_files_and_makes_the_journal(rt: HostRuntime) -> Result<(), Fail> {
     let alloc = rt.alloc();
-    let first = world_text(alloc, 0, 0, 1, 1001)?;
-    fs::write(&rt, "run_world.json", first.as_str())?;
+    fs::write(&rt, "run_world.json", world_text(alloc)?.as_str())?;
     fs::write(&rt, "run_uploads.bin", b"")?;
     let words = [
         "run",
@@ -58,10 +44,10 @@ fn a_run_takes_its_files_and_makes_the_journal(rt: HostRuntime) -> Result<(), Fa
     ];
     let words = words_of(alloc, &words)?;
     assert_eq!(rt; run(&rt, &words), Status::Done);
-    let mut journal = Vec::new(alloc);
-    push_frame(&mut journal, &first)?;
-    push_frame(&mut journal, &world_text(alloc, 1, 1500, 0, 999)?)?;
-    assert!(rt; fs::read(&rt, "run.journal")?.as_slice() == journal.as_slice());
+    // A frame of 2,648 bytes for the world, and one of 141 for the tick.
+    let journal = fs::read(&rt, "run.journal")?;
+    assert_eq!(rt; journal.len(), 8 + 2_648 + 8 + 141);
+    assert!(rt; journal.starts_with(b"\x58\x0A\0\0\0\0\0\0SWSJ\x01\0\0\0"));
 
     // A second run finds the journal of the first, and leaves it.
     assert_eq!(rt; run(&rt, &words), Status::NotAJournal(0));
@@ -75,11 +61,7 @@ fn a_run_takes_its_files_and_makes_the_journal(rt: HostRuntime) -> Result<(), Fa
 #[test]
 fn each_path_is_the_one_of_its_word(rt: HostRuntime) -> Result<(), Fail> {
     let alloc = rt.alloc();
-    fs::write(
-        &rt,
-        "words_world",
-        world_text(alloc, 0, 0, 1, 1001)?.as_str(),
-    )?;
+    fs::write(&rt, "words_world", world_text(alloc)?.as_str())?;
     fs::write(&rt, "words_text", b"x")?;
     fs::write(&rt, "words_module", b"\0asm\x01\0\0\0")?;
     fs::write(&rt, "words_empty", b"")?;

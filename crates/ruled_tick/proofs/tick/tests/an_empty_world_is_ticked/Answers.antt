@@ -35,5 +35,5 @@ bare-IsSound tick = record { places = λ index room h. absurd (cc); tables = tt;
 pub tick_plain-requires-clause-sound : goal.tick_plain-requires-clause-sound
 tick_plain-requires-clause-sound g c = rw c.empty-world.ensures (bare-IsSound 7)
 
-pub tick_rested-requires-clause-sound : goal.tick_rested-requires-clause-sound
-tick_rested-requires-clause-sound g c = rw c.empty-world.ensures (bare-IsSound 7)
+pub next_world-requires-clause-sound : goal.next_world-requires-clause-sound
+next_world-requires-clause-sound g c = rw c.empty-world.ensures (bare-IsSound 7)

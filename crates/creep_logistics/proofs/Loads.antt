@@ -1,0 +1,45 @@
+-- What an entry to drop makes of a room's table and of the room's part.
+use Rattle.std.proofs.Common.{◌≡◌, ℕ, ◌-◌, Bool, true, false, if◌then◌else◌, List, Option, Some, None, sym, ap, ◌∙◌}
+use Rattle.room_terrain.specs.declared.terrain.Ground.{Ground}
+use Rattle.object_store.specs.declared.object.Object.{Object}
+use Rattle.object_store.specs.Tables.{Table, HasId, find_object, with_object}
+use Rattle.intent_book.specs.declared.intent.Intent.{Intent}
+use Rattle.world_rules.specs.RoomParts.{RoomPart, table_part}
+use Rattle.world_rules.specs.Drops.{can_drop, dropped, dropped_by, dropped_of, fallen, wanted_of}
+use Rattle.creep_logistics.proofs.Piles.{has_the_id}
+use Rattle.creep_logistics.proofs.Parts.{get_table_part, part_replaced}
+
+-- the creep without what it drops
+abbrev pub emptied : Intent → Object → Object
+emptied intent creep = record creep { energy = creep.energy - wanted_of intent.amount creep.energy }
+
+-- the table with it
+abbrev pub left : Intent → Object → Table → Table
+left intent creep table = record table { objects = with_object (emptied intent creep) table.objects }
+
+-- an object that is found stands there under its own id
+pub stands : (id : ℕ) (objects : List Object) (found : Object) → find_object id objects ≡ Some found → HasId found.id objects
+stands id objects found is = (found, ap (λ (n : ℕ). find_object n objects) (has_the_id id objects found is) ∙ is)
+
+module _ (grounds : List Ground) (table : Table) (intent : Intent) where
+  abbrev part : RoomPart
+  part = table_part grounds table
+
+  of_actor : (found : Option Object) → find_object intent.actor table.objects ≡ found → dropped intent part ≡ dropped_of intent found part
+  of_actor found is = ap (λ (o : Option Object). dropped_of intent o part) (get_table_part grounds table intent.actor ∙ is)
+
+  -- No object drops nothing.
+  pub dropped_by_none : find_object intent.actor table.objects ≡ None → table_part grounds table ≡ dropped intent (table_part grounds table)
+  dropped_by_none is = sym (of_actor None is)
+
+  module _ (creep : Object) (is : find_object intent.actor table.objects ≡ Some creep) where
+    -- An object that may not drop drops nothing.
+    pub dropped_by_other : can_drop intent creep ≡ false → table_part grounds table ≡ dropped intent (table_part grounds table)
+    dropped_by_other no_drop = sym (of_actor (Some creep) is ∙ ap (λ (b : Bool). if b then dropped_by creep (wanted_of intent.amount creep.energy) part else part) no_drop)
+
+    -- What leaves a creep that may falls on its tile.
+    pub dropped_by_creep : can_drop intent creep ≡ true → dropped intent (table_part grounds table) ≡ fallen creep.x creep.y (wanted_of intent.amount creep.energy) (table_part grounds (left intent creep table))
+    dropped_by_creep may =
+        of_actor (Some creep) is
+        ∙ ap (λ (b : Bool). if b then dropped_by creep (wanted_of intent.amount creep.energy) part else part) may
+        ∙ ap (fallen creep.x creep.y (wanted_of intent.amount creep.energy)) (sym (part_replaced grounds table (emptied intent creep) (stands intent.actor table.objects creep is)))

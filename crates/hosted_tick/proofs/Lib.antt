@@ -1,0 +1,6 @@
+pub mod Found
+pub mod Kept
+pub mod Accounts
+pub mod Judged
+pub mod Ran
+pub mod After

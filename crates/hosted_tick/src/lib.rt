@@ -1,0 +1,9 @@
+// One tick of a world with players.
+#![tactic(auto)]
+
+mod hosted;
+mod judge;
+mod modules;
+mod runs;
+
+pub use hosted::{Hosted, NoMemory, Ticked};

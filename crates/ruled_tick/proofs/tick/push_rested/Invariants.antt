@@ -1,6 +1,0 @@
-use Rattle.std.proofs.Common.{◌≡◌, take, map}
-use Rattle.world_rules.specs.Tick.{rested}
-use Rattle.ruled_tick.proofs.tick.push_rested.Given as goal
-
-abbrev pub invariant-loop-account : goal.invariant-loop-account
-invariant-loop-account l = l.next ≡ record l.fn.next { accounts = map rested (take l.account-index l.account-items) }
