@@ -1,0 +1,154 @@
+/* The calls that a world server offers a player's module, and the numbers that they speak in.
+ *
+ * A player is one WebAssembly module with a function `loop`, which takes nothing and gives nothing. In each tick
+ * the server makes the module anew, calls `loop`, and answers the calls below. The world doesn't change while it
+ * runs: what a player wants is recorded, and the rules are applied when all players have run.
+ *
+ * docs/players.md says what each call answers, and in which order its refusals come. players/build.sh compiles a
+ * player. Nothing here needs a standard library, and there are no floats: a module with a float is refused.
+ */
+#ifndef SCREEPS_H
+#define SCREEPS_H
+
+/* The name of a call in the module that the server looks for, and its C name below. */
+#define SCREEPS_CALL(name) __attribute__((import_module("screeps"), import_name(#name)))
+
+/* ---- What a call answers
+ *
+ * A call that answers an index, a number or a name answers a negative code where it has none. A call that wants
+ * something answers CODE_OK where it was recorded. Any other code says that nothing was recorded or changed. */
+enum {
+    CODE_OK = 0,
+    CODE_NOT_OWNER = -1,            /* it belongs to another player */
+    CODE_NOT_FOUND = -5,            /* no such object is in sight */
+    CODE_NOT_ENOUGH_RESOURCES = -6, /* it doesn't carry so much */
+    CODE_FULL = -8,                 /* 4,096 intents are recorded in this tick */
+    CODE_INVALID_ARGS = -10         /* an argument is out of its range */
+};
+
+/* ---- The player and the tick */
+
+/* The tick of the world as it stands. */
+SCREEPS_CALL(tick) long long screeps_tick(void);
+
+/* The number of this player. The numbers are unsigned: one above 2,147,483,647 comes out negative here, and
+ * FIELD_OWNER, which has 64 bits, never does. To compare them, cast this to unsigned. */
+SCREEPS_CALL(me) int screeps_me(void);
+
+/* The CPU units that may be used in this tick, 0 to 500. A unit is 10,000 instructions. */
+SCREEPS_CALL(allowance) int screeps_allowance(void);
+
+/* The CPU units that were saved before this tick, 0 to 10,000. */
+SCREEPS_CALL(bucket) int screeps_bucket(void);
+
+/* The player's points, and the global level that they give, from 1 on. */
+SCREEPS_CALL(points) long long screeps_points(void);
+SCREEPS_CALL(level) int screeps_level(void);
+
+/* ---- Rooms: those in which the player has a creep, a building or a controller */
+
+/* How many rooms are in sight. */
+SCREEPS_CALL(rooms) int screeps_rooms(void);
+
+/* The index of the i-th of them, from 0 on. Rooms come in rising index. Or CODE_INVALID_ARGS. */
+SCREEPS_CALL(room) int screeps_room(int i);
+
+/* The name of a room in sight, as a number: ROOM_COLUMN and ROOM_ROW read it. Or CODE_INVALID_ARGS. */
+SCREEPS_CALL(room_name) int screeps_room_name(int room);
+
+/* Column 0 is E0, column -1 is W0; row 0 is S0, row -1 is N0. */
+#define ROOM_COLUMN(name) ((name) / 256 - 128)
+#define ROOM_ROW(name) ((name) % 256 - 128)
+
+/* The ground of a tile of a room in sight; x and y are 0 to 49, from the left and from the top.
+ * Or CODE_INVALID_ARGS. */
+SCREEPS_CALL(terrain) int screeps_terrain(int room, int x, int y);
+
+enum {
+    GROUND_PLAIN = 0,
+    GROUND_WALL = 1,
+    GROUND_SWAMP = 2
+};
+
+/* ---- Objects: all that stand in the rooms in sight, in rising id, whoever owns them */
+
+/* How many there are. */
+SCREEPS_CALL(count) int screeps_count(void);
+
+/* The index of the object of an id, from 0 on, in this tick. Or CODE_NOT_FOUND. */
+SCREEPS_CALL(find) int screeps_find(long long id);
+
+/* A field of the object at an index. Or CODE_INVALID_ARGS, where there is no such index or field. */
+SCREEPS_CALL(get) long long screeps_get(int index, int field);
+
+enum {
+    FIELD_ID = 0,
+    FIELD_KIND = 1,
+    FIELD_ROOM = 2, /* the index of its room */
+    FIELD_X = 3,
+    FIELD_Y = 4,
+    FIELD_OWNER = 5, /* a player's number, or 0 for nobody */
+    FIELD_HITS = 6,
+    FIELD_HITS_MAX = 7,
+    FIELD_ENERGY = 8,       /* a creep's load is its energy */
+    FIELD_CAPACITY = 9,     /* the most energy that it holds */
+    FIELD_TIMER = 10,       /* ticks: a source's to its renewal, a creep's to its end, a controller's to its downgrade */
+    FIELD_EXTRA = 11,       /* a controller's level, a creep's fatigue, the kind that a site becomes */
+    FIELD_PROGRESS = 12,    /* of a controller to its next level, of a site to its building */
+    FIELD_OTHER = 13,       /* who reserves a controller, or 0 */
+    FIELD_OTHER_TICKS = 14, /* and for how many ticks */
+    FIELD_PARTS = 15,       /* how many parts its body has */
+    FIELD_PART = 100        /* FIELD_PART + i is part i, for i from 0 and below FIELD_PARTS */
+};
+
+/* What a part's field says. A part without hits doesn't work any more. */
+#define PART_OF(field) ((field) / 1000)
+#define PART_HITS(field) ((field) % 1000)
+
+enum {
+    KIND_SOURCE = 1,
+    KIND_CONTROLLER = 2,
+    KIND_CREEP = 3,
+    KIND_SPAWN = 4,
+    KIND_EXTENSION = 5,
+    KIND_STORAGE = 6,
+    KIND_CONTAINER = 7,
+    KIND_ROAD = 8,
+    KIND_PILE = 9, /* energy that lies on a tile */
+    KIND_SITE = 10 /* a building to come */
+};
+
+enum {
+    PART_MOVE = 1,
+    PART_WORK = 2,
+    PART_CARRY = 3,
+    PART_ATTACK = 4,
+    PART_RANGED_ATTACK = 5,
+    PART_TOUGH = 6,
+    PART_HEAL = 7,
+    PART_CLAIM = 8
+};
+
+/* ---- The memory text: the only thing of a player that lasts from tick to tick, any bytes, at most MEMORY_MOST */
+
+enum { MEMORY_MOST = 65536 };
+
+/* How many bytes it has. */
+SCREEPS_CALL(memory_length) int screeps_memory_length(void);
+
+/* Copies all of it to an address: ask first how long it is. Or CODE_INVALID_ARGS, where it would pass the end of
+ * the module's memory. */
+SCREEPS_CALL(memory_read) int screeps_memory_read(void *at);
+
+/* Makes these bytes the memory text, in place of the old one. Or CODE_INVALID_ARGS, where they are too many or
+ * pass the end of the module's memory. */
+SCREEPS_CALL(memory_write) int screeps_memory_write(const void *at, unsigned length);
+
+/* ---- What a creep does: recorded now, done when all players have run */
+
+/* An own creep, by its id, drops energy on its tile: the amount, or all that it carries where the amount is 0.
+ * Called again for the same creep, the last call counts. Or CODE_NOT_FOUND, CODE_NOT_OWNER, CODE_INVALID_ARGS
+ * (a negative amount), CODE_NOT_ENOUGH_RESOURCES (it carries less, or nothing at all) or CODE_FULL. */
+SCREEPS_CALL(drop) int screeps_drop(long long creep, int amount);
+
+#endif
