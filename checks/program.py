@@ -3,8 +3,9 @@
 standard error byte for byte, and each file of the folder that it runs in, before and after.
 
 It runs behind `rt ci`, which builds crates/world_server/out/world_server. What is compared with comes from
-a second, slow writing of the formats and of the tick in this file, or from the documents: each example of
-README.md and docs/ that calls the built program is run, and has to print what stands there.
+a second, slow writing of the formats and of the tick in bench/worlds.py, or from the documents: each example of
+README.md and docs/ that calls the built program is run, and has to print what stands there. What players do
+is the subject of checks/desk.py.
 """
 
 import copy
@@ -12,201 +13,34 @@ import json
 import os
 import re
 import shutil
-import subprocess
+import struct
 import sys
 import tempfile
 
 TOP = os.path.dirname(os.path.dirname(os.path.abspath(__file__)))
 sys.path.insert(0, os.path.join(TOP, "bench"))
-from modules import OPENING, leb, section  # noqa: E402
+from checked_program import Checks, run, shown  # noqa: E402
+from modules import HOST_CALLS, I32, OPENING, func_type, host_import, leb, listed, section  # noqa: E402
+from worlds import MIB, SECOND, SMALL, Step, base_content, bytes_of, grounds, journal_of, output_of, played, room, start_line, step_lines, text_of, thing, tick_content, upload_entry, world  # noqa: E402
 
-PROGRAM = os.path.join(TOP, "crates/world_server/out/world_server")
-MIB = 1 << 20
 FULL = "/dev/full"
+MOST_NEXT = 2**32 - 2**20
 
-failures = []
-passed = 0
-
-
-def run(words, folder, stdout=None):
-    """Runs the program in a folder: its exit status, its standard output and its standard error."""
-    done = subprocess.run(
-        [PROGRAM, *words], cwd=folder, stdin=subprocess.DEVNULL, stdout=stdout or subprocess.PIPE, stderr=subprocess.PIPE, timeout=120
-    )
-    return done.returncode, done.stdout or b"", done.stderr
+checks = Checks(__file__)
+check, note = checks.check, checks.note
 
 
-def files_in(folder):
-    """Each file below a folder with its bytes, and None for a folder."""
-    found = {}
-    for at, folders, names in os.walk(folder):
-        for name in folders:
-            found[os.path.relpath(os.path.join(at, name), folder)] = None
-        for name in names:
-            path = os.path.join(at, name)
-            with open(path, "rb") as it:
-                found[os.path.relpath(path, folder)] = it.read()
-    return found
-
-
-def note(name, faults):
-    global passed
-    if faults:
-        failures.append(name)
-        print(f"FAILED: {name}")
-        for fault in faults:
-            print(f"    {fault}")
-    else:
-        passed += 1
-
-
-def shown(value):
-    text = repr(value)
-    return text if len(text) < 300 else text[:300] + f".. ({len(value)})"
-
-
-def check(name, words, files, status, out=b"", err=b"", after=None, stdout=None):
-    """Runs the program on these files. `after` has the files that are made or changed; all others stay."""
-    with tempfile.TemporaryDirectory() as folder:
-        for path, content in files.items():
-            if content is None:
-                os.mkdir(os.path.join(folder, path))
-            elif isinstance(content, int):
-                # (so many bytes of 0, which take no room)
-                with open(os.path.join(folder, path), "wb") as it:
-                    it.truncate(content)
-            else:
-                with open(os.path.join(folder, path), "wb") as it:
-                    it.write(content)
-        before = files_in(folder)
-        found = run(words, folder, stdout)
-        wanted = (status, out, err)
-        names = ("exit status", "standard output", "standard error")
-        faults = [f"{what}: {shown(got)}, wanted {shown(want)}" for what, got, want in zip(names, found, wanted) if got != want]
-        left, wanted_files = files_in(folder), {**before, **(after or {})}
-        for path in sorted({*left, *wanted_files}):
-            if path not in left:
-                faults.append(f"{path}: no such file, wanted {shown(wanted_files[path])}")
-            elif path not in wanted_files:
-                faults.append(f"{path}: a file that should not be there: {shown(left[path])}")
-            elif left[path] != wanted_files[path]:
-                faults.append(f"{path}: {shown(left[path])}, wanted {shown(wanted_files[path])}")
-    note(name, faults)
-
-
-# ---- worlds: the file, its text as it is written, the tick, the lines
-
-CORNERS = (0, 49, 2450, 2499)
-
-
-def grounds(**others):
-    tiles = ["0"] * 2500
-    for corner in CORNERS:
-        tiles[corner] = "1"
-    for tile, ground in others.get("tiles", {}).items():
-        tiles[tile] = ground
-    return "".join(tiles)
-
-
-def thing(kind, id, x, y, **fields):
-    return {"id": id, "kind": kind, "x": x, "y": y, **fields}
-
-
-def room(name, next, *objects, terrain=None):
-    return {"name": name, "terrain": terrain or grounds(), "next": next, "objects": list(objects)}
-
-
-def world(*rooms, tick=0, players=()):
-    return {"version": 1, "tick": tick, "rooms": list(rooms), "players": list(players)}
-
-
-FIELDS = ("owner", "energy", "timer", "extra", "progress", "other", "other_ticks")
-HITS = {"spawn": 5000, "extension": 1000, "storage": 10_000, "container": 250_000, "road": 5000}
-
-
-def full(it):
-    """A world with every key of each object and player, but for the tokens, which no world has."""
-    it = copy.deepcopy(it)
-    for place in it["rooms"]:
-        for one in place["objects"]:
-            for field in FIELDS:
-                one.setdefault(field, 0)
-            one.setdefault("body", [])
-            one.setdefault("hits", 100 * len(one["body"]) if one["kind"] == "creep" else HITS.get(one["kind"], 0))
-        place["objects"].sort(key=lambda one: one["id"])
-    for player in it["players"]:
-        player.pop("token", None)
-        for field, default in (("bucket", 0), ("points", 0), ("memory", "")):
-            player.setdefault(field, default)
-    it["players"].sort(key=lambda player: player["player"])
-    return it
-
-
-def text_of(it):
-    return json.dumps(full(it), sort_keys=True, separators=(",", ":")).encode()
-
-
-def frame(it):
-    text = text_of(it)
-    return len(text).to_bytes(8, "little") + text
-
-
-def ticked(it):
-    it = full(it)
-    it["tick"] += 1
-    for place in it["rooms"]:
-        taken = any(one["kind"] == "controller" and (one["owner"] or one["other"]) for one in place["objects"])
-        capacity = 3000 if taken else 1500
-        left = []
-        for one in place["objects"]:
-            if one["kind"] == "source":
-                if one["timer"] > 0:
-                    one["timer"] -= 1
-                    if one["timer"] == 0:
-                        one["energy"] = max(one["energy"], capacity)
-                elif one["energy"] < capacity:
-                    one["timer"] = 300
-            if one["kind"] == "pile":
-                one["energy"] -= (one["energy"] + 999) // 1000
-            if one["kind"] != "pile" or one["energy"] > 0:
-                left.append(one)
-        place["objects"] = left
-    for player in it["players"]:
-        player["bucket"] = min(10_000, player["limit"] + player["bucket"])
-    return it
-
-
-def objects_of(it):
-    return [one for place in it["rooms"] for one in place["objects"]]
-
-
-def start_line(it):
-    return f"start tick {it['tick']} rooms {len(it['rooms'])} objects {len(objects_of(it))} players {len(it['players'])}\n".encode()
-
-
-def tick_line(it):
-    energy = sum(one.get("energy", 0) for one in objects_of(it))
-    return f"tick {it['tick']} objects {len(objects_of(it))} intents 0 energy {energy}\n".encode()
-
-
-def worlds_of(first, ticks):
-    worlds = [full(first)]
-    for _ in range(ticks):
-        worlds.append(ticked(worlds[-1]))
-    return worlds
+# ---- worlds
 
 
 def journal(first, ticks):
-    return b"".join(frame(it) for it in worlds_of(first, ticks))
+    return journal_of(first, played(first, ticks))
 
 
 def lines(first, ticks):
-    worlds = worlds_of(first, ticks)
-    return start_line(worlds[0]) + b"".join(tick_line(it) for it in worlds[1:])
+    return output_of(first, played(first, ticks))
 
 
-SMALL = world(room("E0S0", 3, thing("source", 1, 10, 10, timer=1), thing("pile", 2, 20, 20, energy=1001)))
-SECOND = 1 << 32
 WIDE = world(
     room("W3N7", 9, thing("pile", 8, 0, 20, energy=1), thing("source", 3, 1, 1, energy=3000, timer=300), thing("pile", 5, 1, 1, energy=3)),
     room(
@@ -245,10 +79,6 @@ HELD = world(
 )
 
 
-def bytes_of(it):
-    return json.dumps(it, indent=1).encode()
-
-
 def refused(number, text):
     return f"fault {number} {text}\n".encode()
 
@@ -264,10 +94,29 @@ def ticks(n):
     return [*RUN[:-1], str(n)]
 
 
+STRANGERS = start_line(SMALL).encode() + b"upload player 0 refused UnknownPlayer\n" * 2 + step_lines(played(SMALL, 1)[0]).encode()
+
+
+def strangers(count):
+    """The journal of a tick with so many uploads of player 0, without bytes."""
+    (step,) = played(SMALL, 1)
+    return journal_of(SMALL, [Step([(0, "UnknownPlayer", b"")] * count, [], step.world)])
+
+
+def check_forms():
+    """Lengths and bytes that are worked out by hand."""
+    base, tick = base_content(SMALL), tick_content(played(SMALL, 1)[0])
+    wanted = [(len(base), 2648), (len(tick), 141), (base[2611:2613], b"\xe9\x03"), (base[:8], b"SWSJ\1\0\0\0"), (tick[:9], b"T\1" + bytes(7))]
+    note("the forms of the journal's contents", [f"{got} and not {want}" for got, want in wanted if got != want])
+    said = b"start tick 0 rooms 1 objects 2 players 0\ntick 1 objects 2 intents 0 energy 2499\n"
+    note("the lines of the small world", [] if lines(SMALL, 1) == said else [f"{lines(SMALL, 1)}"])
+
+
 def check_runs():
     check("a run of one tick", RUN, inputs(), 0, lines(SMALL, 1), after={"journal.bin": journal(SMALL, 1)})
     check("a run of no tick", ticks(0), inputs(), 0, lines(SMALL, 0), after={"journal.bin": journal(SMALL, 0)})
     check("a run of many ticks", ticks("0305"), inputs(), 0, lines(SMALL, 305), after={"journal.bin": journal(SMALL, 305)})
+    check("uploads of nobody", RUN, inputs(uploads=bytes(32)), 0, after={"journal.bin": strangers(2)}, out=STRANGERS)
     check("an empty journal", RUN, inputs(**{"journal.bin": b""}), 0, lines(SMALL, 1), after={"journal.bin": journal(SMALL, 1)})
     check("two rooms", ticks(9), inputs(bytes_of(WIDE)), 0, lines(WIDE, 9), after={"journal.bin": journal(WIDE, 9)})
     check("all kinds, controllers and players", ticks(9), inputs(bytes_of(HELD)), 0, lines(HELD, 9), after={"journal.bin": journal(HELD, 9)})
@@ -282,14 +131,39 @@ def check_runs():
 
 def check_refusals():
     made = {"journal.bin": b""}
-    for uploads in (b"\0", b"uploads", bytes(100_000)):
-        check(f"{len(uploads)} bytes of uploads", RUN, inputs(uploads=uploads), 4, err=refused(4, "Uploads 0"), after=made)
+    entry = upload_entry(3, 1, LOOP)
+    streams = [
+        (b"\0", 0),
+        (b"uploads", 0),
+        (bytes(100_001), 100_000),
+        (entry[:-1], 0),
+        (entry + entry[:-1], len(entry)),
+        (entry + upload_entry(2, 1, LOOP), len(entry)),
+        (upload_entry(1, 1, b"") + upload_entry(0, 1, b""), 16),
+    ]
+    for uploads, at in streams:
+        check(f"uploads that are bad at {at}", RUN, inputs(uploads=uploads), 4, err=refused(4, f"Uploads {at}"), after=made)
     for kept in (b"h", b"hello", journal(SMALL, 1)):
         files = inputs(**{"journal.bin": kept})
         check(f"a journal of {len(kept)} bytes", RUN, files, 8, err=refused(8, "NotAJournal 0"))
         check(f"a world file that is refused, and a journal of {len(kept)} bytes", RUN, {**files, "world.json": b""}, 3, err=refused(3, "World NotJson"))
     check("the world file before the uploads", RUN, inputs(b"", b"x"), 3, err=refused(3, "World NotJson"), after=made)
     check("the uploads before the journal", RUN, inputs(uploads=b"x", **{"journal.bin": b"kept"}), 4, err=refused(4, "Uploads 0"))
+    check("good uploads, and a journal", RUN, inputs(uploads=entry, **{"journal.bin": b"kept"}), 8, err=refused(8, "NotAJournal 0"))
+
+
+def check_serials():
+    """Rooms that have used up their serials."""
+    rooms = [room(f"E{n}S0", MOST_NEXT, thing("pile", (n << 32) + 1, 5, 5, energy=9000)) for n in range(3)]
+    first = world(*rooms)
+    check("rooms at their last serials", ticks(3), inputs(bytes_of(first)), 0, lines(first, 3), after={"journal.bin": journal(first, 3)})
+    for at in range(3):
+        past = copy.deepcopy(first)
+        for place in past["rooms"][at:]:
+            place["next"] = MOST_NEXT + 1
+        kept = {"journal.bin": journal(past, 0)}
+        check(f"room {at} has none left", ticks(3), inputs(bytes_of(past)), 10, lines(past, 0), refused(10, f"IdsExhausted {at}"), after=kept)
+        check(f"room {at} has none left, and no tick", ticks(0), inputs(bytes_of(past)), 0, lines(past, 0), after=kept)
 
 
 def changed(**keys):
@@ -463,8 +337,22 @@ def with_elements(offset, count):
     return module([b"\x0b"], before=section(4, b"\1\x70\0\x0a"), elements=section(9, segment))
 
 
-def importing(entry, **others):
-    return module([b"\x0b"], imports=section(2, b"\1" + entry), **others)
+def importing(*entries, types=(), **others):
+    """A module with these imports, and a `loop` behind the functions among them."""
+    kinds = listed([func_type(b"", b""), *types])
+    functions = sum(kind == 0 for kind, _ in entries)
+    exports = section(7, b"\1\4loop\0" + leb(functions))
+    return module([b"\x0b"], types=kinds, imports=section(2, listed([it for _, it in entries])), **{"exports": exports, **others})
+
+
+def of_host(name, desc):
+    """An import from the host, of something."""
+    return desc[0], host_import(name, 0)[:-2] + desc
+
+
+HOST_TYPES = [func_type(*it) for it in HOST_CALLS.values()]
+HOSTED = importing(*[(0, host_import(name, 1 + place)) for place, name in enumerate(HOST_CALLS)], types=HOST_TYPES)
+TWICE = [(0, host_import("tick", 1)), (0, host_import("tick", 1))]
 
 
 def check_modules():
@@ -477,6 +365,8 @@ def check_modules():
         ("65,536 locals", module([b"\x0b"], b"\1" + leb(65_536) + b"\x7f")),
         ("256 pages", module([b"\x0b"], before=section(5, b"\1\0" + leb(256)))),
         ("65,536 entries", module([b"\x0b"], before=section(4, b"\1\x70\0" + leb(65_536)))),
+        ("an import of each call of the host", HOSTED),
+        ("an import of a call, twice", importing(*TWICE, types=HOST_TYPES)),
         ("data up to the end", with_data(leb(65_535), 1)),
         ("no data at the end", with_data(leb(65_536), 0)),
         ("elements up to the end", with_elements(b"\5", 5)),
@@ -527,10 +417,21 @@ def check_modules():
         ("an import and a value left", module([b"\x41\0\x0b"], imports=section(2, b"\1\1m\1f\0\0"))),
     ]
     unknown = [
-        ("an import of a function", importing(b"\1m\1f\0\0")),
-        ("an import of a memory", importing(b"\1m\1f\2\0\1")),
-        ("an import of the host's module", importing(b"\7screeps\1f\0\0")),
-        ("an import and no loop", importing(b"\1m\1f\0\0", exports=b"")),
+        ("an import of a function", importing((0, b"\1m\1f\0\0"))),
+        ("an import of a memory", importing((2, b"\1m\1f\2\0\1"))),
+        ("an import of no call of the host", importing((0, host_import("f", 0)))),
+        ("an import of a call from another module", importing((0, b"\1m\4tick\0\1"), types=HOST_TYPES)),
+        ("an import and no loop", importing((0, b"\1m\1f\0\0"), exports=b"")),
+        ("a call of another type, and an import of no call", importing((0, host_import("tick", 2)), (0, b"\1m\1f\0\0"), types=HOST_TYPES)),
+    ]
+    kind = [
+        ("a call of another type", importing((0, host_import("tick", 2)), types=HOST_TYPES)),
+        ("a call that gives nothing", importing((0, host_import("tick", 0)))),
+        ("a call with an argument more", importing((0, host_import("me", 1)), types=[func_type(I32, I32)])),
+        ("a call that is a memory", importing(of_host("tick", b"\2\0\1"))),
+        ("a call that is a table", importing(of_host("tick", b"\1\x70\0\1"))),
+        ("a call that is a global", importing(of_host("tick", b"\3\x7e\0"))),
+        ("a call of another type, and no loop", importing((0, host_import("tick", 0)), exports=b"")),
     ]
     no_loop = [
         ("the least module", OPENING),
@@ -550,6 +451,7 @@ def check_modules():
         "FloatRefused": floats,
         "Invalid": invalid,
         "UnknownImport": unknown,
+        "ImportKind": kind,
         "NoLoop": no_loop,
         "Segment": segments,
     }
@@ -588,7 +490,7 @@ def check_documents():
     paths += sorted(os.path.join(TOP, "docs", it) for it in os.listdir(os.path.join(TOP, "docs")) if it.endswith(".md"))
     count = 0
     with tempfile.TemporaryDirectory() as folder:
-        for part in ("worlds", "modules"):
+        for part in ("worlds", "modules", "players"):
             shutil.copytree(os.path.join(TOP, part), os.path.join(folder, part))
         for path in paths:
             with open(path, encoding="utf-8") as it:
@@ -610,18 +512,16 @@ def check_documents():
 
 
 def main():
-    if not os.path.isfile(PROGRAM):
-        sys.exit(f"{os.path.relpath(__file__)}: there is no {os.path.relpath(PROGRAM)}: `rt ci` builds it")
+    check_forms()
     check_runs()
     check_refusals()
+    check_serials()
     check_world_faults()
     check_faults()
     check_words()
     check_modules()
     check_documents()
-    print(f"{os.path.relpath(__file__, TOP)}:")
-    print(f"{passed} passed, {len(failures)} failed")
-    sys.exit(1 if failures else 0)
+    checks.finish()
 
 
 main()

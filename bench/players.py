@@ -1,0 +1,385 @@
+#!/usr/bin/env python3
+"""Measures ticks with players in the built program: python3 bench/players.py PROGRAM [--quick].
+
+Run it in the repository's top folder once the program is built (README.md), where `wat2wasm` of wabt is installed. A tick's time is the
+difference of runs of several ticks and of one, over the ticks between them, so that the reading of files is left out; the best of some
+rounds counts. The journals lie in memory where there is /dev/shm, so that no disk is measured.
+
+The first table has the loops of bench/machine.py as players of 5,000,000 instructions a tick, beside the same in machine_bench, which is
+looked for beside PROGRAM and in crates/machine_bench/out. The second has ticks by how many players there are and what they see, with an
+empty `loop` for each, beside the same without modules. The third has the modules that a player would write to hurt, and the time for an
+instruction that they pay for, beside that of a plain loop. The fourth has those that hardly pay for any, and the time for each player. The
+fifth has streams of uploads, by their entries and bytes.
+
+The times depend on the machine and on what else it does: compare figures of one run alone. With --quick each row is run once, in fewer
+ticks, which shows that it runs and little else.
+"""
+
+import os
+import struct
+import subprocess
+import sys
+import tempfile
+import time
+
+import machine
+from modules import OPENING, code_entry, func_type, leb, listed, name_bytes, player_module, section
+from scripts import Script, unkept
+from worlds import MIB, SECOND, bytes_of, room, thing, upload_entry, world
+
+UNITS = 500
+FUEL = 10_000 * UNITS
+EMPTY = player_module(b"")
+TILES = [(x, y) for y in range(1, 49) for x in range(1, 49)]
+
+
+# ---- worlds
+
+
+def name_of(index):
+    return f"E{index % 100}S{index // 100}"
+
+
+def creep(index, serial, owner, parts=1):
+    x, y = TILES[serial - 1]
+    return thing("creep", index * SECOND + serial, x, y, owner=owner, body=["carry"] * parts, energy=50, timer=1500)
+
+
+def road(index, serial):
+    x, y = TILES[serial - 1]
+    return thing("road", index * SECOND + serial, x, y, timer=1000)
+
+
+def of_rooms(rooms, players):
+    listed_rooms = [room(name_of(index), 5000, *objects) for index, objects in enumerate(rooms)]
+    return bytes_of(world(*listed_rooms, players=players))
+
+
+def players_of(count, **others):
+    return [{"player": number, "limit": UNITS, **others} for number in range(1, count + 1)]
+
+
+def apart(count, seen, objects):
+    """So many players who each see so many rooms of their own with so many objects."""
+    rooms = []
+    for index in range(count * seen):
+        rooms.append([creep(index, 1, index // seen + 1), *[road(index, serial) for serial in range(2, objects + 1)]])
+    return of_rooms(rooms, players_of(count))
+
+
+def together(count, seen):
+    """So many players who all see the same rooms, by a creep in each."""
+    return of_rooms([[creep(index, owner, owner) for owner in range(1, count + 1)] for index in range(seen)], players_of(count))
+
+
+def wide():
+    """A player who sees 300 rooms of 19,294 objects, and has 2,048 creeps with loads in each of the first two."""
+    rooms = [[creep(index, serial, 1, 50) for serial in range(1, 2049)] for index in range(2)]
+    rooms += [[creep(index, 1, 1), *[road(index, serial) for serial in range(2, 52)]] for index in range(2, 300)]
+    return of_rooms(rooms, players_of(1))
+
+
+def crowded(count, creeps):
+    """So many players with so many creeps with loads each, 2,000 to a room."""
+    rooms = []
+    for number in range(count * creeps):
+        if number % 2000 == 0:
+            rooms.append([])
+        rooms[-1].append(creep(len(rooms) - 1, number % 2000 + 1, number // creeps + 1))
+    return of_rooms(rooms, players_of(count))
+
+
+# ---- modules
+
+IMPORTS = {
+    "rooms": "(result i32)",
+    "room": "(param i32) (result i32)",
+    "room_name": "(param i32) (result i32)",
+    "terrain": "(param i32 i32 i32) (result i32)",
+    "level": "(result i32)",
+    "points": "(result i64)",
+    "count": "(result i32)",
+    "find": "(param i64) (result i32)",
+    "get": "(param i32 i32) (result i64)",
+    "memory_read": "(param i32) (result i32)",
+    "memory_write": "(param i32 i32) (result i32)",
+    "drop": "(param i64 i32) (result i32)",
+}
+STEP = "(local.set $i (i32.add (local.get $i) (i32.const 1)))"
+SCRAMBLED = "(i32.shr_u (i32.mul (local.get $i) (i32.const 0x9E3779B1)) (i32.const 8))"
+
+
+def text_of(calls, body, more="", before=""):
+    """A module that does something without end, with a counter."""
+    imports = " ".join(f'(import "screeps" "{name}" (func ${name} {IMPORTS[name]}))' for name in calls)
+    return f'(module {imports} {more} (func (export "loop") (local $i i32) {before} (loop $l {body} {STEP} (br $l))))'
+
+
+def calling(name, *arguments, more="", before=""):
+    return text_of([name], f"(drop (call ${name} {' '.join(arguments)}))", more, before)
+
+
+def id_of(number):
+    """The id of a creep of the wide world, by its number below 4,096."""
+    index = f"(i64.shl (i64.extend_i32_u (i32.shr_u {number} (i32.const 11))) (i64.const 32))"
+    return f"(i64.add {index} (i64.extend_i32_u (i32.add (i32.and {number} (i32.const 2047)) (i32.const 1))))"
+
+
+ENTRY = "(i32.and (local.get $i) (i32.const 4095))"
+FILL = f"(loop $f (drop (call $drop {id_of('(local.get $i)')} (i32.const 1))) {STEP} (br_if $f (i32.lt_u (local.get $i) (i32.const 4096))))"
+SCRAMBLED_ENTRY = f"(i32.and {SCRAMBLED} (i32.const 4095))"
+MEMORY = "(memory 2)"
+WHOLE_TEXT = "(drop (call $memory_write (i32.const 0) (i32.const 65536)))"
+
+# Modules of a player who sees the wide world, with the CPU units that he has.
+COSTLY = {
+    "an endless loop": ('(module (func (export "loop") (loop $l (br $l))))', 500),
+    "a start that never ends": ('(module (func $s (loop $l (br $l))) (start $s) (func (export "loop")))', 500),
+    "rooms": (calling("rooms"), 500),
+    "room": (calling("room", f"(i32.rem_u {SCRAMBLED} (i32.const 300))"), 500),
+    "room, past the last": (calling("room", "(i32.const -1)"), 500),
+    "room_name": (calling("room_name", f"(i32.rem_u {SCRAMBLED} (i32.const 300))"), 500),
+    "terrain": (calling("terrain", f"(i32.rem_u {SCRAMBLED} (i32.const 300))", "(i32.const 48)", "(i32.const 47)"), 500),
+    "terrain of the last room": (calling("terrain", "(i32.const 299)", "(i32.const 49)", "(i32.const 49)"), 500),
+    "level": (calling("level"), 500),
+    "count": (calling("count"), 500),
+    "find of 4,096 creeps": (calling("find", id_of(SCRAMBLED_ENTRY)), 500),
+    "find of nothing": (calling("find", f"(i64.extend_i32_u {SCRAMBLED})"), 500),
+    "get of ids": (calling("get", f"(i32.rem_u {SCRAMBLED} (i32.const 19294))", "(i32.const 0)"), 500),
+    "get of capacities": (calling("get", f"(i32.rem_u {SCRAMBLED} (i32.const 19294))", "(i32.const 9)"), 500),
+    "get of a creep's capacity": (calling("get", "(i32.const 7)", "(i32.const 9)"), 500),
+    "get of the last part": (calling("get", f"(i32.rem_u {SCRAMBLED} (i32.const 2048))", "(i32.const 149)"), 500),
+    "a full record, its last entry again": (calling("drop", "(i64.const 1)", "(i32.const 1)", before=FILL), 500),
+    "a full record, its first entry again": (calling("drop", id_of(ENTRY), "(i32.const 1)", before=FILL), 500),
+    "a full record, any entry again": (calling("drop", id_of(SCRAMBLED_ENTRY), "(i32.const 1)", before=FILL), 500),
+    "a record of one entry": (calling("drop", "(i64.const 1)", "(i32.const 1)"), 500),
+    "drops that are refused": (calling("drop", id_of(SCRAMBLED_ENTRY), "(i32.const 51)"), 500),
+    "memory_write of 64 KiB": (calling("memory_write", "(i32.const 0)", "(i32.const 65536)", more=MEMORY), 10),
+    "memory_read of 64 KiB": (text_of(["memory_read", "memory_write"], "(drop (call $memory_read (i32.const 0)))", MEMORY, WHOLE_TEXT), 10),
+    "memory_write of nothing": (calling("memory_write", "(i32.const 0)", "(i32.const 0)", more=MEMORY), 500),
+    "memory_write that is refused": (calling("memory_write", "(i32.const 1)", "(i32.const -1)", more=MEMORY), 500),
+}
+
+
+def filled(content):
+    """The module with a custom section that makes it one mebibyte."""
+    rest = MIB - len(content) - 4
+    return content + b"\0" + bytes([rest & 0x7F | 0x80, rest >> 7 & 0x7F | 0x80, rest >> 14]) + b"\1x" + bytes(rest - 2)
+
+
+def many_functions():
+    """9,999 functions that nothing calls, of about a mebibyte together."""
+    helpers = [(0, b"\0", b"\x41\0\x1a" * 33)] * 9_999
+    return player_module(b"", helpers=helpers)
+
+
+def many_globals():
+    """200,000 globals, which take five bytes each."""
+    globals_ = section(6, listed([b"\x7f\1\x41\0\x0b"] * 200_000))
+    content = OPENING + section(1, listed([func_type(b"", b"")])) + section(3, listed([b"\0"])) + globals_
+    return content + section(7, listed([name_bytes("loop") + b"\0\0"])) + section(10, listed([code_entry(b"")]))
+
+
+def full_table():
+    """65,536 entries that are filled."""
+    elements = b"\0\x41\0\x0b" + leb(65_536) + bytes(65_536)
+    return player_module(b"", table=b"\x70\0" + leb(65_536), elements=elements)
+
+
+def much_data():
+    """A mebibyte of data in 256 pages."""
+    count = MIB - 100
+    return player_module(b"", pages=256, data=b"\0\x41\0\x0b" + leb(count) + bytes(count))
+
+
+CHEAP = {
+    "an empty loop": EMPTY,
+    "a trap at the first instruction": player_module(b"\0"),
+    "one mebibyte in a custom section": filled(EMPTY),
+    "9,999 functions in a mebibyte": many_functions(),
+    "200,000 globals in a mebibyte": many_globals(),
+    "a table of 65,536 entries, filled": full_table(),
+    "256 pages": player_module(b"", pages=256),
+    "256 pages and a mebibyte of data": much_data(),
+}
+
+
+# ---- times
+
+
+def seconds(command):
+    began = time.perf_counter()
+    done = subprocess.run(command, stdout=subprocess.PIPE, check=True)
+    return time.perf_counter() - began, done.stdout.decode()
+
+
+class Bench:
+    """A folder in memory, and the times of the program in it."""
+
+    def __init__(self, program, folder, quick):
+        self.program, self.folder, self.rounds, self.quick = program, folder, 1 if quick else 3, quick
+
+    def path(self, name):
+        return os.path.join(self.folder, name)
+
+    def module(self, text):
+        with open(self.path("it.wat"), "w") as it:
+            it.write(text)
+        subprocess.run(["wat2wasm", self.path("it.wat"), "-o", self.path("it.wasm")], check=True)
+        with open(self.path("it.wasm"), "rb") as it:
+            return it.read()
+
+    def put(self, name, content):
+        with open(self.path(name), "wb") as it:
+            it.write(content)
+
+    def once(self, ticks):
+        if os.path.exists(self.path("journal")):
+            os.remove(self.path("journal"))
+        return seconds([self.program, "run", self.path("world"), self.path("uploads"), self.path("journal"), "--ticks", str(ticks)])
+
+    def tick(self, first, stream, more):
+        """Seconds of a tick after the first one, by so many more, and the instructions that were used in it."""
+        self.put("world", first)
+        self.put("uploads", stream)
+        more = min(more, 3) if self.quick else more
+        one = min(self.once(1)[0] for _ in range(self.rounds))
+        tries = [self.once(1 + more) for _ in range(self.rounds)]
+        lines = [line.split() for line in tries[0][1].splitlines() if line.startswith("player ")]
+        used = sum(int(words[3]) for words in lines) * more // (1 + more)
+        return (min(tries)[0] - one) / more, used / more
+
+    def first_tick(self, first, stream):
+        """Seconds of a run of one tick."""
+        self.put("world", first)
+        self.put("uploads", stream)
+        return min(self.once(1)[0] for _ in range(self.rounds))
+
+
+def for_each(count, module):
+    return b"".join(upload_entry(0, number, module) for number in range(1, count + 1))
+
+
+# ---- tables
+
+
+def machine_at(program):
+    for path in (os.path.join(os.path.dirname(program), "machine_bench"), "crates/machine_bench/out/machine_bench"):
+        if os.path.isfile(path):
+            return os.path.abspath(path)
+    return None
+
+
+def loops(bench, other):
+    """The machine's loops as players."""
+    print(f"{'module':38}{'tick ms':>9}{'start ms':>10}{'ns each':>9}{'machine_bench':>15}{'times':>7}")
+    some, none = of_rooms([[]], players_of(1)), of_rooms([[]], [{"player": 1, "limit": 0}])
+    for name, text in machine.ORDINARY.items():
+        module = bench.module(text)
+        tick, used = bench.tick(some, upload_entry(0, 1, module), 10)
+        start, _ = bench.tick(none, upload_entry(0, 1, module), 200)
+        each = (tick - start) * 1e9 / used
+        row = f"{name:38}{tick * 1e3:9.2f}{start * 1e3:10.3f}{each:9.2f}"
+        if other:
+            path = bench.path("it.wasm")
+            idle = min(seconds([other, path, "0"])[0] for _ in range(bench.rounds))
+            whole = min(seconds([other, path, str(10 * FUEL)])[0] for _ in range(bench.rounds))
+            alone = (whole - idle) * 1e9 / (10 * FUEL)
+            row += f"{alone:15.2f}{each / alone:7.2f}"
+        print(row, flush=True)
+
+
+def crowds(bench):
+    """Ticks by how many players there are and what they see."""
+    print(f"{'players, rooms that each sees':38}{'objects':>9}{'empty loops ms':>16}{'no modules ms':>15}{'times':>7}")
+    rows = [(f"{count} of {seen}, with {objects} objects each", count * seen * objects, apart(count, seen, objects), count) for seen, objects in ((1, 1), (5, 50)) for count in (1, 8, 64)]
+    rows += [(f"{count} of the same {seen}", count * seen, together(count, seen), count) for count, seen in ((1, 300), (8, 300), (64, 5), (64, 300))]
+    for name, objects, first, count in rows:
+        more = 200 if objects < 1000 else 60
+        with_modules, _ = bench.tick(first, for_each(count, EMPTY), more)
+        without, _ = bench.tick(first, b"", more)
+        print(f"{name:38}{objects:9,}{with_modules * 1e3:16.3f}{without * 1e3:15.3f}{with_modules / without:7.2f}", flush=True)
+
+
+def costly(bench):
+    """Modules that pay for what they do: the time of an instruction, without that of a tick with an empty loop."""
+    print(f"{'module':38}{'instructions':>13}{'tick ms':>10}{'ns each':>10}{'of plain':>10}")
+    first = wide()
+    empty, _ = bench.tick(first, upload_entry(0, 1, EMPTY), 10)
+    print(f"{'  an empty loop':38}{0:13,}{empty * 1e3:10.2f}", flush=True)
+    plain = None
+    for name, (text, units) in {"plain": (machine.ORDINARY["plain"], UNITS), **COSTLY}.items():
+        module = bench.module(text)
+        it = first.replace(f'"limit": {UNITS}'.encode(), f'"limit": {units}'.encode())
+        tick, used = bench.tick(it, upload_entry(0, 1, module), 5)
+        assert used == 10_000 * units, f"{name}: used {used}"
+        each = (tick - empty) * 1e9 / used
+        plain = plain or each
+        print(f"{name:38}{used:13,.0f}{tick * 1e3:10.2f}{each:10.2f}{each / plain:10.2f}", flush=True)
+
+
+def dropping(number, creeps):
+    """A module of a list of drops, of each creep of the player in the crowded world."""
+    ids = [place // 2000 * SECOND + place % 2000 + 1 for place in range((number - 1) * creeps, number * creeps)]
+    return Script([instruction for id in ids for instruction in unkept("drop", id, 1)], pages=None).content
+
+
+def cheap(bench):
+    """Modules that hardly pay: the time for each of 64 players, without that of a tick without modules."""
+    print(f"{'64 players with':38}{'instructions':>13}{'tick ms':>10}{'ms each':>10}{'upload ms':>11}")
+    first = apart(64, 1, 1)
+    none, _ = bench.tick(first, b"", 50)
+    idle = bench.first_tick(first, b"")
+    rows = [(name, first, for_each(64, module), none, idle, 64) for name, module in CHEAP.items()]
+    texts = of_rooms([[creep(n, 1, n + 1)] for n in range(64)], players_of(64, memory="5a" * 65_536))
+    rows.append(("an empty loop and 64 KiB of text", texts, for_each(64, EMPTY), bench.tick(texts, b"", 20)[0], bench.first_tick(texts, b""), 64))
+    for count, creeps in ((64, 312), (4, 4096)):
+        it = crowded(count, creeps)
+        stream = b"".join(upload_entry(0, number, dropping(number, creeps)) for number in range(1, count + 1))
+        rows.append((f"{creeps:,} drops, {count} players", it, stream, bench.tick(it, b"", 20)[0], bench.first_tick(it, b""), count))
+    for name, it, stream, base, start, count in rows:
+        tick, used = bench.tick(it, stream, 20)
+        upload = bench.first_tick(it, stream) - start
+        print(f"{name:38}{used / count:13,.0f}{tick * 1e3:10.2f}{(tick - base) * 1e3 / count:10.3f}{upload * 1e3 / count:11.3f}", flush=True)
+
+
+def uploads(bench):
+    """Streams of uploads: the time of a run of one tick beside that without, and of a tick behind it."""
+    print(f"{'stream':38}{'bytes':>13}{'ms':>10}{'ns an entry':>13}{'ns a byte':>11}{'tick us':>9}")
+    first = of_rooms([[]], players_of(1))
+    idle = bench.first_tick(first, b"")
+    count = 10_000 if bench.quick else 200_000
+    nops = player_module(b"\1" * (MIB - 60))
+    streams = [
+        ("entries of nobody without bytes", struct.pack("<QII", 0, 9, 0) * count, count),
+        ("entries for a later tick", struct.pack("<QII", 10**6, 1, 0) * count, count),
+        ("entries that are Malformed", upload_entry(0, 1, b"") * count, count),
+        ("empty modules", upload_entry(0, 1, EMPTY) * (count // 4), count // 4),
+        ("modules of nops, 1 MiB each", upload_entry(0, 1, nops) * 16, 16),
+        ("modules of 9,999 functions", upload_entry(0, 1, many_functions()) * 16, 16),
+        ("modules of 200,000 globals", upload_entry(0, 1, many_globals()) * 16, 16),
+        ("bytes of 0, 1 MiB each", upload_entry(0, 1, bytes(MIB)) * 16, 16),
+    ]
+    for name, stream, entries in streams:
+        took = bench.first_tick(first, stream) - idle
+        tick, _ = bench.tick(first, stream, 1000)
+        print(f"{name:38}{len(stream):13,}{took * 1e3:10.2f}{took * 1e9 / entries:13,.0f}{took * 1e9 / len(stream):11.2f}{tick * 1e6:9.1f}", flush=True)
+
+
+def main():
+    words = [word for word in sys.argv[1:] if word != "--quick"]
+    if len(words) != 1 or not os.path.isfile(words[0]):
+        sys.exit("no program: python3 bench/players.py PROGRAM [--quick]")
+    program = os.path.abspath(words[0])
+    place = "/dev/shm" if os.path.isdir("/dev/shm") else None
+    with tempfile.TemporaryDirectory(dir=place) as folder:
+        bench = Bench(program, folder, "--quick" in sys.argv)
+        loops(bench, machine_at(program))
+        crowds(bench)
+        costly(bench)
+        cheap(bench)
+        uploads(bench)
+
+
+if __name__ == "__main__":
+    main()

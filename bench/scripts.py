@@ -1,0 +1,320 @@
+"""Players for the checks: modules that are lists of instructions, and what each of them does with what its player sees.
+
+The answers of the host's calls stand here by a writing of the table in docs/players.md that shares nothing with the program.
+"""
+
+import math
+import struct
+
+from modules import HOST_CALLS, I32, leb, player_module, signed_leb
+from worlds import BUILDINGS, HITS, KINDS, PARTS, UNIT, Run, account_of, allowance, place_of, source_room
+
+PAGE = 1 << 16
+MOST_TEXT = 65_536
+MOST_ENTRIES = 4096
+NOT_OWNER, NOT_FOUND, NOT_ENOUGH, FULL, INVALID = -1, -5, -6, -8, -10
+
+
+def signed(value, bits):
+    value %= 1 << bits
+    return value - (1 << bits) if value >> (bits - 1) else value
+
+
+# ---- what a player sees
+
+
+def gives_sight(one, player):
+    return one["owner"] == player and (one["kind"] in ("creep", "controller") or one["kind"] in BUILDINGS)
+
+
+def part_hits(one, place):
+    if one["kind"] != "creep":
+        return 100
+    return min(100, max(0, one["hits"] - 100 * (len(one["body"]) - 1 - place)))
+
+
+def capacity(one, room):
+    controller = next((other for other in room if other["kind"] == "controller"), None)
+    level = controller["extra"] if controller else 0
+    if one["kind"] == "source":
+        return source_room(room)
+    if one["kind"] == "creep":
+        return 50 * sum(part == "carry" and part_hits(one, place) > 0 for place, part in enumerate(one["body"]))
+    if one["kind"] == "extension":
+        return {7: 100, 8: 200}.get(level, 50)
+    return {"spawn": 300, "storage": 1_000_000, "container": 2000}.get(one["kind"], 0)
+
+
+class Desk:
+    """What answers the calls of a player: what he sees, what he wants so far, and his memory text."""
+
+    def __init__(self, world, player):
+        self.world, self.account = world, account_of(world, player)
+        self.player = player
+        self.rooms = [index for index, room in enumerate(world["rooms"]) if any(gives_sight(one, player) for one in room["objects"])]
+        self.objects = sorted(((index, one) for index in self.rooms for one in world["rooms"][index]["objects"]), key=lambda seen: seen[1]["id"])
+        self.places = {one["id"]: place for place, (_, one) in enumerate(self.objects)}
+        self.text = bytes.fromhex(self.account["memory"])
+        self.drops = {}
+
+    def answer(self, name, arguments, memory):
+        return getattr(self, "answer_" + name)(memory, *arguments)
+
+    def answer_tick(self, _):
+        return self.world["tick"]
+
+    def answer_me(self, _):
+        return signed(self.player, 32)
+
+    def answer_allowance(self, _):
+        return allowance(self.account)
+
+    def answer_bucket(self, _):
+        return self.account["bucket"]
+
+    def answer_points(self, _):
+        return self.account["points"]
+
+    def answer_level(self, _):
+        return 1 + math.isqrt(self.account["points"] // 1_000_000)
+
+    def answer_rooms(self, _):
+        return len(self.rooms)
+
+    def answer_room(self, _, at):
+        return self.rooms[at] if 0 <= at < len(self.rooms) else INVALID
+
+    def answer_room_name(self, _, index):
+        if index not in self.rooms:
+            return INVALID
+        column, row = place_of(self.world["rooms"][index]["name"])
+        return (column + 128) * 256 + row + 128
+
+    def answer_terrain(self, _, index, x, y):
+        if index not in self.rooms or not 0 <= x < 50 or not 0 <= y < 50:
+            return INVALID
+        return int(self.world["rooms"][index]["terrain"][50 * y + x])
+
+    def answer_count(self, _):
+        return len(self.objects)
+
+    def answer_find(self, _, id):
+        return self.places.get(id, NOT_FOUND)
+
+    def answer_get(self, _, at, field):
+        if not 0 <= at < len(self.objects):
+            return INVALID
+        index, one = self.objects[at]
+        body = one["body"]
+        if 100 <= field < 100 + len(body):
+            return (1 + PARTS.index(body[field - 100])) * 1000 + part_hits(one, field - 100)
+        fields = [one["id"], 1 + KINDS.index(one["kind"]), index, one["x"], one["y"], one["owner"], one["hits"]]
+        fields += [100 * len(body) if one["kind"] == "creep" else HITS.get(one["kind"], 0), one["energy"]]
+        fields += [capacity(one, self.world["rooms"][index]["objects"]), one["timer"], one["extra"], one["progress"], one["other"]]
+        fields += [one["other_ticks"], len(body)]
+        return fields[field] if 0 <= field < len(fields) else INVALID
+
+    def answer_memory_length(self, _):
+        return len(self.text)
+
+    def answer_memory_read(self, memory, at):
+        at %= 1 << 32
+        if at + len(self.text) > len(memory):
+            return INVALID
+        memory[at : at + len(self.text)] = self.text
+        return 0
+
+    def answer_memory_write(self, memory, at, length):
+        at, length = at % (1 << 32), length % (1 << 32)
+        if length > MOST_TEXT or at + length > len(memory):
+            return INVALID
+        self.text = bytes(memory[at : at + length])
+        return 0
+
+    def answer_drop(self, _, id, amount):
+        creep = self.objects[self.places[id]][1] if id in self.places else None
+        if creep is None or creep["kind"] != "creep":
+            return NOT_FOUND
+        if creep["owner"] != self.player:
+            return NOT_OWNER
+        if amount < 0:
+            return INVALID
+        if creep["energy"] < max(1, amount):
+            return NOT_ENOUGH
+        if id not in self.drops and len(self.drops) == MOST_ENTRIES:
+            return FULL
+        self.drops[id] = amount
+        return 0
+
+
+# ---- instructions: a word and its numbers
+
+PLAIN = {
+    "nop": b"\x01",
+    "unreachable": b"\x00",
+    "drop": b"\x1a",
+    "extend": b"\xac",
+    "store": b"\x37\x03\x00",
+    "size": b"\x3f\0",
+    "grow": b"\x40\0",
+    "return": b"\x0f",
+    # (what does not come back, with the instructions that it takes)
+    "spin": b"\x03\x40\x0c\0\x0b",
+}
+
+
+def call(name, *arguments):
+    """The instructions of a call, which leave its answer."""
+    return [("i32" if kind == I32[0] else "i64", value) for kind, value in zip(HOST_CALLS[name][0], arguments)] + [("call", name)]
+
+
+def kept(address, name, *arguments):
+    """A call whose answer is stored in the memory, in eight bytes."""
+    wide = [] if HOST_CALLS[name][1] != I32 else [("extend",)]
+    return [("i32", address), *call(name, *arguments), *wide, ("store",)]
+
+
+def unkept(name, *arguments):
+    return [*call(name, *arguments), ("drop",)]
+
+
+def compared(answer, name, *arguments):
+    """A call that has to give this answer: any other is a trap."""
+    return [*call(name, *arguments), ("i32" if HOST_CALLS[name][1] == I32 else "i64", answer), ("differs", name), ("trap_if",)]
+
+
+class Spent(Exception):
+    pass
+
+
+class Trapped(Exception):
+    pass
+
+
+class Script:
+    """A module whose `loop` is a list of instructions, run one after the other, with `start` before it where there is one.
+
+    Where it has a trap, that is the number of the one in which the last instruction ends, which is code and how
+    many instructions that takes."""
+
+    refusal = None
+
+    def __init__(self, loop, pages=1, data=(0, b""), start=None, helpers=(), table=b"", elements=b"", trap=None):
+        self.loop, self.start, self.pages, self.data, self.trap = list(loop), start, pages, data, trap
+        self.calls = sorted({it[1] for it in [*self.loop, *(start or ())] if it[0] == "call"}, key=list(HOST_CALLS).index)
+        segment = b"\0\x41" + signed_leb(data[0]) + b"\x0b" + leb(len(data[1])) + data[1] if data[1] else b""
+        after = trap[1] if trap else b""
+        self.content = player_module(
+            self.spelled(self.loop) + after, self.calls, None if start is None else self.spelled(start), helpers, pages, table, elements, segment
+        )
+
+    def spelled(self, code):
+        out = []
+        for word, *values in code:
+            if word == "i32":
+                out.append(b"\x41" + signed_leb(signed(values[0], 32)))
+            elif word == "i64":
+                out.append(b"\x42" + signed_leb(signed(values[0], 64)))
+            elif word == "call":
+                out.append(b"\x10" + leb(self.calls.index(values[0])))
+            elif word == "differs":
+                out.append(b"\x47" if HOST_CALLS[values[0]][1] == I32 else b"\x52")
+            elif word == "trap_if":
+                out.append(b"\x04\x40\0\x0b")
+            else:
+                out.append(PLAIN[word])
+        return b"".join(out)
+
+    def run(self, world, player):
+        desk = Desk(world, player)
+        machine = Machine(desk, UNIT * allowance(desk.account), bytearray((self.pages or 0) * PAGE))
+        at, content = self.data
+        machine.memory[at : at + len(content)] = content
+        try:
+            machine.all(self.start or ())
+            machine.all(self.loop)
+            if self.trap:
+                machine.take(self.trap[2])
+                raise Trapped(self.trap[0])
+            outcome, trap = "finished", 0
+        except Spent:
+            outcome, trap = "spent", 0
+        except Trapped as it:
+            outcome, trap = "trapped", it.args[0]
+        return Run(player, outcome, machine.used, desk.text, desk.drops, trap)
+
+
+class Machine:
+    """Runs instructions until its fuel is spent."""
+
+    def __init__(self, desk, fuel, memory):
+        self.desk, self.fuel, self.memory, self.stack, self.used = desk, fuel, memory, [], 0
+
+    def take(self, count):
+        if self.used + count > self.fuel:
+            self.used = self.fuel
+            raise Spent()
+        self.used += count
+
+    def all(self, code):
+        for word, *values in code:
+            if word == "spin":
+                self.take(self.fuel + 1)
+            self.take(1)
+            if word == "return":
+                return
+            getattr(self, "do_" + word)(*values)
+
+    def do_nop(self):
+        pass
+
+    def do_unreachable(self):
+        raise Trapped(1)
+
+    def do_i32(self, value):
+        self.stack.append(signed(value, 32))
+
+    def do_i64(self, value):
+        self.stack.append(signed(value, 64))
+
+    def do_call(self, name):
+        count = len(HOST_CALLS[name][0])
+        arguments = self.stack[len(self.stack) - count :]
+        del self.stack[len(self.stack) - count :]
+        self.stack.append(self.desk.answer(name, arguments, self.memory))
+
+    def do_drop(self):
+        self.stack.pop()
+
+    def do_extend(self):
+        pass
+
+    def do_store(self):
+        value, address = self.stack.pop(), self.stack.pop()
+        self.memory[address : address + 8] = struct.pack("<q", value)
+
+    def do_size(self):
+        self.stack.append(len(self.memory) // PAGE)
+
+    def do_grow(self):
+        by, size = self.stack.pop(), len(self.memory) // PAGE
+        grows = 0 <= by and size + by <= 256
+        self.memory += bytes(by * PAGE if grows else 0)
+        self.stack.append(size if grows else -1)
+
+    def do_differs(self, _):
+        self.stack.append(int(self.stack.pop() != self.stack.pop()))
+
+    def do_trap_if(self):
+        if self.stack.pop():
+            self.take(1)
+            raise Trapped(1)
+
+
+class Table(Script):
+    """A module that makes a list of calls, keeps the answer of each, and leaves them all as its memory text."""
+
+    def __init__(self, calls, **others):
+        self.listed = list(calls)
+        code = [instruction for place, it in enumerate(self.listed) for instruction in kept(8 * place, *it)]
+        super().__init__([*code, *unkept("memory_write", 0, 8 * len(self.listed))], **others)

@@ -1,0 +1,392 @@
+"""Worlds for the checks: the world file, the journal's contents, the tick and the printed lines.
+
+It is a second, slow writing of docs/formats.md, which shares nothing with the program. A world is what its file
+says, as Python has it from JSON.
+"""
+
+import copy
+import json
+import struct
+
+MIB = 1 << 20
+SECOND = 1 << 32
+CORNERS = (0, 49, 2450, 2499)
+FIELDS = ("owner", "energy", "timer", "extra", "progress", "other", "other_ticks")
+KINDS = ["source", "controller", "creep", "spawn", "extension", "storage", "container", "road", "pile", "site"]
+BUILDINGS = ("spawn", "extension", "storage", "container", "road")
+PARTS = ["move", "work", "carry", "attack", "ranged_attack", "tough", "heal", "claim"]
+HITS = {"spawn": 5000, "extension": 1000, "storage": 10_000, "container": 250_000, "road": 5000}
+RESULTS = [
+    "accepted",
+    "UnknownPlayer",
+    "WrongToken",
+    "TooLarge",
+    "Malformed",
+    "FloatRefused",
+    "Invalid",
+    "UnknownImport",
+    "ImportKind",
+    "NoLoop",
+    "Segment",
+]
+OUTCOMES = ["finished", "trapped", "spent"]
+DROP = 1
+UNIT = 10_000
+MOST_UNITS = 500
+MOST_BUCKET = 10_000
+MOST_PILE = 10**9
+
+
+# ---- worlds by their parts
+
+
+def grounds(tiles=()):
+    """Plain ground with walls in the corners, but for these tiles."""
+    digits = ["0"] * 2500
+    for corner in CORNERS:
+        digits[corner] = "1"
+    for tile, ground in dict(tiles).items():
+        digits[tile] = ground
+    return "".join(digits)
+
+
+def thing(kind, id, x, y, **fields):
+    return {"id": id, "kind": kind, "x": x, "y": y, **fields}
+
+
+def room(name, next, *objects, terrain=None):
+    return {"name": name, "terrain": terrain or grounds(), "next": next, "objects": list(objects)}
+
+
+def world(*rooms, tick=0, players=()):
+    return {"version": 1, "tick": tick, "rooms": list(rooms), "players": list(players)}
+
+
+def full(it):
+    """A world with every key of each object and player, but for the tokens, which no world has."""
+    it = copy.deepcopy(it)
+    for place in it["rooms"]:
+        for one in place["objects"]:
+            for field in FIELDS:
+                one.setdefault(field, 0)
+            one.setdefault("body", [])
+            one.setdefault("hits", 100 * len(one["body"]) if one["kind"] == "creep" else HITS.get(one["kind"], 0))
+        place["objects"].sort(key=lambda one: one["id"])
+    for player in it["players"]:
+        player.pop("token", None)
+        for field, default in (("bucket", 0), ("points", 0), ("memory", "")):
+            player.setdefault(field, default)
+    it["players"].sort(key=lambda player: player["player"])
+    return it
+
+
+def objects_of(it):
+    return [one for place in it["rooms"] for one in place["objects"]]
+
+
+def account_of(it, player):
+    return next((account for account in it["players"] if account["player"] == player), None)
+
+
+def allowance(account):
+    return min(MOST_UNITS, account["limit"] + account["bucket"])
+
+
+def bytes_of(it):
+    """The world file."""
+    return json.dumps(it, indent=1).encode()
+
+
+def text_of(it):
+    """The world file as `write_world` gives it."""
+    return json.dumps(full(it), sort_keys=True, separators=(",", ":")).encode()
+
+
+# ---- bytes
+
+
+def listed(entries):
+    return struct.pack("<I", len(entries)) + b"".join(entries)
+
+
+def object_bytes(one):
+    return struct.pack(
+        "<QBBBIIQIIQIIB",
+        one["id"],
+        1 + KINDS.index(one["kind"]),
+        one["x"],
+        one["y"],
+        one["owner"],
+        one["hits"],
+        one["energy"],
+        one["timer"],
+        one["extra"],
+        one["progress"],
+        one["other"],
+        one["other_ticks"],
+        len(one["body"]),
+    ) + bytes(1 + PARTS.index(part) for part in one["body"])
+
+
+def room_bytes(index, place):
+    return struct.pack("<II", index, place["next"]) + listed([object_bytes(one) for one in place["objects"]])
+
+
+def account_bytes(account):
+    memory = bytes.fromhex(account["memory"])
+    numbers = struct.pack("<IIIQI", account["player"], account["limit"], account["bucket"], account["points"], len(memory))
+    return numbers + memory
+
+
+def place_of(name):
+    """The column and the row of a room's name."""
+    row = max(name.rfind("N"), name.rfind("S"))
+    column, line = int(name[1:row]), int(name[row + 1 :])
+    return (-1 - column if name[0] == "W" else column), (-1 - line if name[row] == "N" else line)
+
+
+def base_content(it):
+    it = full(it)
+    content = b"SWSJ" + struct.pack("<IQI", 1, it["tick"], len(it["rooms"]))
+    for index, place in enumerate(it["rooms"]):
+        content += struct.pack("<ii", *place_of(place["name"])) + bytes(map(int, place["terrain"])) + room_bytes(index, place)
+    return content + listed([account_bytes(account) for account in it["players"]])
+
+
+def upload_bytes(player, result, content):
+    return struct.pack("<IBI", player, RESULTS.index(result), len(content)) + content
+
+
+def run_bytes(run):
+    entries = [struct.pack("<BQQQB", DROP, creep, 0, amount, 0) for creep, amount in sorted(run.drops.items())]
+    return struct.pack("<IBBQ", run.player, OUTCOMES.index(run.outcome), run.trap, run.used) + listed(entries)
+
+
+def tick_content(step):
+    """The content of a tick, with every account and every room."""
+    after = step.world
+    return (
+        b"T"
+        + struct.pack("<Q", after["tick"])
+        + listed([upload_bytes(*upload) for upload in step.uploads])
+        + listed([run_bytes(run) for run in step.runs])
+        + listed([account_bytes(account) for account in after["players"]])
+        + listed([room_bytes(index, place) for index, place in enumerate(after["rooms"])])
+    )
+
+
+def frame(content):
+    return struct.pack("<Q", len(content)) + content
+
+
+def contents_of(journal):
+    """The contents of the whole frames of a journal."""
+    at, found = 0, []
+    while at + 8 <= len(journal):
+        (length,) = struct.unpack_from("<Q", journal, at)
+        if at + 8 + length > len(journal):
+            break
+        found.append(journal[at + 8 : at + 8 + length])
+        at += 8 + length
+    return found
+
+
+class Fields:
+    """Numbers at the front of bytes."""
+
+    def __init__(self, content):
+        self.content, self.at = content, 0
+
+    def take(self, form):
+        found = struct.unpack_from("<" + form, self.content, self.at)
+        self.at += struct.calcsize("<" + form)
+        return found
+
+    def bytes(self, length):
+        self.at += length
+        return self.content[self.at - length : self.at]
+
+    def list(self, read):
+        return [read() for _ in range(self.take("I")[0])]
+
+
+def read_tick(content):
+    """The tick, uploads, runs, accounts and rooms of a tick's content."""
+    fields = Fields(content)
+
+    def upload():
+        player, result, length = fields.take("IBI")
+        return player, RESULTS[result], fields.bytes(length)
+
+    def entry():
+        action, actor, target, amount, parts = fields.take("BQQQB")
+        return action, actor, target, amount, fields.bytes(parts)
+
+    def run():
+        player, outcome, trap, used = fields.take("IBBQ")
+        return player, OUTCOMES[outcome], trap, used, fields.list(entry)
+
+    def account():
+        player, limit, bucket, points, length = fields.take("IIIQI")
+        return player, limit, bucket, points, fields.bytes(length)
+
+    def one():
+        numbers = fields.take("QBBBIIQIIQIIB")
+        return (*numbers[:-1], fields.bytes(numbers[-1]))
+
+    def place():
+        index, following = fields.take("II")
+        return index, following, fields.list(one)
+
+    _, tick = fields.take("BQ")
+    parts = {"tick": tick, "uploads": fields.list(upload), "runs": fields.list(run), "accounts": fields.list(account)}
+    parts["rooms"] = fields.list(place)
+    parts["left"] = content[fields.at :]
+    return parts
+
+
+# ---- players
+
+
+class Run:
+    """What a player's module did in a tick: `drops` has the amount by the creep."""
+
+    def __init__(self, player, outcome, used, memory, drops=None, trap=0):
+        self.player, self.outcome, self.used, self.trap = player, outcome, used, trap
+        self.drops, self.memory = dict(drops or {}), memory
+
+
+class Upload:
+    """An entry of the upload stream. Its module has `content`, `refusal`, which is None where it is accepted, and `run`."""
+
+    def __init__(self, tick, player, module):
+        self.tick, self.player, self.module = tick, player, module
+
+
+class Refused:
+    """Bytes that are refused for this reason."""
+
+    def __init__(self, refusal, content):
+        self.refusal, self.content = refusal, content
+
+
+def upload_entry(tick, player, content):
+    return struct.pack("<QII", tick, player, len(content)) + content
+
+
+def stream_of(uploads):
+    return b"".join(upload_entry(it.tick, it.player, it.module.content) for it in uploads)
+
+
+# ---- the tick
+
+
+def dropped(it, player, creep_id, wanted):
+    for index, place in enumerate(it["rooms"]):
+        creep = next((one for one in place["objects"] if one["id"] == creep_id and one["kind"] == "creep"), None)
+        if creep is None or creep["owner"] != player or creep["hits"] == 0 or creep["energy"] == 0:
+            continue
+        amount = min(wanted, creep["energy"]) if wanted else creep["energy"]
+        creep["energy"] -= amount
+        tile = (creep["x"], creep["y"])
+        pile = next((one for one in place["objects"] if one["kind"] == "pile" and (one["x"], one["y"]) == tile), None)
+        if pile is None:
+            pile = thing("pile", index * SECOND + place["next"], *tile, hits=0, body=[], **dict.fromkeys(FIELDS, 0))
+            place["next"] += 1
+            place["objects"].append(pile)
+            place["objects"].sort(key=lambda one: one["id"])
+        pile["energy"] = min(MOST_PILE, pile["energy"] + amount)
+
+
+def renewed(source, capacity):
+    if source["timer"] > 0:
+        source["timer"] -= 1
+        if source["timer"] == 0:
+            source["energy"] = max(source["energy"], capacity)
+    elif source["energy"] < capacity:
+        source["timer"] = 300
+
+
+def source_room(objects):
+    taken = any(one["kind"] == "controller" and (one["owner"] or one["other"]) for one in objects)
+    return 3000 if taken else 1500
+
+
+def ticked(it, runs=()):
+    """The world after a tick with these runs."""
+    it = full(it)
+    it["tick"] += 1
+    for run in sorted(runs, key=lambda run: run.player):
+        for creep, amount in sorted(run.drops.items()):
+            dropped(it, run.player, creep, amount)
+    for place in it["rooms"]:
+        for one in place["objects"]:
+            if one["kind"] == "source":
+                renewed(one, source_room(place["objects"]))
+            if one["kind"] == "pile":
+                one["energy"] -= -(-one["energy"] // 1000)
+        place["objects"] = [one for one in place["objects"] if one["kind"] != "pile" or one["energy"] > 0]
+    for account in it["players"]:
+        run = next((run for run in runs if run.player == account["player"]), None)
+        units = -(-run.used // UNIT) if run else 0
+        account["bucket"] = min(MOST_BUCKET, account["limit"] + account["bucket"] - units)
+        if run:
+            account["memory"] = run.memory.hex()
+    return it
+
+
+class Step:
+    """A tick: its uploads as (player, result, bytes), its runs, and the world after it."""
+
+    def __init__(self, uploads, runs, after):
+        self.uploads, self.runs, self.world = uploads, runs, after
+
+
+def played(first, ticks, uploads=()):
+    """The steps of a run of so many ticks with these uploads."""
+    it, modules, steps = full(first), {}, []
+    for _ in range(ticks):
+        results = []
+        for upload in uploads:
+            if upload.tick != it["tick"]:
+                continue
+            module = upload.module
+            result = "UnknownPlayer" if account_of(it, upload.player) is None else module.refusal or "accepted"
+            results.append((upload.player, result, module.content if len(module.content) <= MIB else b""))
+            if result == "accepted":
+                modules[upload.player] = module
+        runs = [modules[player].run(it, player) for player in sorted(modules)]
+        it = ticked(it, runs)
+        steps.append(Step(results, runs, it))
+    return steps
+
+
+def journal_of(first, steps):
+    return frame(base_content(first)) + b"".join(frame(tick_content(step)) for step in steps)
+
+
+# ---- lines
+
+
+def start_line(it):
+    return f"start tick {it['tick']} rooms {len(it['rooms'])} objects {len(objects_of(it))} players {len(it['players'])}\n"
+
+
+def step_lines(step):
+    lines = ""
+    for player, result, _ in step.uploads:
+        lines += f"upload player {player} {result if result == 'accepted' else 'refused ' + result}\n"
+    for run in step.runs:
+        lines += f"player {run.player} {run.outcome} {run.used}\n"
+    objects, intents = objects_of(step.world), sum(len(run.drops) for run in step.runs)
+    energy = sum(one["energy"] for one in objects)
+    return lines + f"tick {step.world['tick']} objects {len(objects)} intents {intents} energy {energy}\n"
+
+
+def output_of(first, steps):
+    return (start_line(first) + "".join(map(step_lines, steps))).encode()
+
+
+# ---- the worlds of several checks
+
+SMALL = world(room("E0S0", 3, thing("source", 1, 10, 10, timer=1), thing("pile", 2, 20, 20, energy=1001)))
