@@ -1,3 +1,4 @@
+mod Owned
 pub mod Accounts
 pub mod Rising
 pub mod Keyed

@@ -29,11 +29,11 @@ parted key n (x ∷ xs) (suc i) within point = (
   ),
 )
 
-all_weaker : {X : Type 0} (P Q : X → Type 0) → ((x : X) → P x → Q x) → (xs : List X) → AllByRecursion P xs → AllByRecursion Q xs
+pub all_weaker : {X : Type 0} (P Q : X → Type 0) → ((x : X) → P x → Q x) → (xs : List X) → AllByRecursion P xs → AllByRecursion Q xs
 all_weaker P Q weaker [] all = tt
 all_weaker P Q weaker (x ∷ xs) all = (weaker x all.0, all_weaker P Q weaker xs all.1)
 
-all_filter : {X : Type 0} (P : X → Type 0) (p : X → Bool) (xs : List X) → AllByRecursion P xs → AllByRecursion P (filter p xs)
+pub all_filter : {X : Type 0} (P : X → Type 0) (p : X → Bool) (xs : List X) → AllByRecursion P xs → AllByRecursion P (filter p xs)
 all_filter P p [] all = tt
 all_filter P p (x ∷ xs) all =
     elim (p x) as (λ b. AllByRecursion P (cond b (x ∷ filter p xs) (filter p xs))) [
@@ -41,7 +41,7 @@ all_filter P p (x ∷ xs) all =
       | false ↦ all_filter P p xs all.1
     ]
 
-all_insert : {X : Type 0} (P : X → Type 0) (y : X) (xs : List X) (i : ℕ) → AllByRecursion P xs → P y → AllByRecursion P (insert xs i y)
+pub all_insert : {X : Type 0} (P : X → Type 0) (y : X) (xs : List X) (i : ℕ) → AllByRecursion P xs → P y → AllByRecursion P (insert xs i y)
 all_insert P y [] zero all here = (here, tt)
 all_insert P y [] (suc i) all here = (here, tt)
 all_insert P y (x ∷ xs) zero all here = (here, all)

@@ -4,6 +4,7 @@
 mod account;
 mod bytes;
 mod object;
+mod owners;
 mod room_table;
 #[cfg(test)]
 mod tests;

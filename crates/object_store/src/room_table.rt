@@ -1,10 +1,11 @@
 // The objects of one room.
-ghost use Rattle.std.specs.Prelude.{◌≡◌, ◌<◌, ◌≤◌, ◌+◌, ◌-◌, ◌*◌, ◌^◌, [], ◌↔◌, IsTrue, length, max, slice_get, option_copied, option_map, Some, None, IfSome, IfNone, IfOk, OnOk, OnErr};
-ghost use Rattle.std.specs.List.{HoldsAt};
+ghost use Rattle.std.specs.Prelude.{◌≡◌, ◌==◌, ◌<◌, ◌≤◌, ◌+◌, ◌-◌, ◌*◌, ◌^◌, [], ◌↔◌, IsTrue, length, max, slice_get, option_copied, option_map, Some, None, IfSome, IfNone, IfOk, OnOk, OnErr};
+ghost use Rattle.std.specs.List.{HoldsAt, list_any};
 ghost use Rattle.std.specs.List.Sorted.{IsPartitionPoint};
 ghost use Rattle.object_store.specs.Tables.{Table, IsRising, IsOnTile, HasId, HasNoId, find_object, with_object, with_new, without, first_on};
 
 use crate::object::Object;
+use crate::owners::Owners;
 use game_tables::Kind;
 use std::alloc::{AllocError, Global};
 use std::marker::Model;
@@ -12,24 +13,27 @@ use std::marker::Model;
 /// The objects of one room in rising id, with the room's index in the world and the serial of its
 /// next new object.
 ///
-/// In this form it is a plain vector. An id is found by halving, a tile from the front.
+/// In this form it is a plain vector. An id is found by halving, a tile from the front, and most
+/// players who own nothing are told without a look at the objects.
 #[derive(Drop)]
 pub struct RoomTable {
     index: u32,
     next: u32,
     objects: Vec<Object>,
     spare: u32,
+    owners: Owners,
 }
 
 impl Model for RoomTable {
     ghost use Rattle.std.specs.Prelude.{◌<◌, ◌≤◌, ◌+◌, ◌^◌, length, vec_capacity};
     ghost use Rattle.object_store.specs.Tables.{Table, IsRising};
+    ghost use Rattle.object_store.specs.Owners.{Covers};
 
     ghost Value = { Table };
 
     ghost view = { λ t. record { index = t.index; next = t.next; objects = t.objects.items; spare = t.spare } };
 
-    ghost invariant = { λ t. IsRising t.objects.items × (length t.objects.items + t.spare < 2 ^ 32) × (length t.objects.items + t.spare ≤ vec_capacity t.objects) };
+    ghost invariant = { λ t. IsRising t.objects.items × (length t.objects.items + t.spare < 2 ^ 32) × (length t.objects.items + t.spare ≤ vec_capacity t.objects) × Covers t.owners.remainders t.objects.items };
 }
 
 impl RoomTable {
@@ -42,6 +46,7 @@ impl RoomTable {
             next,
             objects: Vec::new(alloc),
             spare: 0,
+            owners: Owners::none(),
         }
     }
 
@@ -51,11 +56,13 @@ impl RoomTable {
         requires within { length objects.items < 2 ^ 32 }
         ensures { result ≡ record { index = index; next = next; objects = objects.items; spare = 0 } }
     {
+        let owners = Owners::of(&objects);
         RoomTable {
             index,
             next,
             objects,
             spare: 0,
+            owners,
         }
     }
 
@@ -123,6 +130,13 @@ impl RoomTable {
             .map(|object| object.id)
     }
 
+    /// Whether a player, or nobody by the number 0, owns an object here.
+    pub fn has_owner(&self, player: u32) -> bool
+        ensures { result ≡ list_any (λ o. o.owner == player) self.now.objects }
+    {
+        self.owners.may_have(player) && self.objects.iter().any(|object| object.owner == player)
+    }
+
     /// How many more objects it takes without memory.
     pub fn spare(&self) -> u32
         ensures spare { result ≡ self.now.spare }
@@ -150,6 +164,7 @@ impl RoomTable {
             next: self.next,
             objects,
             spare: spare as u32,
+            owners: self.owners,
         })
     }
 
@@ -171,6 +186,7 @@ impl RoomTable {
         ensures { self.new ≡ record self.old { objects = with_object object self.old.objects } }
     {
         let place = place(&self.objects, object.id);
+        self.owners.add(object.owner);
         self.objects[place] = object;
     }
 
@@ -182,6 +198,7 @@ impl RoomTable {
         ensures { self.new ≡ record self.old { objects = with_new object self.old.objects; spare = self.old.spare - 1 } }
     {
         let place = place(&self.objects, object.id);
+        self.owners.add(object.owner);
         // It has memory for one more, so this is never refused.
         let _full = self.objects.insert(place, object);
         self.spare -= 1;

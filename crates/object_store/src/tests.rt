@@ -135,6 +135,34 @@ fn id_at(table: &RoomTable, place: u32) -> u64 {
 }
 
 #[test]
+fn owners_are_told(rt: HostRuntime) -> Result<(), Fail> {
+    let mut table = RoomTable::new(rt.alloc(), 4, 7);
+    assert!(rt; !table.has_owner(0));
+    table.reserve(2)?;
+    // 65 has the remainder of 1.
+    for (owner, first, second, nobody) in [
+        (1, true, false, false),
+        (65, false, true, false),
+        (0, false, false, true),
+    ] {
+        let object = Object {
+            owner,
+            ..pile(2, 1)
+        };
+        if owner == 1 {
+            assert!(rt; add(&mut table, object));
+        } else {
+            assert!(rt; replace(&mut table, object));
+        }
+        let told = (table.has_owner(1), table.has_owner(65), table.has_owner(0));
+        assert_eq!(rt; told, (first, second, nobody), "{owner}");
+    }
+    assert!(rt; table.remove(2).is_some());
+    assert!(rt; !table.has_owner(0));
+    Ok(())
+}
+
+#[test]
 fn a_table_takes_objects_in_its_spare(rt: HostRuntime) -> Result<(), Fail> {
     let mut table = RoomTable::new(rt.alloc(), 4, 7);
     assert_eq!(rt; table.rules(), 1);

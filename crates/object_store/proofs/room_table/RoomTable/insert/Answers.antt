@@ -5,6 +5,8 @@ use Rattle.std.proofs.lemmas.Bool.{cond-true}
 use Rattle.std.proofs.lemmas.List.Edits.{length-insert}
 use Rattle.object_store.specs.Tables.{Table, HasNoId}
 use Rattle.object_store.proofs.Keyed.{id_of, rises_from_objects, objects_from_rises}
+use Rattle.object_store.specs.Owners.{Covers}
+use Rattle.object_store.proofs.Owned.{covers_insert}
 use Rattle.object_store.proofs.Rising.{Rises, added_there}
 use Rattle.object_store.proofs.room_table.RoomTable.insert.Goals as goal
 
@@ -22,6 +24,7 @@ invariant_of-self c =
       objects_from_rises _ (subst (Rises id_of) (sym done) added.1),
       omega (arith, c.self.invariant.1, c.requires.room),
       omega (arith, c.self.invariant.2, c.requires.room, c.insert-full.ensures.capacity),
+      subst (Covers c.add.new.self.remainders) (sym done) (covers_insert _ _ c.args.object c.add.ensures.added c.add.ensures.kept objects c.self.invariant.3 place),
     )
 
 pub returns : goal.returns

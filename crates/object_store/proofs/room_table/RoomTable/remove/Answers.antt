@@ -4,6 +4,8 @@ use Rattle.std.proofs.lemmas.List.Edits.{length-remove}
 use Rattle.object_store.specs.declared.object.Object.{Object}
 use Rattle.object_store.specs.Tables.{Table, HasNoId, find_object, without}
 use Rattle.object_store.proofs.Keyed.{id_of, rises_from_objects, objects_from_rises}
+use Rattle.object_store.specs.Owners.{Covers}
+use Rattle.object_store.proofs.Owned.{covers_filter}
 use Rattle.object_store.proofs.Rising.{Rises, is_other, find-at, remove-at, others-absent, rises-filter}
 use Rattle.object_store.proofs.room_table.RoomTable.remove.Goals as goal
 
@@ -25,6 +27,7 @@ invariant_of-self c =
       objects_from_rises _ (subst (Rises id_of) (sym done) (rises-filter id_of (is_other id_of id) objects rises)),
       omega (arith, c.self.invariant.1),
       omega (arith, c.self.invariant.2, c.remove.ensures.capacity),
+      subst (Covers c.self.inside.owners.remainders) (sym done) (covers_filter _ _ objects c.self.invariant.3),
     )
 
 pub returns-clause-removed : goal.returns-clause-removed

@@ -2,6 +2,7 @@ use Rattle.std.proofs.Common.{length, sym, ap, subst, refl, arith, length-set}
 use Rattle.object_store.specs.declared.object.Object.{Object}
 use Rattle.object_store.specs.Tables.{Table, HasId}
 use Rattle.object_store.proofs.Keyed.{id_of, rises_from_objects, objects_from_rises}
+use Rattle.object_store.proofs.Owned.{covers_set}
 use Rattle.object_store.proofs.Rising.{Rises, replaced_there, rises-replaced}
 use Rattle.object_store.proofs.room_table.RoomTable.set.Goals as goal
 
@@ -21,6 +22,7 @@ invariant_of-self c =
       objects_from_rises _ (subst (Rises id_of) (sym done.1) (rises-replaced id_of c.args.object objects rises)),
       omega (arith, length-set {A = Object}, c.self.invariant.1),
       omega (arith, length-set {A = Object}, c.self.invariant.2),
+      covers_set _ _ c.args.object c.add.ensures.added c.add.ensures.kept objects c.self.invariant.3 c.place-place.result,
     )
 
 pub returns : goal.returns
