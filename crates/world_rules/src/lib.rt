@@ -6,6 +6,6 @@ mod examples;
 mod rule;
 mod sound;
 
-pub use examples::{drop_examples, upkeep_examples};
+pub use examples::{bucket_examples, drop_examples, entry_examples, upkeep_examples};
 pub use rule::Rule;
 pub use sound::stored_in_one_way;

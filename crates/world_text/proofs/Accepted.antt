@@ -8,12 +8,12 @@ use Rattle.object_store.specs.Tables.{IsRising}
 use Rattle.object_store.specs.Stored.{Stored, HaveRisingTables, AreRising}
 use Rattle.world_rules.specs.World.{ListedRoom, listed_room, listing_of, world_of, world_listed}
 use Rattle.world_rules.specs.Rules.{KeepsRules}
-use Rattle.world_rules.specs.Sound.{IsSound}
+use Rattle.world_rules.specs.Sound.{IsSound, IsSoundRoom}
 use Rattle.world_form.specs.declared.fault.WorldFault.{WorldFault}
 use Rattle.world_form.specs.declared.fault.WorldFault.TheVariants as faults
 use Rattle.world_form.specs.Facts.{Filed, filed_listing}
 use Rattle.world_form.specs.Files.{AreTokens, HasFault, Lists, Says, told_tokens}
-use Rattle.world_form.specs.Written.{IsWritable}
+use Rattle.world_form.specs.Written.{IsWritable, IsWritableRoom}
 use Rattle.world_form.proofs.InFile.{few_rooms, few_players}
 use Rattle.world_text.specs.declared.draft.RoomDraft.{RoomDraft}
 use Rattle.world_text.specs.declared.draft.Draft.{Draft}
@@ -90,12 +90,17 @@ module _ (bytes : List ℕ) (filed : Filed) (draft : Draft) (says : Says bytes f
       let rest : map listed_room rooms ≡ map drafted_room drafts = cc in
       (subst (λ (listed : ListedRoom). IsRising listed.objects) (sym first) rising.0.rising, tables_rise rooms drafts rest rising.1)
 
+  sound_rooms : (rooms : List Room) → AllByRecursion IsWritableRoom rooms → AllByRecursion IsSoundRoom rooms
+  sound_rooms [] writable = tt
+  sound_rooms (room ∷ rooms) writable = (record { begun = writable.0.next; tiles = writable.0.objects }, sound_rooms rooms writable.1)
+
   pub sound : (stored : Stored) → IsBuilt draft stored → IsSound stored
   sound stored b =
       let order = orderly bytes filed draft says d in
       record {
         places = b.places;
         tables = tables_rise stored.rooms draft.rooms.items b.rooms (rooms_rising draft keeps order);
+        rooms = sound_rooms stored.rooms (rooms_writable says.0 filed draft stored.rooms says.2 d b.rooms);
         accounts = subst AreRising (sym b.accounts) (accounts_rising draft keeps order);
         rules = λ rule n no_counts no_sites broken. subst KeepsRules (sym (listing_is stored b)) keeps rule n broken;
       }

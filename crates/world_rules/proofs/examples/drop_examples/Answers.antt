@@ -66,11 +66,12 @@ grows energy amount all wanted falls =
       ap (λ (part : RoomPart). part.next) is,
     )
 
--- an entry of another player, or to a creep without a load, changes nothing
-drops_nothing : (player load : ℕ) → can_drop (drop_of player 5) (creep_with load) ≡ false → DropsNothing player load
-drops_nothing player load no_drop =
-    ap (λ (o : Option Object). dropped_of (drop_of player 5) o (alone load)) (creep_alone load)
-    ∙ ap (λ (b : Bool). if b then dropped_by (creep_with load) (wanted_of 5 load) (alone load) else alone load) no_drop
+-- an entry of another player, or to a creep without a load or hits, changes nothing
+drops_nothing : (player hits load : ℕ) → can_drop (drop_of player 5) (record (creep_with load) { hits = hits }) ≡ false → DropsNothing player hits load
+drops_nothing player hits load no_drop =
+    let creep : Object = record (creep_with load) { hits = hits } in
+    ap (λ (o : Option Object). dropped_of (drop_of player 5) o (room_with (creep ∷ []))) (get-from_entries nat_cmp_total ((3, creep) ∷ []) 3)
+    ∙ ap (λ (b : Bool). if b then dropped_by creep (wanted_of 5 load) (room_with (creep ∷ [])) else room_with (creep ∷ [])) no_drop
 
 -- ---- the examples
 
@@ -90,7 +91,10 @@ pub returns-clause-most : goal.returns-clause-most
 returns-clause-most c = grows 999999998 5 5 refl refl
 
 pub returns-clause-another : goal.returns-clause-another
-returns-clause-another c = drops_nothing 2 20 refl
+returns-clause-another c = drops_nothing 2 200 20 refl
 
 pub returns-clause-empty : goal.returns-clause-empty
-returns-clause-empty c = drops_nothing 1 0 refl
+returns-clause-empty c = drops_nothing 1 200 0 refl
+
+pub returns-clause-killed : goal.returns-clause-killed
+returns-clause-killed c = drops_nothing 1 0 20 refl

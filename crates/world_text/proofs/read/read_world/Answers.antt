@@ -65,3 +65,6 @@ returns-clause-writable c =
     let stored = c.add_accounts.new.world in
     let built = built_of draft c.empty-world.result c.add_rooms.new.world stored c.empty-world.ensures c.in_ok-add_rooms.ensures.rooms c.in_ok-add_rooms.ensures.places c.in_ok-add_rooms.ensures.tick c.in_ok-add_accounts.ensures in
     writable c.args.bytes.now said.0 draft said.1 said.2 c.in_ok-test_rules.ensures.kept stored built
+
+pub returns-clause-sound : goal.returns-clause-sound
+returns-clause-sound c = (returns-clause-writable c).sound
