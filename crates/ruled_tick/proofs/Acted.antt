@@ -1,12 +1,11 @@
 -- The tables in the course of the entries: ready for each, and what each makes of them.
 use Rattle.std.proofs.Common.{◌≡◌, ℕ, zero, suc, ◌+◌, ◌-◌, ◌^◌, ◌<◌, ◌≤◌, true, All, List, [], ◌∷◌, ◌++◌, map, length, get_or, set, Option, Some, None, option_map, slice_get, refl, sym, ap, subst, ◌∙◌, arith}
-use Rattle.std.specs.List.{AllByRecursion}
 use Rattle.std.proofs.lemmas.List.{length-set, length-map, length_push}
 use Rattle.std.proofs.lemmas.List.Elements.{All-map, All-set, All-weaker}
 use Rattle.game_tables.specs.declared.action.Action.{Action}
 use Rattle.intent_book.specs.declared.intent.Intent.{Intent}
 use Rattle.object_store.specs.declared.world.Room.{Room}
-use Rattle.object_store.specs.Tables.{Table, IsOnTile}
+use Rattle.object_store.specs.Tables.{Table}
 use Rattle.object_store.specs.Stored.{Stored}
 use Rattle.world_rules.specs.World.{Placed, ListedRoom, Frame, World, listed_room, world_of}
 use Rattle.world_rules.specs.RoomParts.{in_room, in_frame, part_of, with_part}
@@ -19,7 +18,7 @@ use Rattle.ruled_tick.specs.declared.standing.Standing.{Standing}
 use Rattle.ruled_tick.specs.Standing.{is_drop, room_at, StandAsIn}
 use Rattle.ruled_tick.specs.Entered.{entered, entered_all, with_tables, table_or, tables_in, AreEntered, IsReady, IsDropped, IsDroppedIn, IsDroppedAt, IsActed}
 use Rattle.ruled_tick.proofs.Actions.{dropping, entered_all_push}
-use Rattle.ruled_tick.proofs.Entered.{dropped_world, dropped_sound, none_of_fresh}
+use Rattle.ruled_tick.proofs.Entered.{dropped_world, dropped_sound, none_of_fresh, sound_here}
 
 -- ---- lists
 
@@ -93,16 +92,13 @@ drop_room world all same intent is =
 
 -- ---- before the first entry, and before each
 
-pub acted_first : (stored : Stored) (tables : List Table) → IsSound stored → HaveSerials stored.rooms → tables ≡ map (λ (room : Room). room.table) stored.rooms
-    → All (λ (table : Table). AllByRecursion IsOnTile table.objects) tables → All (λ (table : Table). 1 ≤ table.next) tables → IsActed stored [] tables
-acted_first stored tables sound serials is tiles begun =
+pub acted_first : (stored : Stored) (tables : List Table) → IsSound stored → HaveSerials stored.rooms → tables ≡ map (λ (room : Room). room.table) stored.rooms → IsActed stored [] tables
+acted_first stored tables sound serials is =
     let same : with_tables stored.rooms tables ≡ stored.rooms = ap (with_tables stored.rooms) is ∙ with_same stored.rooms in
     let at : List Room → Stored = λ rooms. record stored { rooms = rooms } in
     record {
       many = ap length is ∙ length-map stored.rooms (λ (room : Room). room.table);
       sound = subst (λ (rooms : List Room). IsSound (at rooms)) (sym same) sound;
-      tiles = tiles;
-      begun = begun;
       serials = subst (λ (ts : List Table). All (λ (table : Table). table.next ≤ serials_bound + 0) ts) (sym is)
           (All-map (λ (table : Table). table.next ≤ serials_bound + 0) (λ (room : Room). room.table) stored.rooms
           (All-weaker (λ (room : Room). room.table.next ≤ serials_bound) (λ (room : Room). room.table.next ≤ serials_bound + 0) (λ room less. omega arith) stored.rooms serials));
@@ -117,13 +113,12 @@ module _ (stored : Stored) (done : List Intent) (tables : List Table) (acted : I
   acted_ready k d inside =
       let parts = split_at stored.rooms tables k d inside acted.many in
       let at : (e : Table) → get_or tables k e ≡ parts.room.table = parts.table in
-      let begun : 1 ≤ parts.room.table.next = subst (λ (t : Table). 1 ≤ t.next) (at d) (acted.begun k d inside) in
       let below : parts.room.table.next < 2 ^ 32 - 1 = serial_below _ (subst (λ (t : Table). t.next ≤ serials_bound + length done) (at d) (acted.serials k d inside)) in
       let sound : IsSound (record { tick = stored.tick; rooms = parts.before ++ parts.room ∷ parts.after; accounts = stored.accounts }) = subst (λ (rooms : List Room). IsSound (record stored { rooms = rooms })) parts.whole acted.sound in
       subst IsReady (sym (at d)) (record {
-        tiles = subst (λ (t : Table). AllByRecursion IsOnTile t.objects) (at d) (acted.tiles k d inside);
+        tiles = (sound_here parts.before parts.room parts.after sound.rooms).tiles;
         serial = below;
-        fresh = none_of_fresh stored.tick stored.accounts parts.before parts.room parts.after sound begun below;
+        fresh = none_of_fresh stored.tick stored.accounts parts.before parts.room parts.after sound below;
       })
 
   module _ (intent : Intent) (is : is_drop intent ≡ true) where
@@ -137,8 +132,6 @@ module _ (stored : Stored) (done : List Intent) (tables : List Table) (acted : I
     acted_unchanged stays = record {
       many = acted.many;
       sound = acted.sound;
-      tiles = acted.tiles;
-      begun = acted.begun;
       serials = serials_weaker tables acted.serials;
       same = sym stays ∙ ap (λ (w : World). entered (world_of stored) w intent) acted.same ∙ sym (entered_all_push (world_of stored) (world_of stored) done intent);
     }
@@ -149,19 +142,16 @@ module _ (stored : Stored) (done : List Intent) (tables : List Table) (acted : I
         let parts = split_at stored.rooms tables index table there.0 acted.many in
         let one : old ≡ parts.room.table = sym (there.1 old) ∙ parts.table old in
         let drops : IsDropped intent parts.room.table table = subst (λ (t : Table). IsDropped intent t table) one d in
-        let begun : 1 ≤ parts.room.table.next = subst (λ (t : Table). 1 ≤ t.next) (parts.table old) (acted.begun index old there.0) in
         let most : parts.room.table.next ≤ serials_bound + length done = subst (λ (t : Table). t.next ≤ serials_bound + length done) (parts.table old) (acted.serials index old there.0) in
         let below : parts.room.table.next < 2 ^ 32 - 1 = serial_below _ most in
         let sound : IsSound (record { tick = stored.tick; rooms = parts.before ++ parts.room ∷ parts.after; accounts = stored.accounts }) = subst (λ (rooms : List Room). IsSound (record stored { rooms = rooms })) parts.whole acted.sound in
         let world : List Room → World = λ rooms. world_of (record stored { rooms = rooms }) in
         record {
           many = length-set tables index table ∙ acted.many;
-          sound = subst (λ (rooms : List Room). IsSound (record stored { rooms = rooms })) (sym parts.other) (dropped_sound stored.tick stored.accounts parts.before parts.room parts.after sound begun below intent table drops);
-          tiles = All-set (λ (t : Table). AllByRecursion IsOnTile t.objects) tables index table drops.tiles acted.tiles;
-          begun = All-set (λ (t : Table). 1 ≤ t.next) tables index table (omega (arith, drops.later)) acted.begun;
+          sound = subst (λ (rooms : List Room). IsSound (record stored { rooms = rooms })) (sym parts.other) (dropped_sound stored.tick stored.accounts parts.before parts.room parts.after sound below intent table drops);
           serials = All-set (λ (t : Table). t.next ≤ serials_bound + length done_then) tables index table (omega (arith, length_push done intent, drops.made)) (serials_weaker tables acted.serials);
           same = ap world parts.other
-              ∙ sym (dropped_world stored.tick stored.accounts parts.before parts.room parts.after sound begun below intent table drops)
+              ∙ sym (dropped_world stored.tick stored.accounts parts.before parts.room parts.after sound below intent table drops)
               ∙ ap (λ (n : ℕ). in_room (dropped intent) n (world (parts.before ++ parts.room ∷ parts.after))) parts.place
               ∙ ap (λ (rooms : List Room). in_room (dropped intent) index (world rooms)) (sym parts.whole)
               ∙ sym (entered_room (world_of stored) (world_of (tables_in stored tables)) intent is index room)

@@ -18,7 +18,7 @@ use Rattle.world_rules.specs.declared.rule.Rule.TheVariants as rules
 use Rattle.world_rules.specs.World.{Placed, ListedRoom, Frame, World, placed_from, listed_room, listing_of, world_of}
 use Rattle.world_rules.specs.RoomParts.{RoomPart, table_part, in_room, in_frame, part_of}
 use Rattle.world_rules.specs.Rules.{Stands, HasNoBirth}
-use Rattle.world_rules.specs.Sound.{IsSound}
+use Rattle.world_rules.specs.Sound.{IsSound, IsSoundRoom}
 use Rattle.world_rules.specs.Drops.{dropped, next_id}
 use Rattle.world_rules.proofs.Entries.{times, times_append, times_cons}
 use Rattle.world_rules.proofs.Keys.{keyed}
@@ -213,9 +213,19 @@ found_by id (first ∷ objects) o at =
     turned : (m n : ℕ) → (m == n) ≡ false → (n == m) ≡ false
     turned m n apart = grind arith
 
+-- ---- sound rooms
+
+pub sound_here : (before : List Room) (room : Room) (after : List Room) → AllByRecursion IsSoundRoom (before ++ room ∷ after) → IsSoundRoom room
+sound_here [] room after all = all.0
+sound_here (first ∷ before) room after all = sound_here before room after all.1
+
+sound_with : (before : List Room) (room other : Room) (after : List Room) → IsSoundRoom other → AllByRecursion IsSoundRoom (before ++ room ∷ after) → AllByRecursion IsSoundRoom (before ++ other ∷ after)
+sound_with [] room other after sound all = (sound, all.1)
+sound_with (first ∷ before) room other after sound all = (all.0, sound_with before room other after sound all.1)
+
 -- ---- a drop in one room
 
-module _ (tick : ℕ) (accounts : List Account) (before : List Room) (room : Room) (after : List Room) (s : IsSound (record { tick = tick; rooms = before ++ room ∷ after; accounts = accounts })) (begun : 1 ≤ room.table.next) (below : room.table.next < 2 ^ 32 - 1) where
+module _ (tick : ℕ) (accounts : List Account) (before : List Room) (room : Room) (after : List Room) (s : IsSound (record { tick = tick; rooms = before ++ room ∷ after; accounts = accounts })) (below : room.table.next < 2 ^ 32 - 1) where
   abbrev index : ℕ
   index = length before
 
@@ -227,6 +237,9 @@ module _ (tick : ℕ) (accounts : List Account) (before : List Room) (room : Roo
 
   place : room.table.index ≡ index
   place = s.places index room (here_at before room after)
+
+  begun : 1 ≤ room.table.next
+  begun = (sound_here before room after s.rooms).begun
 
   ids_once : AreIdsOnce (before ++ room ∷ after)
   ids_once = once was s
@@ -338,7 +351,7 @@ module _ (tick : ℕ) (accounts : List Account) (before : List Room) (room : Roo
         let least = none (listed_room other).frame (subst (λ (n : ℕ). slice_get (frames_of (before ++ other ∷ after)) n ≡ Some (listed_room other).frame) (sym (ap (λ (n : ℕ). n / 2 ^ 32) same ∙ fresh_room)) (frame_here before other after)) in
         let serial = ap (λ (n : ℕ). n % 2 ^ 32) same in
         omega (arith, fresh_serial)
-    born id same more (inr zeroth) = let serial = ap (λ (n : ℕ). n % 2 ^ 32) same in omega (arith, fresh_serial)
+    born id same more (inr zeroth) = let serial = ap (λ (n : ℕ). n % 2 ^ 32) same in omega (arith, fresh_serial, begun)
 
     stands_as : (id : ℕ) (o : Object) → Was part id o ⊎ (IsNew part id o × (table.next ≡ room.table.next + 1)) → StandsStill (listing_of was) (listing_of is) fresh id (record { room = index; object = o })
     stands_as id o (inl w) = inl (record { room = index; object = w.0 }, stands_here id w.0 w.1, record { room = refl; same = w.2; range = w.3 })
@@ -380,6 +393,7 @@ module _ (tick : ℕ) (accounts : List Account) (before : List Room) (room : Roo
     dropped_sound = record {
       places = λ j r at. place_with before room other after 0 (place_then ∙ sym place) (λ k q there. s.places k q there ∙ omega arith) j r at ∙ omega arith;
       tables = rise_with before room other after d.rising s.tables;
+      rooms = sound_with before room other after (record { begun = omega (arith, begun, d.later); tiles = d.tiles }) s.rooms;
       accounts = s.accounts;
       rules = λ rule n a b broken. (let old = broken_before (listing_of was) (listing_of is) succeeds rule n a b broken in s.rules rule old.0 a b old.1);
     }

@@ -1,6 +1,6 @@
 -- A tick of what is stored keeps it sound, also with its accounts after the runs.
 use Rattle.std.proofs.Common.{◌≡◌, ℕ, ◌≤◌, ◌==◌, cond, List, [], ◌∷◌, map, Bool, true, false, Option, Some, None, option_map, option_and_then, slice_get, refl, sym, ap, subst, ◌∙◌, ◌<◌, inl, arith}
-use Rattle.std.specs.List.{AllByRecursion, count_by}
+use Rattle.std.specs.List.{AllByRecursion, cons_option, count_by, filter_map}
 use Rattle.std.specs.Ordering.{nat_cmp}
 use Rattle.std.specs.Cmp.{nat_cmp_total}
 use Rattle.std.specs.FinMap.{find, from_entries, entries, get-from_entries}
@@ -16,7 +16,8 @@ use Rattle.world_rules.specs.World.{Placed, ListedRoom, Frame, listed_room, list
 use Rattle.world_rules.specs.Upkeep.{is_taken}
 use Rattle.world_rules.specs.Rules.{Stands, IsPlayer}
 use Rattle.world_rules.specs.Tick.{account_after, run_of}
-use Rattle.world_rules.specs.Sound.{IsSound}
+use Rattle.object_store.specs.Tables.{IsOnTile}
+use Rattle.world_rules.specs.Sound.{IsSound, IsSoundRoom}
 use Rattle.world_rules.proofs.Entries.{times}
 use Rattle.world_rules.proofs.Keys.{keyed, accounts_sorted, entries_of_sorted, find_mapped}
 use Rattle.world_rules.proofs.Lifting.{AreIdsOnce, found_in_table, stands_in_room, stands_placed, times_after_all, tables_rise}
@@ -40,6 +41,20 @@ ticked_once rooms once id = omega (arith, once id, ticked_times rooms id)
 
 ticked_rise : (rooms : List Room) → HaveRisingTables rooms → HaveRisingTables (map ticked_room rooms)
 ticked_rise rooms = tables_rise ticked_table rooms (λ room. let capacity = capacity_among room.table.objects in IsRising-filter_map (upkept capacity) (upkept-id capacity) room.table.objects)
+
+-- objects that are left stand where they stood
+left_tiles : (capacity : ℕ) (objects : List Object) → AllByRecursion IsOnTile objects → AllByRecursion IsOnTile (filter_map (upkept capacity) objects)
+left_tiles capacity [] tiles = tt
+left_tiles capacity (object ∷ objects) tiles =
+    let rest = left_tiles capacity objects tiles.1 in
+    elim (upkept capacity object) as (λ left. upkept capacity object ≡ left → AllByRecursion IsOnTile (cons_option left (filter_map (upkept capacity) objects))) [
+      | None ↦ λ is. rest
+      | Some after ↦ λ is. (let same = upkept-IsSame capacity object after is in (record { column = subst (λ (x : ℕ). x ≤ 49) (sym same.x) tiles.0.column; row = subst (λ (y : ℕ). y ≤ 49) (sym same.y) tiles.0.row }, rest))
+    ] refl
+
+ticked_sound : (rooms : List Room) → AllByRecursion IsSoundRoom rooms → AllByRecursion IsSoundRoom (map ticked_room rooms)
+ticked_sound [] sound = tt
+ticked_sound (room ∷ rooms) sound = (record { begun = sound.0.begun; tiles = left_tiles (capacity_among room.table.objects) room.table.objects sound.0.tiles }, ticked_sound rooms sound.1)
 
 within : (taken : Bool) → source_room taken ≤ 3000
 within true = omega arith
@@ -92,6 +107,7 @@ module _ (w : Stored) (s : IsSound w) where
     sound_then = record {
       places = in_place;
       tables = ticked_rise w.rooms s.tables;
+      rooms = ticked_sound w.rooms s.rooms;
       accounts = rise;
       rules = λ rule n a b broken. (let old = broken_before (listing_of w) (listing_of (record (ticked w) { accounts = accounts })) succeeds rule n a b broken in s.rules rule old.0 a b old.1);
     }

@@ -68,8 +68,6 @@ IsDroppedAt (Some index) intent old new = IsDroppedIn (slice_get old index) inde
 pub record IsActed (stored : Stored) (done : List Intent) (tables : List Table) : Type 0 where
   pub many : length tables ≡ length stored.rooms
   pub sound : IsSound (tables_in stored tables)
-  pub tiles : All (λ table. AllByRecursion IsOnTile table.objects) tables
-  pub begun : All (λ table. 1 ≤ table.next) tables
   pub serials : All (λ table. table.next ≤ serials_bound + length done) tables
   pub same : world_of (tables_in stored tables) ≡ entered_all (world_of stored) (world_of stored) done
 

@@ -100,45 +100,22 @@ fn make_room(table: &mut RoomTable) -> Result<(), AllocError>
     table.reserve(1)
 }
 
-// The tables of all rooms. One that no world has, whose serials begin at 0 or whose objects stand
-// off its tiles, is refused as one without memory.
+// The tables of all rooms, once more.
 fn copied_tables(alloc: Global, rooms: &[Room]) -> Result<Vec<RoomTable>, AllocError>
-    ensures same { IfOk result (λ tables. tables.items ≡ map (λ room. room.table) rooms.now) }
-    ensures tiles { IfOk result (λ tables. All (λ table. AllByRecursion IsOnTile table.objects) tables.items) }
-    ensures begun { IfOk result (λ tables. All (λ table. 1 ≤ table.next) tables.items) }
+    ensures { IfOk result (λ tables. tables.items ≡ map (λ room. room.table) rooms.now) }
 {
     let mut tables = Vec::with_capacity(alloc, rooms.len())?;
     for room in rooms {
-        tables.push(copied(alloc, &room.table)?)?;
+        let spare = room.table.spare();
+        tables.push(room.table.copy(alloc, u64::from(spare))?)?;
     }
     Ok(tables)
-}
-
-fn copied(alloc: Global, table: &RoomTable) -> Result<RoomTable, AllocError>
-    ensures same { IfOk result (λ copy. copy ≡ table.now) }
-    ensures tiles { IfOk result (λ copy. AllByRecursion IsOnTile copy.objects) }
-    ensures begun { IfOk result (λ copy. 1 ≤ copy.next) }
-{
-    if table.next() == 0 || !are_on_tiles(table.objects()) {
-        return Err(AllocError);
-    }
-    table.copy(alloc, u64::from(table.spare()))
-}
-
-fn are_on_tiles(objects: &[Object]) -> bool
-    ensures { IsTrue result → AllByRecursion IsOnTile objects.now }
-{
-    for object in objects {
-        if object.x > 49 || object.y > 49 {
-            return false;
-        }
-    }
-    true
 }
 
 #[cfg(test)]
 mod tests {
     use super::*;
+    use crate::standing::tests::two_rooms;
     use crate::upkeep::tests::object;
     use game_tables::{Action, Body, Kind};
     use std::test::Fail;
@@ -172,6 +149,17 @@ mod tests {
     {
         for table in tables {
             if !is_ready(table) {
+                return false;
+            }
+        }
+        true
+    }
+
+    fn are_on_tiles(objects: &[Object]) -> bool
+        ensures { IsTrue result → AllByRecursion IsOnTile objects.now }
+    {
+        for object in objects {
+            if object.x > 49 || object.y > 49 {
                 return false;
             }
         }
@@ -300,6 +288,29 @@ mod tests {
             assert_eq!(rt; energy_at(&tables, 0), Some(loads.0));
             assert_eq!(rt; energy_at(&tables, 1), Some(loads.1));
             assert_eq!(rt; energy_at(&tables, 2), pile);
+        }
+        Ok(())
+    }
+
+    #[test]
+    fn tables_are_copied_with_their_spare(rt: HostRuntime) -> Result<(), Fail> {
+        let world = two_rooms(rt.alloc())?;
+        let tables = copied_tables(rt.alloc(), world.room_list())?;
+        assert_eq!(rt; tables.len(), 2);
+        for (table, (index, spare, first, last)) in tables
+            .iter()
+            .zip([(0_u32, 0_u32, 2_u64, 5_u64), (1, 3, 1, 4)])
+        {
+            assert_eq!(rt; (table.index(), table.next()), (index, 9));
+            assert_eq!(rt; (table.len(), table.spare()), (2, spare));
+            assert_eq!(rt;
+                table.nth(0).map(|pile| (pile.id, pile.energy)),
+                Some((first, 7))
+            );
+            assert_eq!(rt;
+                table.nth(1).map(|pile| (pile.id, pile.energy)),
+                Some((last, 8))
+            );
         }
         Ok(())
     }

@@ -9,4 +9,3 @@ mod upkeep;
 
 pub use std::alloc::AllocError as NoMemory;
 pub use tick::{next_world, tick_plain};
-pub use upkeep::tick_table;

@@ -82,3 +82,54 @@ fn add_objects<'a>(
     }
     Ok(())
 }
+
+#[cfg(test)]
+pub mod tests {
+    use super::*;
+    use crate::upkeep::tests::object;
+    use object_store::{Ground, Kind, RoomName, RoomTable, Terrain};
+    use std::test::Fail;
+
+    // A table of piles with these two ids.
+    fn table(alloc: Global, index: u32, ids: (u64, u64)) -> Result<RoomTable, AllocError>
+        requires { ids.0 < ids.1 }
+        ensures index { IfOk result (λ table. table.index ≡ index) }
+        ensures few { IfOk result (λ table. length table.objects ≡ 2) }
+    {
+        let mut objects = Vec::new(alloc);
+        objects.push(object(ids.0, Kind::Pile, 7, 0))?;
+        objects.push(object(ids.1, Kind::Pile, 8, 0))?;
+        Ok(RoomTable::of(index, 9, objects))
+    }
+
+    /// A world of two rooms of two piles each, whose ids lie between each other. The table of the second
+    /// takes three objects more without memory.
+    pub fn two_rooms(alloc: Global) -> Result<World, AllocError> {
+        let mut grounds = [Ground::Plain; 2500];
+        grounds[49] = Ground::Wall;
+        let mut world = World::empty(alloc, 7);
+        let first = table(alloc, 0, (2, 5))?;
+        let mut second = table(alloc, 1, (1, 4))?;
+        second.reserve(3)?;
+        let name = RoomName { column: 0, row: 5 };
+        world.push_room(name, Terrain::of(alloc, &grounds)?, first)?;
+        let name = RoomName { column: 1, row: 5 };
+        world.push_room(name, Terrain::of(alloc, &grounds)?, second)?;
+        Ok(world)
+    }
+
+    #[test]
+    fn objects_of_all_rooms_are_gathered(rt: HostRuntime) -> Result<(), Fail> {
+        let world = two_rooms(rt.alloc())?;
+        let all = gather(rt.alloc(), world.room_list())?;
+        assert_eq!(rt; all.len(), 4);
+        for (standing, (room, id, energy)) in all
+            .iter()
+            .zip([(0_u32, 2_u64, 7_u64), (0, 5, 8), (1, 1, 7), (1, 4, 8)])
+        {
+            assert_eq!(rt; (standing.room, standing.object.id), (room, id));
+            assert_eq!(rt; standing.object.energy, energy);
+        }
+        Ok(())
+    }
+}

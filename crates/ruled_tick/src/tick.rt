@@ -16,8 +16,8 @@ use std::alloc::{AllocError as NoMemory, Global};
 /// The world after one tick with these entries, with the accounts as they were.
 ///
 /// Of the entries that fit the world the last of each player, action and actor counts. They go by
-/// action, then player, then actor; then upkeep goes through all rooms. A tick of more objects than
-/// 32 bits can number is refused as one without memory.
+/// action, then player, then actor; then upkeep goes through all rooms. An entry in a room that holds
+/// 2^32 - 1 objects is refused as one without memory; a room that keeps the rules has at most 7,500.
 pub fn tick_plain(alloc: Global, world: &World, intents: &[Intent]) -> Result<World, NoMemory>
     requires tick { world.now.tick < 2 ^ 64 - 1 }
     requires sound { IsSound world.now }
@@ -31,9 +31,10 @@ pub fn tick_plain(alloc: Global, world: &World, intents: &[Intent]) -> Result<Wo
     Ok(next)
 }
 
-/// The world after one tick with these runs, one of a player at most: its rooms are ruled with what
-/// they want, and each account gets its limit of CPU units into its bucket, up to 10,000, without
-/// what its player's run used, and the memory text that the run left.
+/// The world after one tick with these runs: its rooms are ruled with all that they want, and each
+/// account gets its limit of CPU units into its bucket, up to 10,000, without what its player's run
+/// used, and the memory text that the run left. A player has one run at most; of two, the first would
+/// count for the bucket and the memory text, and what both want would be ruled.
 pub fn next_world(alloc: Global, world: &World, runs: &[PlayerRun]) -> Result<World, NoMemory>
     requires tick { world.now.tick < 2 ^ 64 - 1 }
     requires sound { IsSound world.now }

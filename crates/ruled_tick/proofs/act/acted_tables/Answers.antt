@@ -26,7 +26,7 @@ drop_at all intents list i intent is inside at =
 
 pub loop-intent-init : goal.loop-intent-init
 loop-intent-init c =
-    acted_first c.args.world.now c.in_ok-tables.tables.items c.requires.sound c.requires.serials (c.in_ok-tables.ensures.same ∙ ap (map (λ (room : Room). room.table)) c.room_list.ensures.all) c.in_ok-tables.ensures.tiles c.in_ok-tables.ensures.begun
+    acted_first c.args.world.now c.in_ok-tables.tables.items c.requires.sound c.requires.serials (c.in_ok-tables.ensures ∙ ap (map (λ (room : Room). room.table)) c.room_list.ensures.all)
 
 pub enter-requires-clause-ready : goal.enter-requires-clause-ready
 enter-requires-clause-ready c =

@@ -30,7 +30,7 @@ not_broken tick rules.Range n a b h = nothing_stands tick n h.0 h.1
 not_broken tick rules.PlayerTwice n a b h = omega arith
 
 bare-IsSound : (tick : ℕ) → IsSound (bare tick)
-bare-IsSound tick = record { places = λ index room h. absurd (cc); tables = tt; accounts = tt; rules = not_broken tick }
+bare-IsSound tick = record { places = λ index room h. absurd (cc); tables = tt; rooms = tt; accounts = tt; rules = not_broken tick }
 
 pub tick_plain-requires-clause-sound : goal.tick_plain-requires-clause-sound
 tick_plain-requires-clause-sound g c = rw c.empty-world.ensures (bare-IsSound 7)

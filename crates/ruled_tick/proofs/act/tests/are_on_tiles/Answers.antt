@@ -3,7 +3,7 @@ use Rattle.std.specs.List.{All}
 use Rattle.std.proofs.lemmas.List.{take_all}
 use Rattle.std.proofs.lemmas.List.Elements.{All-more, recursion_from_All}
 use Rattle.object_store.specs.Tables.{IsOnTile}
-use Rattle.ruled_tick.proofs.act.are_on_tiles.Goals as goal
+use Rattle.ruled_tick.proofs.act.tests.are_on_tiles.Goals as goal
 
 pub loop-object-preserved : goal.loop-object-preserved
 loop-object-preserved c =
