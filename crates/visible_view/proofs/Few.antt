@@ -4,7 +4,7 @@ use Rattle.std.specs.List.{All, AllByRecursion, Contains, IsDistinct, list_any, 
 use Rattle.std.specs.FinMap.{entries, entries_sorted}
 use Rattle.std.proofs.lemmas.Bool.{cases_eq, eqb-true, ne_eqb}
 use Rattle.std.proofs.lemmas.List.{length-map}
-use Rattle.std.proofs.lemmas.List.Elements.{All-append, All-contains, All-map, All-weaker, All-head, All-tail, All-nil}
+use Rattle.std.proofs.lemmas.List.Elements.{All-append, All-contains, All-from_recursion, All-map, All-weaker, All-nil}
 use Rattle.std.proofs.lemmas.List.Sums.{count_by-le-length}
 use Rattle.std.proofs.lemmas.List.Sorted.{Contains-permutation, IsPermutation-sym, length_permutation}
 use Rattle.std.proofs.lemmas.Map.Steps.{length-le_from_distinct_below}
@@ -18,10 +18,11 @@ use Rattle.object_store.proofs.Rising.{Rises}
 use Rattle.world_rules.specs.declared.rule.Rule.TheVariants.{Range, Shared}
 use Rattle.world_rules.specs.Kinds.{is_creep, is_pile, stands_fixed, clash}
 use Rattle.world_rules.specs.Rules.{Stands, IsInRangeAs}
-use Rattle.world_rules.specs.Sound.{IsSound}
+use Rattle.object_store.specs.Tables.{IsOnTile}
+use Rattle.world_rules.specs.Sound.{IsSound, IsSoundRoom}
 use Rattle.world_rules.specs.World.{Placed, World, placed, placed_from, listed_room, listing_of, world_of}
 use Rattle.world_rules.proofs.Entries.{Entries}
-use Rattle.visible_view.specs.Gathered.{HasByteTile, HaveByteTiles, is_seen, from_each, room_if_seen, sites_at}
+use Rattle.visible_view.specs.Gathered.{is_seen, from_each, room_if_seen, sites_at}
 use Rattle.visible_view.specs.Sights.{SeenRoom}
 use Rattle.visible_view.proofs.Moved.{all_from_within}
 use Rattle.visible_view.proofs.Seen.{rises_from_sorted, entry_at, moved, stands, sites_stored, is_site_entry}
@@ -95,35 +96,35 @@ same_layer one other same fixed other_fixed =
 
 -- an object's room, tile and layer as one number
 abbrev code : ℕ × Placed → ℕ
-code e = 3 * (256 * (256 * e.1.room + e.1.object.x) + e.1.object.y) + layer e.1.object.kind
+code e = 3 * (50 * (50 * e.1.room + e.1.object.x) + e.1.object.y) + layer e.1.object.kind
 
 abbrev IsPlaced : ℕ → ℕ × Placed → Type 0
-IsPlaced rooms e = (e.1.room < rooms) × HasByteTile e.1.object
+IsPlaced rooms e = (e.1.room < rooms) × IsOnTile e.1.object
 
-placed_so : (n index : ℕ) (rooms : List Room) → index + length rooms ≤ n → All HaveByteTiles rooms → All (IsPlaced n) (placed_from index (map listed_room rooms))
-placed_so n index [] within tiles = All-nil (IsPlaced n)
-placed_so n index (room ∷ rooms) within tiles =
+placed_so : (n index : ℕ) (rooms : List Room) → index + length rooms ≤ n → AllByRecursion IsSoundRoom rooms → All (IsPlaced n) (placed_from index (map listed_room rooms))
+placed_so n index [] within sound = All-nil (IsPlaced n)
+placed_so n index (room ∷ rooms) within sound =
     All-append (IsPlaced n) (map (entry_at index) room.table.objects) (placed_from (suc index) (map listed_room rooms))
-    (All-map (IsPlaced n) (entry_at index) room.table.objects (All-weaker HasByteTile (λ o. IsPlaced n (entry_at index o)) (λ o tile. (omega arith, tile)) room.table.objects (All-head HaveByteTiles room rooms tiles)))
-    (placed_so n (suc index) rooms (omega arith) (All-tail HaveByteTiles room rooms tiles))
+    (All-map (IsPlaced n) (entry_at index) room.table.objects (All-weaker IsOnTile (λ o. IsPlaced n (entry_at index o)) (λ o tile. (omega arith, tile)) room.table.objects (All-from_recursion IsOnTile room.table.objects sound.0.tiles)))
+    (placed_so n (suc index) rooms (omega arith) sound.1)
 
 by_three : (a b c d : ℕ) → 3 * a + b ≡ 3 * c + d → b < 3 → d < 3 → (a ≡ c) × (b ≡ d)
 by_three a b c d same low other = (omega arith, omega arith)
 
-by_byte : (a b c d : ℕ) → 256 * a + b ≡ 256 * c + d → b < 256 → d < 256 → (a ≡ c) × (b ≡ d)
-by_byte a b c d same low other = (omega arith, omega arith)
+by_row : (a b c d : ℕ) → 50 * a + b ≡ 50 * c + d → b < 50 → d < 50 → (a ≡ c) × (b ≡ d)
+by_row a b c d same low other = (omega arith, omega arith)
 
-code_below : (e : ℕ × Placed) → IsPlaced 400 e → code e < 2 ^ 27
+code_below : (e : ℕ × Placed) → IsPlaced 400 e → code e < 2 ^ 22
 code_below e so =
     let room : e.1.room < 400 = so.0 in
-    let column : e.1.object.x < 256 = so.1.0 in
-    let row : e.1.object.y < 256 = so.1.1 in
+    let column : e.1.object.x ≤ 49 = so.1.column in
+    let row : e.1.object.y ≤ 49 = so.1.row in
     let low = layer_below e.1.object.kind in
     omega arith
 
 -- ---- a sound world
 
-module _ (stored : Stored) (sound : IsSound stored) (tiles : All HaveByteTiles stored.rooms) (few : length stored.rooms ≤ rooms_bound) where
+module _ (stored : Stored) (sound : IsSound stored) (few : length stored.rooms ≤ rooms_bound) where
   abbrev listed : Entries
   listed = placed (listing_of stored)
 
@@ -138,11 +139,11 @@ module _ (stored : Stored) (sound : IsSound stored) (tiles : All HaveByteTiles s
       ] refl
 
   -- two objects never have one code
-  apart : (e f : ℕ × Placed) → e.0 < f.0 → Stands world e.0 e.1 → Stands world f.0 f.1 → HasByteTile e.1.object → HasByteTile f.1.object → code e ≡ code f → ⊥
+  apart : (e f : ℕ × Placed) → e.0 < f.0 → Stands world e.0 e.1 → Stands world f.0 f.1 → IsOnTile e.1.object → IsOnTile f.1.object → code e ≡ code f → ⊥
   apart e f less stand stand_too tile tile_too same =
       let layers = by_three _ _ _ _ same (layer_below e.1.object.kind) (layer_below f.1.object.kind) in
-      let rows = by_byte _ _ _ _ layers.0 tile.1 tile_too.1 in
-      let columns = by_byte _ _ _ _ rows.0 tile.0 tile_too.0 in
+      let rows = by_row _ _ _ _ layers.0 (omega (arith, tile.row)) (omega (arith, tile_too.row)) in
+      let columns = by_row _ _ _ _ rows.0 (omega (arith, tile.column)) (omega (arith, tile_too.column)) in
       sound.rules Shared f.0 (λ r. cc) (λ r. cc) (e.0, e.1, f.1, less, stand, stand_too, record { room = columns.0; column = columns.1; row = rows.1; clash = same_layer e.1.object.kind f.1.object.kind layers.1 (fixed e stand) (fixed f stand_too) })
 
   abbrev IsGood : ℕ × Placed → Type 0
@@ -160,10 +161,10 @@ module _ (stored : Stored) (sound : IsSound stored) (tiles : All HaveByteTiles s
   distinct [] rises goods = tt
   distinct (e ∷ es) rises goods = (all_apart e es goods.0 rises.0 goods.1, distinct es rises.1 goods.1)
 
-  below : (es : Entries) → AllByRecursion IsGood es → (q : ℕ) → list_any (eqb q) (map code es) ≡ true → q < 2 ^ 27
+  below : (es : Entries) → AllByRecursion IsGood es → (q : ℕ) → list_any (eqb q) (map code es) ≡ true → q < 2 ^ 22
   below [] goods q is = absurd (cc)
   below (e ∷ es) goods q is =
-      elim (eqb q (code e)) as (λ b. eqb q (code e) ≡ b → (b || list_any (eqb q) (map code es)) ≡ true → q < 2 ^ 27) [
+      elim (eqb q (code e)) as (λ b. eqb q (code e) ≡ b → (b || list_any (eqb q) (map code es)) ≡ true → q < 2 ^ 22) [
         | true ↦ λ here any. (let same : q ≡ code e = eqb-true q (code e) here in let low = code_below e goods.0.1 in omega arith)
         | false ↦ λ here any. below es goods.1 q any
       ] refl is
@@ -171,12 +172,12 @@ module _ (stored : Stored) (sound : IsSound stored) (tiles : All HaveByteTiles s
   good : (e : ℕ × Placed) → Contains (entries world.objects) e → IsGood e
   good e within =
       let here = Contains-permutation (entries world.objects) listed e (IsPermutation-sym listed (entries world.objects) (moved stored sound)) within in
-      (stands stored sound e here, All-contains (IsPlaced 400) listed e (placed_so 400 0 stored.rooms (omega arith) tiles) here)
+      (stands stored sound e here, All-contains (IsPlaced 400) listed e (placed_so 400 0 stored.rooms (omega arith) sound.rooms) here)
 
-  pub few_listed : length listed ≤ 2 ^ 27
+  pub few_listed : length listed ≤ 2 ^ 22
   few_listed =
       let goods = all_from_within IsGood (entries world.objects) good in
-      let bound = length-le_from_distinct_below (map code (entries world.objects)) (2 ^ 27) (distinct (entries world.objects) (rises_from_sorted (entries world.objects) (entries_sorted world.objects)) goods) (below (entries world.objects) goods) in
+      let bound = length-le_from_distinct_below (map code (entries world.objects)) (2 ^ 22) (distinct (entries world.objects) (rises_from_sorted (entries world.objects) (entries_sorted world.objects)) goods) (below (entries world.objects) goods) in
       let same = length_permutation listed (entries world.objects) (moved stored sound) in
       omega (arith, length-map (entries world.objects) code)
 

@@ -1,19 +1,20 @@
 -- What is gathered of one room more.
-use Rattle.std.proofs.Common.{◌≡◌, ℕ, suc, ◌+◌, ◌<◌, ◌==◌, ◌&&◌, Bool, true, false, cond, if◌then◌else◌, List, [], ◌∷◌, ◌++◌, map, length, Option, Some, None, option_map, option_and_then, refl, sym, ap, subst, ◌∙◌, arith, append_assoc}
-use Rattle.std.specs.List.{AllByRecursion, find}
+use Rattle.std.proofs.Common.{◌≡◌, ℕ, suc, ◌+◌, ◌<◌, ◌==◌, ◌&&◌, ◌||◌, Bool, true, false, cond, if◌then◌else◌, List, [], ◌∷◌, ◌++◌, map, length, Option, Some, None, option_map, option_and_then, refl, sym, ap, subst, ◌∙◌, arith, append_assoc}
+use Rattle.std.specs.List.{AllByRecursion, count_by, find, list_any}
 use Rattle.std.specs.Option.{option_or}
 use Rattle.std.proofs.lemmas.Bool.{eqb-true, ne_eqb}
 use Rattle.std.proofs.lemmas.List.{map-append, append-nil, length-append}
 use Rattle.std.proofs.lemmas.List.Folds.{find-append}
-use Rattle.std.proofs.lemmas.List.Sums.{sum_by_push}
+use Rattle.std.proofs.lemmas.List.Sums.{sum_by-cons, sum_by_push}
 use Rattle.object_store.specs.declared.object.Object.{Object}
 use Rattle.object_store.specs.declared.world.Room.{Room}
 use Rattle.object_store.proofs.Accounts.{all_push}
-use Rattle.object_store.proofs.Rising.{Rises}
-use Rattle.world_rules.specs.Kinds.{is_controller}
+use Rattle.object_store.proofs.Rising.{Rises, all_weaker}
+use Rattle.game_tables.specs.Kinds.{building}
+use Rattle.world_rules.specs.Kinds.{is_controller, is_creep, is_site}
 use Rattle.world_rules.specs.World.{Placed}
-use Rattle.visible_view.specs.Sights.{SeenRoom}
-use Rattle.visible_view.specs.Gathered.{shown_room, shown_object, controller_in, is_seen, placed_at, from_each, objects_if_seen, room_if_seen, sites_at, is_controller_at, kept_controller, HaveControllers, KeepsRoom, KeepsRoomIf, IsAdded, IsGathered}
+use Rattle.visible_view.specs.Sights.{SeenRoom, gives_sight}
+use Rattle.visible_view.specs.Gathered.{shown_room, shown_object, controller_in, is_seen, is_site_of, placed_at, from_each, objects_if_seen, room_if_seen, sites_at, is_controller_at, kept_controller, HaveControllers, KeepsRoom, KeepsRoomIf, IsAdded, IsGathered}
 use Rattle.visible_view.specs.declared.gather.RoomInView.{RoomInView}
 use Rattle.visible_view.specs.declared.gather.Gathered.{Gathered}
 
@@ -26,10 +27,6 @@ from_each_push {A} taken index (first ∷ rooms) room =
     ∙ sym (append_assoc (taken index first) (from_each taken (suc index) rooms) (taken (index + suc (length rooms)) room))
 
 -- ---- rooms that rise
-
-all_weaker : {X : Type 0} (P Q : X → Type 0) → ((x : X) → P x → Q x) → (xs : List X) → AllByRecursion P xs → AllByRecursion Q xs
-all_weaker P Q weaker [] all = tt
-all_weaker P Q weaker (x ∷ xs) all = (weaker x all.0, all_weaker P Q weaker xs all.1)
 
 rises_push : {X : Type 0} (key : X → ℕ) (xs : List X) (x : X) → Rises key xs → AllByRecursion (λ earlier. key earlier < key x) xs → Rises key (xs ++ x ∷ [])
 rises_push key [] x rising below = (tt, tt)
@@ -139,4 +136,40 @@ gathered_more player index taken room old new place so added =
       rising = rising_more index room (is_seen player room) old.rooms.items new.rooms.items below so.rising added.rooms;
       below = subst (λ (n : ℕ). AllByRecursion (λ (r : RoomInView). r.index < n) new.rooms.items) (ap suc place ∙ sym (grown taken room)) (below_more index room (is_seen player room) old.rooms.items new.rooms.items below added.rooms);
       controllers = subst (HaveControllers new.rooms.items) (sym added.objects) (controllers_if player index room (is_seen player room) old.rooms.items new.rooms.items (map shown_object old.objects.items) refl below so.controllers added.rooms);
+    }
+
+-- ---- a room in which the player owns nothing
+
+none_seen : (player : ℕ) (objects : List Object) → list_any (λ (o : Object). o.owner == player) objects ≡ false → list_any (gives_sight player) objects ≡ false
+none_seen player [] none = refl
+none_seen player (o ∷ objects) none =
+    elim (o.owner == player) as (λ b. (b || list_any (λ (p : Object). p.owner == player) objects) ≡ false → (b && (is_creep o.kind || building o.kind || is_controller o.kind) || list_any (gives_sight player) objects) ≡ false) [
+      | true ↦ λ is. absurd (cc)
+      | false ↦ λ is. none_seen player objects is
+    ] none
+
+none_sited : (player : ℕ) (objects : List Object) → list_any (λ (o : Object). o.owner == player) objects ≡ false → count_by (is_site_of player) objects ≡ 0
+none_sited player [] none = refl
+none_sited player (o ∷ objects) none =
+    let all = sum_by-cons (λ (p : Object). cond {A = ℕ} (is_site_of player p) 1 0) o objects in
+    elim (o.owner == player) as (λ b. (o.owner == player) ≡ b → (b || list_any (λ (p : Object). p.owner == player) objects) ≡ false → count_by (is_site_of player) (o ∷ objects) ≡ 0) [
+      | true ↦ λ same is. absurd (cc)
+      | false ↦ λ other is. (
+          let zeroth : cond {A = ℕ} (is_site_of player o) 1 0 ≡ 0 = ap (λ (b : Bool). cond {A = ℕ} (is_site o.kind && b) 1 0) other ∙ neither (is_site o.kind) in
+          let rest = none_sited player objects is in
+          omega arith
+          )
+    ] refl none
+  where
+    neither : (b : Bool) → cond {A = ℕ} (b && false) 1 0 ≡ 0
+    neither true = refl
+    neither false = refl
+
+pub unowned_added : (player index : ℕ) (room : Room) (gathered : Gathered) → list_any (λ (o : Object). o.owner == player) room.table.objects ≡ false → IsAdded player index room gathered gathered
+unowned_added player index room gathered none =
+    let unseen = none_seen player room.table.objects none in
+    record {
+      rooms = subst (λ (b : Bool). KeepsRoomIf b index room gathered.rooms.items gathered.rooms.items) (sym unseen) refl;
+      objects = sym (ap (λ (b : Bool). map shown_object gathered.objects.items ++ (if b then placed_at index room.table.objects else [])) unseen ∙ append-nil (map shown_object gathered.objects.items));
+      sites = omega (arith, none_sited player room.table.objects none);
     }

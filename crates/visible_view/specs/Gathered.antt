@@ -1,6 +1,6 @@
 -- What is gathered of the stored rooms for a player, room by room. For private clauses.
 use Rattle.std.specs.Prelude.{◌≡◌, ℕ, suc, ◌+◌, ◌^◌, ◌<◌, ◌==◌, ◌&&◌, Bool, true, false, if◌then◌else◌, List, [], ◌∷◌, ◌++◌, length, map, Option, option_map, option_and_then}
-use Rattle.std.specs.List.{All, AllByRecursion, count_by, find, list_any, sum_by}
+use Rattle.std.specs.List.{AllByRecursion, count_by, find, list_any, sum_by}
 use Rattle.object_store.specs.declared.object.Object.{Object}
 use Rattle.object_store.specs.declared.world.Room.{Room}
 use Rattle.world_rules.specs.Kinds.{is_controller, is_site}
@@ -70,13 +70,6 @@ kept_controller index rooms = option_and_then controller_in (find (λ room. room
 -- The controllers that are kept with the rooms are those among the objects.
 abbrev pub HaveControllers : List RoomInView → List Placed → Type 0
 HaveControllers rooms objects = (index : ℕ) → option_map (λ placed. placed.object) (find (is_controller_at index) objects) ≡ kept_controller index rooms
-
--- The object's tile is told by two bytes.
-abbrev pub HasByteTile : Object → Type 0
-HasByteTile object = (object.x < 256) × (object.y < 256)
-
-abbrev pub HaveByteTiles : Room → Type 0
-HaveByteTiles room = All HasByteTile room.table.objects
 
 -- ---- room by room
 

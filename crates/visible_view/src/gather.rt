@@ -1,10 +1,10 @@
 // What a player sees, gathered room by room.
 ghost use Rattle.std.specs.Prelude.{◌≡◌, ◌+◌, ◌<◌, ◌≤◌, ◌^◌, ◌++◌, [], ◌∷◌, map, length, option_map, if◌then◌else◌, OnOk, IfOk};
-ghost use Rattle.std.specs.List.{All, count_by, find, list_any, sum_by};
+ghost use Rattle.std.specs.List.{count_by, find, list_any};
 ghost use Rattle.world_rules.specs.Kinds.{is_controller as controlling};
 ghost use Rattle.visible_view.specs.Sights.{gives_sight as giving_sight};
 ghost use Rattle.game_tables.specs.Limits.{rooms_bound};
-ghost use Rattle.visible_view.specs.Gathered.{HasByteTile, HaveByteTiles, is_site_of, placed_at, shown_object, KeepsRoom, IsAdded, IsGathered};
+ghost use Rattle.visible_view.specs.Gathered.{is_site_of, placed_at, shown_object, KeepsRoom, IsAdded, IsGathered};
 
 use game_tables::is_building;
 use object_store::{Kind, Object, Room};
@@ -37,8 +37,7 @@ pub struct Gathered<'a> {
 /// Gathers what a player sees of the rooms.
 pub fn gather<'a>(alloc: Global, rooms: &'a [Room], player: u32) -> Result<Gathered<'a>, AllocError>
     requires { length rooms.now ≤ rooms_bound }
-    ensures all { IfOk result (IsGathered player rooms.now) }
-    ensures tiles { OnOk result (All HaveByteTiles rooms.now) }
+    ensures { IfOk result (IsGathered player rooms.now) }
 {
     let mut gathered = Gathered {
         rooms: Vec::new(alloc),
@@ -57,8 +56,10 @@ impl<'a> Gathered<'a> {
         requires { self.old.sites < 2 ^ 63 }
         ensures added { OnOk result (IsAdded player index room.now self.old self.new) }
         ensures few { OnOk result (self.new.sites < self.old.sites + 2 ^ 32) }
-        ensures tiles { OnOk result (HaveByteTiles room.now) }
     {
+        if !room.table.has_owner(player) {
+            return Ok(());
+        }
         let found = tally(room.table.objects(), player);
         self.sites += found.sites;
         if found.is_seen {
@@ -115,16 +116,12 @@ fn tally(objects: &[Object], player: u32) -> Tallied
     ensures seen { result.is_seen ≡ list_any (giving_sight player) objects.now }
     ensures sites { result.sites ≡ count_by (is_site_of player) objects.now }
     ensures few { result.sites ≤ length objects.now }
-    ensures tiles { All HasByteTile objects.now }
 {
     let mut found = Tallied {
         is_seen: false,
         sites: 0,
     };
     for object in objects {
-        // A tile is told by two bytes and has three objects at most, so all objects can be counted.
-        prove!(object.x <= u8::MAX);
-        prove!(object.y <= u8::MAX);
         found.is_seen |= gives_sight(object, player);
         found.sites += u64::from(is_site(object, player));
     }

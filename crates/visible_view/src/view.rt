@@ -1,4 +1,4 @@
-// What a player sees of the world, made once a tick and asked at every host call.
+// What a player sees of the world, made once for a run and asked at every host call.
 ghost use Rattle.std.specs.Prelude.{◌≡◌, ◌==◌, ◌≤◌, ◌<◌, ◌^◌, length, map, slice_get, Option, Some, None, option_map, IfSome, IfNone, IfOk};
 ghost use Rattle.std.specs.List.{find};
 ghost use Rattle.std.specs.List.Sorted.{IsPartitionPoint};
@@ -23,8 +23,9 @@ use std::marker::Model;
 /// What a player sees of a world: the rooms in which a creep, a building or a controller of his
 /// stands, with all that is in them, his account, and the number of his sites in all rooms.
 ///
-/// It is made once a tick and refers to the world. Its calls take no memory; one by an id or by a
-/// room's index takes time by the logarithm of what is seen, and one by a place always the same.
+/// It is made once a tick and refers to the world. Its calls take no memory. One by an id or by a
+/// room's index halves what is seen until it is found; one by a place takes always the same time,
+/// but for a capacity, which asks for the room's controller or counts a creep's live parts.
 #[derive(Drop)]
 pub struct View<'a> {
     tick: u64,

@@ -1,8 +1,7 @@
 use Rattle.std.proofs.Common.{◌≡◌, ◌+◌, ◌++◌, [], ◌∷◌, List, take, length, sym, ap, subst, ◌∙◌, arith}
 use Rattle.std.proofs.lemmas.List.{length-take-le, take_more}
-use Rattle.std.proofs.lemmas.List.Elements.{All-more}
 use Rattle.object_store.specs.declared.world.Room.{Room}
-use Rattle.visible_view.specs.Gathered.{HaveByteTiles, IsGathered}
+use Rattle.visible_view.specs.Gathered.{IsGathered}
 use Rattle.visible_view.proofs.Gathering.{gathered_more}
 use Rattle.visible_view.proofs.gather.gather.Goals as goal
 
@@ -15,6 +14,5 @@ loop-index-preserved c =
     let more : take (index + 1) rooms ≡ take index rooms ++ room ∷ [] = take_more rooms index room c.loop-index-test.true ∙ ap (λ (r : Room). take index rooms ++ r ∷ []) (sym c.index-rooms-index.is) in
     record {
       gathered = subst (λ (taken : List Room). IsGathered c.args.player taken c.add.new.self) (sym more) (gathered_more c.args.player index (take index rooms) room c.loop-index.gathered c.add.new.self (sym place) c.loop-index.invariant.gathered c.in_ok-add.ensures.added);
-      tiles = All-more HaveByteTiles rooms index room c.loop-index-test.true c.loop-index.invariant.tiles (subst HaveByteTiles c.index-rooms-index.is c.in_ok-add.ensures.tiles);
       few = omega (arith, c.in_ok-add.ensures.few);
     }

@@ -32,7 +32,7 @@ not_broken tick account rules.Range n a b h = nothing_stands tick account n h.0 
 not_broken tick account rules.PlayerTwice n a b h = omega (arith, count_by-le-length (λ (x : Account). x.player == n) (account ∷ []))
 
 bare-IsSound : (tick : ℕ) (account : Account) → IsSound (bare tick account)
-bare-IsSound tick account = record { places = λ index room h. absurd (cc); tables = tt; accounts = (tt, tt); rules = not_broken tick account }
+bare-IsSound tick account = record { places = λ index room h. absurd (cc); tables = tt; rooms = tt; accounts = (tt, tt); rules = not_broken tick account }
 
 pub of-requires-2-clause-sound : goal.of-requires-2-clause-sound
 of-requires-2-clause-sound g c = rw (c.in_ok-push_account.ensures.ok, c.empty-world.ensures) (bare-IsSound 7 _)
