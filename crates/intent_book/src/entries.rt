@@ -1,8 +1,10 @@
 // The entries of a record, and the numbers that say their order.
 //
-// Players choose actors and actions, and the map's hash has a fixed seed: a random one is read from
-// the runtime, which no record is given. Keys that were chosen to collide make a look-up go through
-// at most all entries of that player's record.
+// The map's hash has a fixed seed: a random one is read from the runtime, which no record is given.
+// Today's calls record nothing before its actor is found among the player's own objects, whose ids
+// the server gives: so a player chooses his actions, and his actors only among those. A call that let
+// him choose an actor freely would let him choose keys that collide, and each look-up of his would
+// go through up to all entries of his record.
 ghost use Rattle.std.specs.Prelude.{◌≡◌, ℕ, ◌+◌, ◌<◌, ◌≤◌, ◌||◌, [], is_some, nat_lt, if◌then◌else◌, vec_capacity};
 ghost use Rattle.indexmap.specs.IndexMap.{index_map_len, spare, get, insert_entry, IsUnique, with_value_at};
 ghost use Rattle.intent_book.specs.Numbered.{Finds, IsKept, intents, listed, lower as lowest};

@@ -97,7 +97,8 @@ impl Recorded {
         self.len() == 0
     }
 
-    /// The entry at a place, from 0 on. It looks through all entries once for each place before it.
+    /// The entry at a place, from 0 on. It looks through all entries, of which there are up to 4,096,
+    /// once for each place up to this one: the calls of players don't ask it.
     pub fn nth(&self, i: u32) -> Option<&Intent>
         ensures { option_copied result ≡ slice_get self.now.entries i }
     {

@@ -28,8 +28,8 @@ pub enum Refusal {
 }
 
 impl Refusal {
-    ghost use Rattle.std.specs.Prelude.{◌≡◌};
-    ghost use Rattle.intent_book.specs.Refusals.{refusal_number};
+    ghost use Rattle.std.specs.Prelude.{◌≡◌, Some, None};
+    ghost use Rattle.intent_book.specs.Refusals.{refusal_name, refusal_number, refusal_of};
 
     /// The number of an upload's result, from 1 on: 0 is that of one that is accepted.
     pub fn number(self) -> u8
@@ -47,6 +47,45 @@ impl Refusal {
             Refusal::NoLoop => 9,
             Refusal::Segment => 10,
             Refusal::Memory => 11,
+        }
+    }
+    /// The refusal of a number, where one has it.
+    #[tactic(auto, unfolding(crate::specs::Refusals::refusal_of))]
+    pub fn of_number(number: u8) -> Option<Refusal>
+        ensures { result ≡ refusal_of number }
+    {
+        match number {
+            1 => Some(Refusal::UnknownPlayer),
+            2 => Some(Refusal::WrongToken),
+            3 => Some(Refusal::TooLarge),
+            4 => Some(Refusal::Malformed),
+            5 => Some(Refusal::FloatRefused),
+            6 => Some(Refusal::Invalid),
+            7 => Some(Refusal::UnknownImport),
+            8 => Some(Refusal::ImportKind),
+            9 => Some(Refusal::NoLoop),
+            10 => Some(Refusal::Segment),
+            11 => Some(Refusal::Memory),
+            _ => None,
+        }
+    }
+
+    /// Its name, as it is printed.
+    pub fn name(self) -> &'static str
+        ensures { result.now ≡ refusal_name self }
+    {
+        match self {
+            Refusal::UnknownPlayer => "UnknownPlayer",
+            Refusal::WrongToken => "WrongToken",
+            Refusal::TooLarge => "TooLarge",
+            Refusal::Malformed => "Malformed",
+            Refusal::FloatRefused => "FloatRefused",
+            Refusal::Invalid => "Invalid",
+            Refusal::UnknownImport => "UnknownImport",
+            Refusal::ImportKind => "ImportKind",
+            Refusal::NoLoop => "NoLoop",
+            Refusal::Segment => "Segment",
+            Refusal::Memory => "Memory",
         }
     }
 }

@@ -2,7 +2,8 @@
 ghost use Rattle.std.specs.Prelude.{◌≡◌};
 
 use crate::{
-    Action, Body, Bytes, Intent, Intents, Part, PlayerRun, Recorded, RunOutcome, most_entries,
+    Action, Body, Bytes, Intent, Intents, Part, PlayerRun, Recorded, Refusal, RunOutcome,
+    most_entries,
 };
 use std::test::Fail;
 
@@ -101,4 +102,45 @@ fn run_holds_its_intents(rt: HostRuntime) -> Result<(), Fail> {
     assert_eq!(rt; run.intents.as_slice().len(), 1);
     assert_eq!(rt; told(run.intents.nth(0)), Some((22, 9, 4)));
     Ok(())
+}
+
+#[test]
+fn pushed_intents_stand_in_their_order(rt: HostRuntime) -> Result<(), Fail> {
+    let mut intents = Intents::new(rt.alloc());
+    assert_eq!(rt; told(intents.nth(0)), None);
+    intents.push(intent(Action::Move, 9, 4))?;
+    intents.push(intent(Action::DropLoad, 8, 5))?;
+    intents.push(intent(Action::Move, 9, 6))?;
+    assert!(rt; !intents.is_empty());
+    assert_eq!(rt; intents.len(), 3);
+    let wanted = [Some((22, 9, 4)), Some((1, 8, 5)), Some((22, 9, 6)), None];
+    for (place, told_of) in wanted.into_iter().enumerate() {
+        assert_eq!(rt; told(intents.nth(place as u64)), told_of);
+        assert_eq!(rt; told(intents.as_slice().get(place)), told_of);
+    }
+    Ok(())
+}
+
+#[test]
+fn refusals_have_these_numbers_and_names(rt: HostRuntime) {
+    let rows = [
+        (1, Refusal::UnknownPlayer, "UnknownPlayer"),
+        (2, Refusal::WrongToken, "WrongToken"),
+        (3, Refusal::TooLarge, "TooLarge"),
+        (4, Refusal::Malformed, "Malformed"),
+        (5, Refusal::FloatRefused, "FloatRefused"),
+        (6, Refusal::Invalid, "Invalid"),
+        (7, Refusal::UnknownImport, "UnknownImport"),
+        (8, Refusal::ImportKind, "ImportKind"),
+        (9, Refusal::NoLoop, "NoLoop"),
+        (10, Refusal::Segment, "Segment"),
+        (11, Refusal::Memory, "Memory"),
+    ];
+    assert_eq!(rt; Refusal::of_number(0), None);
+    for (number, refusal, name) in rows {
+        assert_eq!(rt; refusal.number(), number);
+        assert_eq!(rt; Refusal::of_number(number), Some(refusal));
+        assert_eq!(rt; refusal.name(), name);
+    }
+    assert_eq!(rt; Refusal::of_number(12), None);
 }
