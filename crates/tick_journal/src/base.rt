@@ -5,11 +5,10 @@ ghost use Rattle.tick_journal.specs.Contents.{base_room, signed_bytes};
 ghost use Rattle.tick_journal.specs.Lists.{listed};
 
 use crate::NoMemory;
-use crate::parts::put_length;
 use byte_fields::put_u32;
 use object_store::Room;
 use room_terrain::Ground;
-use world_bytes::write_room;
+use world_bytes::{put_length, write_room};
 
 // Writes a column or a row.
 fn put_signed(number: i32, out: &mut Vec<u8>) -> Result<(), NoMemory>

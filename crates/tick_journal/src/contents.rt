@@ -8,8 +8,11 @@ use crate::entries::UploadEntry;
 use crate::parts::{put_accounts, put_runs, put_tables, put_uploads};
 use byte_fields::{put_u32, put_u64};
 use intent_book::PlayerRun;
-use object_store::{Room, World};
+use object_store::{Account, Room, World};
 use std::alloc::{AllocError as NoMemory, Global};
+
+// The most bytes of a content beside the entries of its lists.
+const FRAME: usize = 25;
 
 // The bytes of a room without its objects: in a tick its index, the serial of its next new object and
 // the number of its objects, and in a base its column, its row and its tiles too.
@@ -18,11 +21,51 @@ const TICK_ROOM: u16 = 12;
 const BASE_ROOM: u16 = 2_520;
 
 // Reckons the bytes of rooms: so many for each, and 52 for an object, whose body is left out.
-fn reckoned(each: u16, rooms: &[Room]) -> usize {
+fn rooms_size(each: u16, rooms: &[Room]) -> usize {
     let mut bytes = 0usize;
     for room in rooms {
         let objects = room.table.len() as usize;
         bytes = bytes.saturating_add(usize::from(each) + 52 * objects);
+    }
+    bytes
+}
+
+// The bytes of accounts.
+fn accounts_size(accounts: &[Account]) -> usize {
+    let mut bytes = 0usize;
+    for account in accounts {
+        bytes = bytes.saturating_add(24);
+        bytes = bytes.saturating_add(account.memory.as_slice().len());
+    }
+    bytes
+}
+
+// The bytes of uploads.
+fn uploads_size(uploads: &[UploadEntry]) -> usize {
+    let mut bytes = 0usize;
+    for entry in uploads {
+        bytes = bytes.saturating_add(9);
+        bytes = bytes.saturating_add(entry.bytes.as_slice().len());
+    }
+    bytes
+}
+
+// Reckons the bytes of runs: 26 for an intent, whose body is left out.
+fn runs_size(runs: &[PlayerRun]) -> usize {
+    let mut bytes = 0usize;
+    for run in runs {
+        let intents = run.intents.as_slice().len();
+        bytes = bytes.saturating_add(18);
+        bytes = bytes.saturating_add(intents.saturating_mul(26));
+    }
+    bytes
+}
+
+// The sum of sizes.
+fn together(sizes: &[usize]) -> usize {
+    let mut bytes = FRAME;
+    for size in sizes {
+        bytes = bytes.saturating_add(*size);
     }
     bytes
 }
@@ -40,7 +83,9 @@ fn put_start(tick: u64, out: &mut Vec<u8>) -> Result<(), NoMemory>
 pub fn base_content(alloc: Global, world: &World) -> Result<Vec<u8>, NoMemory>
     ensures { IfOk result (λ bytes. bytes.items ≡ base_bytes world.now) }
 {
-    let mut out = Vec::with_capacity(alloc, reckoned(BASE_ROOM, world.room_list()))?;
+    let rooms = rooms_size(BASE_ROOM, world.room_list());
+    let accounts = accounts_size(world.account_list());
+    let mut out = Vec::with_capacity(alloc, together(&[rooms, accounts]))?;
     put_start(world.tick(), &mut out)?;
     put_base_rooms(world.room_list(), &mut out)?;
     put_accounts(world.account_list(), &mut out)?;
@@ -56,7 +101,10 @@ pub fn tick_content(
 ) -> Result<Vec<u8>, NoMemory>
     ensures { IfOk result (λ bytes. bytes.items ≡ tick_bytes (whole_record uploads.now runs.now world.now)) }
 {
-    let mut out = Vec::with_capacity(alloc, reckoned(TICK_ROOM, world.room_list()))?;
+    let rooms = rooms_size(TICK_ROOM, world.room_list());
+    let accounts = accounts_size(world.account_list());
+    let entries = [uploads_size(uploads), runs_size(runs), accounts, rooms];
+    let mut out = Vec::with_capacity(alloc, together(&entries))?;
     out.push(b'T')?;
     put_u64(&mut out, world.tick())?;
     put_uploads(uploads, &mut out)?;

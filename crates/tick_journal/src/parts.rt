@@ -1,6 +1,5 @@
 // Uploads, runs, accounts and rooms of a tick, written to the end of bytes.
 ghost use Rattle.std.specs.Prelude.{◌≡◌, ◌++◌, map, OnOk};
-ghost use Rattle.byteorder.specs.Endian.{little_bytes};
 ghost use Rattle.tick_journal.specs.Contents.{outcome_bytes, run_bytes, upload_bytes};
 ghost use Rattle.tick_journal.specs.Lists.{listed};
 ghost use Rattle.world_bytes.specs.Forms.{account_bytes, intent_bytes, room_bytes};
@@ -10,14 +9,7 @@ use crate::entries::UploadEntry;
 use byte_fields::{put_u32, put_u64};
 use intent_book::{Intent, PlayerRun, RunOutcome};
 use object_store::{Account, Room};
-use world_bytes::{write_account, write_intent, write_room};
-
-/// Writes the low four bytes of a length, which are the whole of it below 4 GiB.
-pub(crate) fn put_length(length: u64, out: &mut Vec<u8>) -> Result<(), NoMemory>
-    ensures { OnOk result (out.new.items ≡ out.old.items ++ little_bytes 4 length) }
-{
-    put_u32(out, (length % (1 << 32)) as u32)
-}
+use world_bytes::{put_length, write_account, write_intent, write_room};
 
 // Writes an upload, with its bytes behind their number.
 fn put_upload(entry: &UploadEntry, out: &mut Vec<u8>) -> Result<(), NoMemory>

@@ -1,5 +1,5 @@
 // Contents written out by hand.
-ghost use Rattle.std.specs.Prelude.{◌≡◌};
+ghost use Rattle.std.specs.Prelude.{◌≡◌, IfOk};
 
 use crate::{NoMemory, UploadEntry, base_content, tick_content};
 use intent_book::{Action, Intent, Intents, PlayerRun, RunOutcome};
@@ -74,21 +74,28 @@ fn thing(id: u64, kind: Kind, at: u8, energy: u64, timer: u32) -> Object
     }
 }
 
+// Room 0 with a source and a pile.
+fn small_table(alloc: Global, source: (u64, u32), pile: u64) -> Result<RoomTable, NoMemory>
+    ensures { IfOk result (λ table. table.index ≡ 0) }
+{
+    let mut objects = Vec::new(alloc);
+    objects.push(thing(1, Kind::Source, 10, source.0, source.1))?;
+    objects.push(thing(2, Kind::Pile, 20, pile, 0))?;
+    Ok(RoomTable::of(0, 3, objects))
+}
+
 // The world of a tick with room E0S0, all plain with wall corners, a source and a pile.
 fn small(alloc: Global, tick: u64, source: (u64, u32), pile: u64) -> Result<World, NoMemory> {
     let mut grounds = [Ground::Plain; 2500];
     for corner in [0usize, 49, 2450, 2499] {
         grounds[corner] = Ground::Wall;
     }
-    let mut objects = Vec::new(alloc);
-    objects.push(thing(1, Kind::Source, 10, source.0, source.1))?;
-    objects.push(thing(2, Kind::Pile, 20, pile, 0))?;
     let name = RoomName { column: 0, row: 0 };
     let mut world = World::empty(alloc, tick);
     world.push_room(
         name,
         Terrain::of(alloc, &grounds)?,
-        RoomTable::of(0, 3, objects),
+        small_table(alloc, source, pile)?,
     )?;
     Ok(world)
 }
@@ -156,6 +163,159 @@ fn a_player_has_these_bytes(rt: HostRuntime) -> Result<(), Fail> {
     })?;
     let tick = tick_content(alloc, &uploads, &runs, &world)?;
     assert_eq!(rt; tick.as_slice(), &PLAYED[..]);
+    Ok(())
+}
+
+// Two uploads: one of player 1 without bytes that is accepted, and one of player 2 that refusal 9 meets.
+#[rattlefmt::skip]
+const TWO_UPLOADS: [u8; 24] = [
+    2, 0, 0, 0,
+    1, 0, 0, 0, 0, 0, 0, 0, 0,
+    2, 0, 0, 0, 9, 2, 0, 0, 0, 5, 6,
+];
+
+// Three runs: one that ended with two intents, one whose allowance was used up, and one that trap 9 ended.
+#[rattlefmt::skip]
+const THREE_RUNS: [u8; 112] = [
+    3, 0, 0, 0,
+    1, 0, 0, 0, 0, 0, 8, 1, 0, 0, 0, 0, 0, 0, 2, 0, 0, 0,
+    21, 5, 0, 0, 0, 0, 0, 0, 0, 6, 0, 0, 0, 0, 0, 0, 0, 7, 0, 0, 0, 0, 0, 0, 0, 2, 2, 1,
+    22, 9, 0, 0, 0, 0, 0, 0, 0, 0, 0, 0, 0, 0, 0, 0, 0, 1, 0, 0, 0, 0, 0, 0, 0, 0,
+    2, 0, 0, 0, 2, 0, 255, 255, 255, 255, 255, 255, 255, 255, 0, 0, 0, 0,
+    3, 0, 0, 0, 1, 9, 0, 0, 0, 0, 0, 0, 0, 0, 0, 0, 0, 0,
+];
+
+// Two accounts, that of player 1 with an empty memory text.
+#[rattlefmt::skip]
+const TWO_ACCOUNTS: [u8; 55] = [
+    2, 0, 0, 0,
+    1, 0, 0, 0, 20, 0, 0, 0, 0xe8, 0x03, 0, 0, 0x70, 0x11, 0x01, 0, 0, 0, 0, 0, 0, 0, 0, 0,
+    2, 0, 0, 0, 21, 0, 0, 0, 0xe9, 0x03, 0, 0, 0, 0, 0, 0, 0, 0, 0, 0, 3, 0, 0, 0, b'a', b'b', b'c',
+];
+
+// Room 1 without objects, whose next serial is 9.
+const SECOND_ROOM: [u8; 12] = [1, 0, 0, 0, 9, 0, 0, 0, 0, 0, 0, 0];
+
+// An account of player 1 or 2.
+fn account(player: u32, limit: u32, bucket: u32, points: u64, memory: Bytes) -> Account
+    ensures { result.player ≡ player }
+{
+    Account {
+        player,
+        limit,
+        bucket,
+        points,
+        memory,
+    }
+}
+
+// A world of tick 3 with two rooms, E0S0 all plain and W0S2 all swamp, and two players.
+fn larger(alloc: Global) -> Result<World, NoMemory> {
+    let mut world = World::empty(alloc, 3);
+    world.push_room(
+        RoomName { column: 0, row: 0 },
+        Terrain::of(alloc, &[Ground::Plain; 2500])?,
+        small_table(alloc, (0, 1), 1001)?,
+    )?;
+    world.push_room(
+        RoomName { column: -1, row: 2 },
+        Terrain::of(alloc, &[Ground::Swamp; 2500])?,
+        RoomTable::new(alloc, 1, 9),
+    )?;
+    world.push_account(account(1, 20, 1000, 70_000, Bytes::new(alloc)))?;
+    world.push_account(account(2, 21, 1001, 0, Bytes::of(alloc, b"abc")?))?;
+    Ok(world)
+}
+
+// The run of a player with these intents.
+fn run(
+    alloc: Global,
+    player: u32,
+    outcome: RunOutcome,
+    used: u64,
+    wanted: &[Intent],
+) -> Result<PlayerRun, NoMemory> {
+    let mut intents = Intents::new(alloc);
+    for intent in wanted {
+        intents.push(*intent)?;
+    }
+    Ok(PlayerRun {
+        player,
+        outcome,
+        used,
+        intents,
+        memory: Bytes::new(alloc),
+    })
+}
+
+// All these parts, one behind the other.
+fn joined(alloc: Global, parts: &[&[u8]]) -> Result<Vec<u8>, NoMemory> {
+    let mut bytes = Vec::new(alloc);
+    for part in parts {
+        bytes.extend_from_slice(part)?;
+    }
+    Ok(bytes)
+}
+
+#[test]
+fn lists_have_these_bytes(rt: HostRuntime) -> Result<(), Fail> {
+    let alloc = rt.alloc();
+    let mut uploads = Vec::new(alloc);
+    for (player, result_number, bytes) in [(1, 0, &[][..]), (2, 9, &[5, 6][..])] {
+        uploads.push(UploadEntry {
+            player,
+            result_number,
+            bytes: Bytes::of(alloc, bytes)?,
+        })?;
+    }
+    let step = Intent {
+        player: 1,
+        action: Action::Move,
+        actor: 9,
+        target: 0,
+        amount: 1,
+        body: Body::new(),
+    };
+    let mut runs = Vec::new(alloc);
+    runs.push(run(alloc, 1, RunOutcome::Finished, 264, &[wish(), step])?)?;
+    runs.push(run(alloc, 2, RunOutcome::Spent, u64::MAX, &[])?)?;
+    runs.push(run(alloc, 3, RunOutcome::Trapped(9), 0, &[])?)?;
+    let world = larger(alloc)?;
+    let tick = tick_content(alloc, &uploads, &runs, &world)?;
+    let wanted = joined(
+        alloc,
+        &[
+            &[0x54, 3, 0, 0, 0, 0, 0, 0, 0],
+            &TWO_UPLOADS,
+            &THREE_RUNS,
+            &TWO_ACCOUNTS,
+            &[2, 0, 0, 0],
+            &BEFORE,
+            &SECOND_ROOM,
+        ],
+    )?;
+    assert_eq!(rt; tick.as_slice(), wanted.as_slice());
+    Ok(())
+}
+
+#[test]
+fn a_base_has_all_rooms_and_accounts(rt: HostRuntime) -> Result<(), Fail> {
+    let alloc = rt.alloc();
+    let base = base_content(alloc, &larger(alloc)?)?;
+    let wanted = joined(
+        alloc,
+        &[
+            b"SWSJ",
+            &[1, 0, 0, 0, 3, 0, 0, 0, 0, 0, 0, 0, 2, 0, 0, 0],
+            &[0; 2508],
+            &BEFORE,
+            &[255, 255, 255, 255, 2, 0, 0, 0],
+            &[2; 2500],
+            &SECOND_ROOM,
+            &TWO_ACCOUNTS,
+        ],
+    )?;
+    assert_eq!(rt; base.as_slice(), wanted.as_slice());
     Ok(())
 }
 

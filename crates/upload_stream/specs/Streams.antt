@@ -9,6 +9,10 @@ pub record Upload : Type 0 where
   pub player : ℕ
   pub bytes : List ℕ
 
+-- the most bytes of a module; an entry may have more, and then its upload is refused
+abbrev pub module_bytes_bound : ℕ
+module_bytes_bound = 2 ^ 20
+
 -- an entry: the tick, the player, and the bytes behind their number
 unfoldable pub entry_bytes : Upload → List ℕ
 entry_bytes upload = little_bytes 8 upload.tick ++ little_bytes 4 upload.player ++ little_bytes 4 (length upload.bytes) ++ upload.bytes

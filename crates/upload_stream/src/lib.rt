@@ -10,4 +10,4 @@ mod tests;
 pub use fault::StreamFault;
 pub use laws::stream_is_judged_once;
 pub use std::alloc::AllocError as NoMemory;
-pub use stream::{Upload, read_uploads, uploads_at};
+pub use stream::{Upload, most_module_bytes, read_uploads, uploads_at};

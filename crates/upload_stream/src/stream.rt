@@ -3,7 +3,7 @@ ghost use Rattle.std.specs.Prelude.{◌≡◌, ℕ, ◌+◌, ◌<◌, ◌≤◌,
 ghost use Rattle.std.specs.List.{AllByRecursion};
 ghost use Rattle.std.specs.List.Sorted.{IsNonDecreasingBy, IsPartitionPoint};
 ghost use Rattle.upload_stream.specs.Entries.{BeginsNone, upload_of};
-ghost use Rattle.upload_stream.specs.Streams.{BeginsWith, IsFirstBad, UploadList, uploads_at};
+ghost use Rattle.upload_stream.specs.Streams.{BeginsWith, IsFirstBad, UploadList, module_bytes_bound, uploads_at};
 
 use crate::fault::StreamFault;
 use byte_fields::{Cursor, Short};
@@ -18,6 +18,13 @@ pub struct Upload<'a> {
     pub player: u32,
     /// The bytes of the module.
     pub bytes: &'a [u8],
+}
+
+/// The most bytes of a module, 1 MiB. A stream may carry longer uploads, which are refused.
+pub fn most_module_bytes() -> u32
+    ensures { result ≡ module_bytes_bound }
+{
+    1_048_576
 }
 
 // The upload of these fields.

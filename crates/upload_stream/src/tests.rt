@@ -1,5 +1,5 @@
 // Streams written out by hand, each cause of a refusal, and the uploads of a tick.
-use crate::{StreamFault, read_uploads, uploads_at};
+use crate::{StreamFault, most_module_bytes, read_uploads, uploads_at};
 use byte_fields::put_u32;
 use std::alloc::Global;
 use std::test::Fail;
@@ -123,6 +123,37 @@ fn uploads_are_found_by_tick(rt: HostRuntime) -> Result<(), Fail> {
     for (bytes, tick, wanted) in rows {
         let found = found_at(rt.alloc(), bytes, tick)?;
         assert_eq!(rt; found.as_slice(), wanted, "{tick}");
+    }
+    Ok(())
+}
+
+// The stream of one upload of a player for tick 0, of so many bytes.
+fn long(alloc: Global, player: u32, len: u32) -> Result<Vec<u8>, StreamFault> {
+    let mut bytes = Vec::from_slice(alloc, &[0; 8])?;
+    put_u32(&mut bytes, player)?;
+    put_u32(&mut bytes, len)?;
+    let part = [9u8; 1 << 10];
+    for _ in 0..len >> 10 {
+        bytes.extend_from_slice(&part)?;
+    }
+    for _ in 0..len & 1023 {
+        bytes.push(9)?;
+    }
+    Ok(bytes)
+}
+
+#[test]
+fn uploads_above_a_mebibyte_are_carried(rt: HostRuntime) -> Result<(), Fail> {
+    assert_eq!(rt; most_module_bytes(), 1_048_576);
+    for len in [most_module_bytes(), most_module_bytes() + 1] {
+        let mut bytes = long(rt.alloc(), 7, len)?;
+        bytes.extend_from_slice(&ONE)?;
+        let uploads = read_uploads(rt.alloc(), &bytes)?;
+        assert_eq!(rt; uploads.len(), 2);
+        let first = uploads_at(&uploads, 0);
+        assert_eq!(rt; first.len(), 1);
+        assert_eq!(rt; first[0].player, 7);
+        assert_eq!(rt; first[0].bytes.len(), len as usize);
     }
     Ok(())
 }

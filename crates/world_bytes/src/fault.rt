@@ -14,7 +14,7 @@ pub enum BytesFault {
     Memory,
 }
 
-/// No object begins the bytes.
+/// No value of the form that is read begins the bytes: no object, body, action or intent.
 #[derive(Clone, Copy)]
 pub(crate) struct NoForm;
 

@@ -11,7 +11,7 @@ pub use fault::BytesFault;
 pub use laws::forms_are_one;
 pub use read::{read_account, read_intent, read_room};
 pub use std::alloc::AllocError as NoMemory;
-pub use write::{write_account, write_intent, write_room};
+pub use write::{put_length, write_account, write_intent, write_room};
 
 #[cfg(test)]
 mod tests;

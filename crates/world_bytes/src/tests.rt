@@ -5,7 +5,7 @@ use crate::{
     BytesFault, NoMemory, read_account, read_intent, read_room, write_account, write_intent,
     write_room,
 };
-use byte_fields::Cursor;
+use byte_fields::{Cursor, put_u32, put_u64};
 use intent_book::{Action, Intent};
 use object_store::{Account, Body, Bytes, Kind, Object, Part, RoomTable};
 use std::alloc::Global;
@@ -208,6 +208,53 @@ fn a_small_room_has_these_bytes(rt: HostRuntime) -> Result<(), Fail> {
     Ok(())
 }
 
+// Room 7 whose next serial is 1,000, with so many creeps on tiles of its first rows, whose ids rise by
+// 3, and every third of which has a body.
+fn crowd(alloc: Global, count: u16) -> Result<Vec<u8>, NoMemory> {
+    let mut bytes = Vec::new(alloc);
+    for number in [7, 1000, u32::from(count)] {
+        put_u32(&mut bytes, number)?;
+    }
+    for at in 0..count {
+        put_u64(&mut bytes, 5 + 3 * u64::from(at))?;
+        bytes.extend_from_slice(&[3, (at % 50) as u8, (at / 50 % 50) as u8])?;
+        bytes.extend_from_slice(&CREEP[23..63])?;
+        if at % 3 == 0 {
+            bytes.extend_from_slice(&CREEP[63..])?;
+        } else {
+            bytes.push(0)?;
+        }
+    }
+    Ok(bytes)
+}
+
+#[test]
+fn rooms_of_any_size_come_back(rt: HostRuntime) -> Result<(), Fail> {
+    let rows: [(u16, usize); 4] = [(0, 12), (1, 72), (3, 176), (700, 12 + 700 * 52 + 234 * 8)];
+    for (count, size) in rows {
+        let bytes = crowd(rt.alloc(), count)?;
+        assert_eq!(rt; bytes.len(), size);
+        let mut from = Cursor::over(&bytes);
+        let (index, room) = read_room(rt.alloc(), &mut from)?;
+        assert_eq!(rt; (index, room.index(), room.next()), (7, 7, 1000));
+        assert_eq!(rt; from.place(), size);
+        assert_eq!(rt; room.objects().len(), count as usize);
+        for (at, object) in room.objects().iter().enumerate() {
+            let place = at as u64;
+            assert_eq!(rt; object.id, 5 + 3 * place);
+            assert_eq!(rt;
+                (u64::from(object.x), u64::from(object.y)),
+                (place % 50, place / 50)
+            );
+            assert_eq!(rt; object.body.len(), if at % 3 == 0 { 8 } else { 0 });
+        }
+        let mut out = Vec::new(rt.alloc());
+        write_room(index, &room, &mut out)?;
+        assert_eq!(rt; out.as_slice(), bytes.as_slice());
+    }
+    Ok(())
+}
+
 #[test]
 fn rooms_are_refused(rt: HostRuntime) -> Result<(), Fail> {
     let rows: [(&[(usize, u8)], &[u8]); 16] = [
@@ -307,6 +354,32 @@ fn an_account_has_these_bytes(rt: HostRuntime) -> Result<(), Fail> {
             (Some(BytesFault::Malformed), 0)
         );
     }
+    Ok(())
+}
+
+#[test]
+fn an_empty_memory_text_comes_back(rt: HostRuntime) -> Result<(), Fail> {
+    let account = Account {
+        player: 1,
+        limit: 20,
+        bucket: 1000,
+        points: 70_000,
+        memory: Bytes::new(rt.alloc()),
+    };
+    let mut out = Vec::from_slice(rt.alloc(), &[0xbb])?;
+    write_account(&account, &mut out)?;
+    let by_hand = changed(rt.alloc(), &[0xbb], &[], &FIRST_PLAYER[..20])?;
+    let by_hand = changed(rt.alloc(), &by_hand, &[], &[0, 0, 0, 0])?;
+    assert_eq!(rt; out.as_slice(), by_hand.as_slice());
+    out.push(b'a')?;
+    let mut from = Cursor::over(&out);
+    from.u8()?;
+    let back = read_account(rt.alloc(), &mut from)?;
+    assert_eq!(rt;
+        (back.player, back.limit, back.bucket, back.points),
+        (1, 20, 1000, 70_000)
+    );
+    assert_eq!(rt; (back.memory.len(), from.place()), (0, 25));
     Ok(())
 }
 

@@ -95,12 +95,12 @@ pub fn write_room(index: u32, room: &RoomTable, out: &mut Vec<u8>) -> Result<(),
     written
 }
 
-// Writes the low four bytes of a length, which are the whole of it for a text that has a form.
-fn put_length(number: u64, out: &mut Vec<u8>) -> Result<(), NoMemory>
-    ensures written { OnOk result (out.new.items ≡ out.old.items ++ little_bytes 4 number) }
+/// Writes the low four bytes of a length, which are the whole of it below 4 GiB.
+pub fn put_length(length: u64, out: &mut Vec<u8>) -> Result<(), NoMemory>
+    ensures written { OnOk result (out.new.items ≡ out.old.items ++ little_bytes 4 length) }
     ensures unchanged { OnErr result (out.new.items ≡ out.old.items) }
 {
-    put_u32(out, (number % (1 << 32)) as u32)
+    put_u32(out, (length % (1 << 32)) as u32)
 }
 
 // Writes an account. On want of memory a part of it may stand there.

@@ -8,5 +8,5 @@ returns c =
     (rw c.tick.ensures at c.in_ok-put_u64.ensures.written)
     c.in_ok-put_uploads.ensures
     c.in_ok-put_runs.ensures
-    (rw c.account_list.ensures.all at c.in_ok-put_accounts.ensures)
+    (rw c.account_list-2.ensures.all at c.in_ok-put_accounts.ensures)
     (rw c.room_list-2.ensures.all at c.in_ok-put_tables.ensures)
