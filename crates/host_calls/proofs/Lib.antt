@@ -1,3 +1,4 @@
+pub mod Arguments
 pub mod Levels
 pub mod Replying
 pub mod Wanting

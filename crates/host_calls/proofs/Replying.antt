@@ -1,17 +1,19 @@
--- A reply keeps the size of the module's memory.
-use Rattle.std.proofs.Common.{◌≡◌, ℕ, ℤ, ◌+◌, ◌≤◌, List, length, Option, Some, None, refl, arith, length-append, length-drop}
-use Rattle.std.specs.Prelude.{nat_eq}
+-- A reply keeps the size of the module's memory, and where its answer is not 0 it changes nothing.
+use Rattle.std.proofs.Common.{◌≡◌, ◌≢◌, ℕ, ℤ, pos, ◌+◌, ◌≤◌, List, length, Option, Some, None, refl, arith, length-append, length-drop}
+use Rattle.std.specs.Prelude.{Bool, ◌&&◌, nat_eq, nat_le}
 use Rattle.std.proofs.lemmas.Bool.{cond_both, leb-true}
 use Rattle.std.proofs.lemmas.List.{length-take}
+use Rattle.game_tables.specs.Codes.{code_number}
+use Rattle.game_tables.specs.Limits.{memory_bound}
 use Rattle.game_tables.specs.declared.code.Code.{Code}
-use Rattle.game_tables.specs.declared.code.Code.TheVariants.{Done}
+use Rattle.game_tables.specs.declared.code.Code.TheVariants.{Done, InvalidArgs}
 use Rattle.intent_book.specs.declared.intent.Intent.{Intent}
-use Rattle.wasm_store.specs.Memory.{Memory, written}
+use Rattle.wasm_store.specs.Memory.{Memory, span, written}
 use Rattle.host_calls.specs.declared.call.Call.{Call}
 use Rattle.host_calls.specs.declared.call.Call.TheVariants as call
 use Rattle.host_calls.specs.Calls.{call_at, call_params}
 use Rattle.host_calls.specs.Desks.{Desk, argument, unsigned_32}
-use Rattle.host_calls.specs.Replies.{Reply, drop_checks, drop_intent, first_failing, fits, reply, reply_of, reply_to, wanted}
+use Rattle.host_calls.specs.Replies.{Reply, drop_checks, drop_intent, fits, read_reply, reply, reply_of, reply_to, seen_object, told, wanted, wish_code, wish_reply, write_reply}
 
 -- The memory behind a reply has the size and the limit of that before it.
 abbrev pub KeepsSize : Memory → Reply → Type 0
@@ -24,6 +26,9 @@ wanted_size : (desk : Desk) (memory : Memory) (intent : Intent) (code : Code) �
 wanted_size desk memory intent Done = (refl, refl)
 wanted_size desk memory intent _ = (refl, refl)
 
+wish_size : (desk : Desk) (memory : Memory) (intent : Intent) (checks : List (Bool × Code)) → KeepsSize memory (wish_reply desk memory intent checks)
+wish_size desk memory intent checks = wanted_size desk memory intent (wish_code desk intent checks)
+
 reply_of_size : (found : Call) (desk : Desk) (memory : Memory) (args : List ℤ) → KeepsSize memory (reply_of found desk memory args)
 reply_of_size call.MemoryRead desk memory args =
     let at = unsigned_32 (argument args 0) in
@@ -31,9 +36,7 @@ reply_of_size call.MemoryRead desk memory args =
 reply_of_size call.MemoryWrite desk memory args =
     cond_both _ _ _ (KeepsSize memory) (λ _. (refl, refl)) (λ _. (refl, refl))
 reply_of_size call.DropLoad desk memory args =
-    let id = argument args 0 in
-    let amount = argument args 1 in
-    wanted_size desk memory (drop_intent desk id amount) (first_failing (drop_checks desk id amount))
+    wish_size desk memory (drop_intent desk.sight.account.player (argument args 0) (argument args 1)) (drop_checks desk.sight.account.player (seen_object desk.sight (argument args 0)) (argument args 1))
 reply_of_size _ desk memory args = (refl, refl)
 
 reply_to_size : (found : Option Call) (desk : Desk) (memory : Memory) (args : List ℤ) → KeepsSize memory (reply_to found desk memory args)
@@ -43,3 +46,50 @@ reply_to_size (Some found) desk memory args =
 
 pub reply_size : (number : ℕ) (desk : Desk) (memory : Memory) (args : List ℤ) → KeepsSize memory (reply number desk memory args)
 reply_size number desk memory args = reply_to_size (call_at number) desk memory args
+
+-- ---- an answer that is not 0
+
+-- Where the answer is not 0, the desk and the memory behind the reply are those before it.
+abbrev pub ChangesOnlyAt0 : Desk → Memory → Reply → Type 0
+ChangesOnlyAt0 desk memory to = to.answer ≢ pos 0 → (to.desk ≡ desk) × (to.memory ≡ memory)
+
+answers_0 : (desk : Desk) (memory : Memory) (to : Reply) → to.answer ≡ pos 0 → ChangesOnlyAt0 desk memory to
+answers_0 desk memory to zero = λ other. absurd (other zero)
+
+told_unchanged : (desk : Desk) (memory : Memory) (answer : ℤ) → ChangesOnlyAt0 desk memory (told desk memory answer)
+told_unchanged desk memory answer = λ other. (refl, refl)
+
+read_unchanged : (desk : Desk) (memory : Memory) (at : ℕ) → ChangesOnlyAt0 desk memory (read_reply desk memory at)
+read_unchanged desk memory at =
+    let read : Reply = record { answer = pos 0; desk = desk; memory = written memory at desk.memory } in
+    let refused : Reply = told desk memory (code_number InvalidArgs) in
+    cond_both (fits memory at (length desk.memory)) read refused (ChangesOnlyAt0 desk memory) (λ _. answers_0 desk memory read refl) (λ _. told_unchanged desk memory (code_number InvalidArgs))
+
+write_unchanged : (desk : Desk) (memory : Memory) (at n : ℕ) → ChangesOnlyAt0 desk memory (write_reply desk memory at n)
+write_unchanged desk memory at n =
+    let changed : Reply = record { answer = pos 0; desk = record desk { memory = span memory at n }; memory = memory } in
+    let refused : Reply = told desk memory (code_number InvalidArgs) in
+    cond_both (nat_le n memory_bound && fits memory at n) changed refused (ChangesOnlyAt0 desk memory) (λ _. answers_0 desk memory changed refl) (λ _. told_unchanged desk memory (code_number InvalidArgs))
+
+wanted_unchanged : (desk : Desk) (memory : Memory) (intent : Intent) (code : Code) → ChangesOnlyAt0 desk memory (wanted desk memory intent code)
+wanted_unchanged desk memory intent Done = answers_0 desk memory (wanted desk memory intent Done) refl
+wanted_unchanged desk memory intent code = told_unchanged desk memory (code_number code)
+
+wish_unchanged : (desk : Desk) (memory : Memory) (intent : Intent) (checks : List (Bool × Code)) → ChangesOnlyAt0 desk memory (wish_reply desk memory intent checks)
+wish_unchanged desk memory intent checks = wanted_unchanged desk memory intent (wish_code desk intent checks)
+
+reply_of_unchanged : (found : Call) (desk : Desk) (memory : Memory) (args : List ℤ) → ChangesOnlyAt0 desk memory (reply_of found desk memory args)
+reply_of_unchanged call.MemoryRead desk memory args = read_unchanged desk memory (unsigned_32 (argument args 0))
+reply_of_unchanged call.MemoryWrite desk memory args = write_unchanged desk memory (unsigned_32 (argument args 0)) (unsigned_32 (argument args 1))
+reply_of_unchanged call.DropLoad desk memory args =
+    wish_unchanged desk memory (drop_intent desk.sight.account.player (argument args 0) (argument args 1)) (drop_checks desk.sight.account.player (seen_object desk.sight (argument args 0)) (argument args 1))
+reply_of_unchanged _ desk memory args = λ _. (refl, refl)
+
+reply_to_unchanged : (found : Option Call) (desk : Desk) (memory : Memory) (args : List ℤ) → ChangesOnlyAt0 desk memory (reply_to found desk memory args)
+reply_to_unchanged None desk memory args = told_unchanged desk memory (code_number InvalidArgs)
+reply_to_unchanged (Some found) desk memory args =
+    cond_both (nat_eq (length args) (length (call_params found))) (reply_of found desk memory args) (told desk memory (code_number InvalidArgs)) (ChangesOnlyAt0 desk memory)
+    (λ _. reply_of_unchanged found desk memory args) (λ _. told_unchanged desk memory (code_number InvalidArgs))
+
+pub reply_unchanged : (number : ℕ) (desk : Desk) (memory : Memory) (args : List ℤ) → ChangesOnlyAt0 desk memory (reply number desk memory args)
+reply_unchanged number desk memory args = reply_to_unchanged (call_at number) desk memory args

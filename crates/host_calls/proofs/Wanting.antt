@@ -6,8 +6,8 @@ use Rattle.game_tables.specs.declared.code.Code.TheVariants.{Done}
 use Rattle.object_store.specs.declared.object.Object.{Object}
 use Rattle.intent_book.specs.declared.intent.Intent.{Intent}
 use Rattle.host_calls.specs.Desks.{Desk}
-use Rattle.host_calls.specs.Replies.{drop_checks, drop_intent, first_failing, record_checks, seen_object}
-use Rattle.host_calls.specs.Wishes.{Decides, all_hold, drop_found, drop_wanted, outcome}
+use Rattle.host_calls.specs.Replies.{first_failing, record_checks, seen_object, wish_code}
+use Rattle.host_calls.specs.Wishes.{Decides, all_hold, outcome}
 
 -- A check that fails in the first part is the first of all.
 first_failing-early : (early late : List (Bool × Code)) (code : Code) → first_failing early ≡ code → code ≢ Done → first_failing (early ++ late) ≡ code
@@ -26,14 +26,17 @@ first_failing-late (check ∷ later) late holds =
     cond-true _ _ _ both.0 ∙ first_failing-late later late both.1
 
 -- The code of a wish is that of all checks.
-outcome-is : (desk : Desk) (wish : Result Intent Code) (intent : Intent) (early : List (Bool × Code)) → Decides wish intent early → outcome desk wish ≡ first_failing (early ++ record_checks desk intent)
-outcome-is desk (Ok found) intent early decides =
-    ap (λ i. first_failing (record_checks desk i)) decides.0 ∙ sym (first_failing-late early (record_checks desk intent) decides.1)
-outcome-is desk (Err code) intent early decides = sym (first_failing-early early (record_checks desk intent) code decides.0 decides.1)
+wish-is : (desk : Desk) (wish : Result Intent Code) (intent : Intent) (checks : List (Bool × Code)) → Decides wish intent checks → outcome desk wish ≡ wish_code desk intent checks
+wish-is desk (Ok found) intent checks decides =
+    ap (λ i. first_failing (record_checks desk i)) decides.0 ∙ sym (first_failing-late checks (record_checks desk intent) decides.1)
+wish-is desk (Err code) intent checks decides = sym (first_failing-early checks (record_checks desk intent) code decides.0 decides.1)
 
--- The code of a wish to drop.
-pub drop-is : (desk : Desk) (wish : Result Intent Code) (player : ℕ) (found : Option Object) (id amount : ℤ) → player ≡ desk.book.player → found ≡ seen_object desk.sight id → Decides wish (drop_wanted player id amount) (drop_found player found amount) → outcome desk wish ≡ first_failing (drop_checks desk id amount)
-drop-is desk wish player found id amount own seen decides =
-    let his = subst (λ (p : ℕ). Decides wish (drop_wanted p id amount) (drop_found p found amount)) own decides in
-    let it = subst (λ (f : Option Object). Decides wish (drop_intent desk id amount) (drop_found desk.book.player f amount)) seen his in
-    outcome-is desk wish (drop_intent desk id amount) (drop_found desk.book.player (seen_object desk.sight id) amount) it
+-- The code of a wish that is found for the player who calls, of the object that he sees.
+pub creep_wish-is : (desk : Desk) (wish : Result Intent Code) (player : ℕ) (found : Option Object) (id : ℤ) (intent : ℕ → Intent) (checks : ℕ → Option Object → List (Bool × Code))
+    → player ≡ desk.sight.account.player → found ≡ seen_object desk.sight id → Decides wish (intent player) (checks player found)
+    → outcome desk wish ≡ wish_code desk (intent desk.sight.account.player) (checks desk.sight.account.player (seen_object desk.sight id))
+creep_wish-is desk wish player found id intent checks own seen decides =
+    let his = desk.sight.account.player in
+    let by_him = subst (λ (p : ℕ). Decides wish (intent p) (checks p found)) own decides in
+    let of_it = subst (λ (f : Option Object). Decides wish (intent his) (checks his f)) seen by_him in
+    wish-is desk wish (intent his) (checks his (seen_object desk.sight id)) of_it

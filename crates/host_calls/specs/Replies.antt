@@ -109,18 +109,22 @@ amount_of value = unwrap_or (as_index (signed_32 value)) 0
 abbrev pub id_of : ℤ → ℕ
 id_of value = unwrap_or (as_index value) 0
 
--- what every call of a creep checks first: that it is a creep that is seen, and the player's
-abbrev pub creep_checks : Desk → ℤ → List (Bool × Code)
-creep_checks desk id =
-    (holds_of (seen_object desk.sight id) (λ object. is_creep object.kind), NotFound)
-    ∷ (holds_of (seen_object desk.sight id) (λ object. object.owner == desk.book.player), NotOwner)
+-- what every call of a creep checks first of what is seen of its id: that it is a creep, and this player's
+abbrev pub creep_checks : ℕ → Option Object → List (Bool × Code)
+creep_checks player found =
+    (holds_of found (λ object. is_creep object.kind), NotFound)
+    ∷ (holds_of found (λ object. object.owner == player), NotOwner)
     ∷ []
 
 -- what every call checks last: that the record takes the entry
 abbrev pub record_checks : Desk → Intent → List (Bool × Code)
 record_checks desk intent = (accepts desk.book.entries intent, Full) ∷ []
 
--- A call that wants something: where all checks hold it is recorded, and else nothing is changed.
+-- the code of a call that wants this and makes these checks of its own
+abbrev pub wish_code : Desk → Intent → List (Bool × Code) → Code
+wish_code desk intent checks = first_failing (checks ++ record_checks desk intent)
+
+-- A call that wants something: where its code is Done it is recorded, and else nothing is changed.
 abbrev pub wanted : Desk → Memory → Intent → Code → Reply
 wanted desk memory intent Done = record {
   answer = code_number Done;
@@ -129,19 +133,26 @@ wanted desk memory intent Done = record {
 }
 wanted desk memory intent code = told desk memory (code_number code)
 
--- drop: an amount of 0 wants all that the creep carries, and at least 1 has to be there
-abbrev pub drop_intent : Desk → ℤ → ℤ → Intent
-drop_intent desk id amount = record { player = desk.book.player; action = actions.DropLoad; actor = id_of id; target = 0; amount = amount_of amount; body = [] }
+-- the reply to a call that wants this and makes these checks of its own
+abbrev pub wish_reply : Desk → Memory → Intent → List (Bool × Code) → Reply
+wish_reply desk memory intent checks = wanted desk memory intent (wish_code desk intent checks)
 
-abbrev pub drop_checks : Desk → ℤ → ℤ → List (Bool × Code)
-drop_checks desk id amount =
-    creep_checks desk id
+-- Of each call that wants something: what the player wants, what it checks of what is seen, and its reply.
+
+-- drop: an amount of 0 wants all that the creep carries, and at least 1 has to be there
+abbrev pub drop_intent : ℕ → ℤ → ℤ → Intent
+drop_intent player id amount = record { player = player; action = actions.DropLoad; actor = id_of id; target = 0; amount = amount_of amount; body = [] }
+
+abbrev pub drop_checks : ℕ → Option Object → ℤ → List (Bool × Code)
+drop_checks player found amount =
+    creep_checks player found
     ++ (is_natural (signed_32 amount), InvalidArgs)
-    ∷ (holds_of (seen_object desk.sight id) (λ object. nat_le (max 1 (amount_of amount)) object.energy), NotEnoughResources)
-    ∷ record_checks desk (drop_intent desk id amount)
+    ∷ (holds_of found (λ object. nat_le (max 1 (amount_of amount)) object.energy), NotEnoughResources)
+    ∷ []
 
 abbrev pub drop_reply : Desk → Memory → ℤ → ℤ → Reply
-drop_reply desk memory id amount = wanted desk memory (drop_intent desk id amount) (first_failing (drop_checks desk id amount))
+drop_reply desk memory id amount =
+    wish_reply desk memory (drop_intent desk.sight.account.player id amount) (drop_checks desk.sight.account.player (seen_object desk.sight id) amount)
 
 -- ---- all calls
 

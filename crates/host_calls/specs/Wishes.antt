@@ -1,16 +1,13 @@
 -- What a call wants, found check by check. For private clauses.
-use Rattle.std.specs.Prelude.{◌≡◌, ◌≢◌, ℕ, ◌==◌, ◌&&◌, max, ℤ, nat_le, Bool, true, List, [], ◌∷◌, ◌++◌, Option, Some, None, Result, Ok, Err}
+use Rattle.std.specs.Prelude.{◌≡◌, ◌≢◌, ◌&&◌, ℤ, Bool, true, List, [], ◌∷◌, Option, Some, None, Result, Ok, Err}
 use Rattle.game_tables.specs.Codes.{code_number}
 use Rattle.room_terrain.specs.declared.name.RoomName.{RoomName}
 use Rattle.game_tables.specs.declared.code.Code.{Code}
-use Rattle.game_tables.specs.declared.code.Code.TheVariants.{Done, NotOwner, NotFound, NotEnoughResources, InvalidArgs}
-use Rattle.game_tables.specs.declared.action.Action.TheVariants as actions
-use Rattle.object_store.specs.declared.object.Object.{Object}
-use Rattle.world_rules.specs.Kinds.{is_creep}
+use Rattle.game_tables.specs.declared.code.Code.TheVariants.{Done, InvalidArgs}
 use Rattle.intent_book.specs.Records.{put_last}
 use Rattle.intent_book.specs.declared.intent.Intent.{Intent}
-use Rattle.host_calls.specs.Desks.{Desk, signed_32}
-use Rattle.host_calls.specs.Replies.{amount_of, first_failing, holds_of, id_of, is_natural, name_number, record_checks}
+use Rattle.host_calls.specs.Desks.{Desk}
+use Rattle.host_calls.specs.Replies.{first_failing, name_number, record_checks}
 
 -- the number of a room's name, where there is one
 abbrev pub named : Option RoomName → ℤ
@@ -41,22 +38,3 @@ outcome desk (Err code) = code
 abbrev pub desk_after : Desk → Result Intent Code → Code → Desk
 desk_after desk (Ok intent) code = recorded desk intent code
 desk_after desk (Err refusal) code = desk
-
--- what every call of a creep checks first, of the object that is seen
-abbrev pub creep_found : ℕ → Option Object → List (Bool × Code)
-creep_found player found =
-    (holds_of found (λ object. is_creep object.kind), NotFound)
-    ∷ (holds_of found (λ object. object.owner == player), NotOwner)
-    ∷ []
-
--- what a player wants who calls drop
-abbrev pub drop_wanted : ℕ → ℤ → ℤ → Intent
-drop_wanted player id amount = record { player = player; action = actions.DropLoad; actor = id_of id; target = 0; amount = amount_of amount; body = [] }
-
--- what drop checks before the record
-abbrev pub drop_found : ℕ → Option Object → ℤ → List (Bool × Code)
-drop_found player found amount =
-    creep_found player found
-    ++ (is_natural (signed_32 amount), InvalidArgs)
-    ∷ (holds_of found (λ object. nat_le (max 1 (amount_of amount)) object.energy), NotEnoughResources)
-    ∷ []

@@ -1,6 +1,6 @@
 // The calls by their names.
-ghost use Rattle.std.specs.Prelude.{◌≡◌, length};
-ghost use Rattle.host_calls.specs.Calls.{call_at, call_params};
+ghost use Rattle.std.specs.Prelude.{◌≡◌};
+ghost use Rattle.host_calls.specs.Calls.{call_at};
 
 /// A call of a module to its host, in the order of their numbers from 0 on.
 #[derive(Clone, Copy, Debug, PartialEq, Eq)]
@@ -48,18 +48,6 @@ impl Call {
             15 => Some(Call::MemoryWrite),
             16 => Some(Call::DropLoad),
             _ => None,
-        }
-    }
-
-    /// The number of its arguments.
-    pub fn parameters(self) -> usize
-        ensures { result ≡ length (call_params self) }
-    {
-        match self {
-            Call::Room | Call::RoomName | Call::Find | Call::MemoryRead => 1,
-            Call::Get | Call::MemoryWrite | Call::DropLoad => 2,
-            Call::Terrain => 3,
-            _ => 0,
         }
     }
 }

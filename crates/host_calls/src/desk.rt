@@ -2,12 +2,13 @@
 ghost use Rattle.std.specs.Prelude.{◌≡◌, ◌≤◌, [], length, IfOk};
 ghost use Rattle.game_tables.specs.Codes.{code_number};
 ghost use Rattle.game_tables.specs.Limits.{memory_bound};
-ghost use Rattle.host_calls.specs.Replies.{answers, drop_checks, drop_intent, first_failing, or_code as or_else, read_reply, reply, reply_of, write_reply};
+ghost use Rattle.host_calls.specs.Replies.{answers, drop_checks, drop_intent, or_code as or_else, read_reply, reply, reply_of, seen_object, wish_code, write_reply};
 ghost use Rattle.host_calls.specs.Wishes.{desk_after, named, outcome, recorded};
 
 use crate::call::Call;
 use crate::number::{answer_of, argument, level_of, name_number, unsigned_32};
 use crate::seen::{allowance, field, ground, object, place, room_index, room_name};
+use crate::signatures::parameters;
 use crate::wish::to_drop;
 use game_tables::{Code, most_memory};
 use intent_book::{Intent, Recorded};
@@ -21,8 +22,11 @@ use wasm_store::Pages;
 
 /// Answers the calls of a player's module in one tick, and keeps what he wants and his memory text.
 ///
-/// All memory is taken when it is made. A call takes bounded time, whatever is seen and recorded;
-/// only the copies of the memory text take time by its length.
+/// All memory is taken when it is made. A call that copies the memory text takes time by its length.
+/// One by an id or by a room's index, and one of a field that hangs on the room's controller, takes
+/// time by the logarithm of what is seen. One that wants something also looks through what is
+/// recorded, by a hash: where actors were chosen to collide, through all of it at most. All other
+/// calls take bounded time, whatever is seen and recorded.
 #[derive(Drop)]
 pub struct Desk<'a, 'v> {
     view: &'a View<'v>,
@@ -70,7 +74,7 @@ impl<'a, 'v> Desk<'a, 'v> {
         ensures { record { answer = result; desk = self.new; memory = pages.new } ≡ reply call self.old pages.old args.now }
     {
         match Call::of_number(call) {
-            Some(call) if args.len() == call.parameters() => self.reply(call, args, pages),
+            Some(found) if parameters(call) == Some(args.len()) => self.reply(found, args, pages),
             _ => told(Code::InvalidArgs),
         }
     }
@@ -164,12 +168,12 @@ impl<'a, 'v> Desk<'a, 'v> {
 
     // Drops energy of a creep.
     fn drop_load(&mut self, id: i64, amount: i64) -> Code
-        ensures code { result ≡ first_failing (drop_checks self.old id amount) }
-        ensures desk { self.new ≡ recorded self.old (drop_intent self.old id amount) result }
+        ensures code { result ≡ wish_code self.old (drop_intent self.old.sight.account.player id amount) (drop_checks self.old.sight.account.player (seen_object self.old.sight id) amount) }
+        ensures desk { self.new ≡ recorded self.old (drop_intent self.old.sight.account.player id amount) result }
     {
+        let player = self.view.account().player;
         let found = object(self.view, id);
-        let wish = to_drop(self.book.player(), found, id, amount);
-        self.record(wish)
+        self.record(to_drop(player, found, id, amount))
     }
 }
 

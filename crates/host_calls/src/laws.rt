@@ -1,15 +1,13 @@
 // Laws of the calls' replies.
-ghost use Rattle.std.specs.Prelude.{◌≡◌, ◌≢◌, ℕ, ℤ, pos, List, Some};
+ghost use Rattle.std.specs.Prelude.{◌≡◌, ◌≢◌, ℕ, ℤ, pos, List};
 ghost use Rattle.wasm_store.specs.Memory.{Memory};
 ghost use Rattle.wasm_steps.specs.Laws.{IsFunction};
-ghost use Rattle.host_calls.specs.declared.call.Call.TheVariants as call;
-ghost use Rattle.host_calls.specs.Calls.{call_at};
 ghost use Rattle.host_calls.specs.Desks.{Desk};
 ghost use Rattle.host_calls.specs.Replies.{answers, reply};
 
-/// Says that a desk answers a call in one way, and that a call that wants something changes nothing
-/// of the desk where its code is not 0. It does nothing when it runs.
+/// Says that a desk answers a call in one way, and that a call whose answer is not 0 changes nothing
+/// of the desk and nothing of the module's memory. It does nothing when it runs.
 pub fn desks_answer_once()
     ensures once { IsFunction answers }
-    ensures refused { (number : ℕ) (desk : Desk) (memory : Memory) (args : List ℤ) → call_at number ≡ Some call.DropLoad → (reply number desk memory args).answer ≢ pos 0 → (reply number desk memory args).desk ≡ desk }
+    ensures refused { (number : ℕ) (desk : Desk) (memory : Memory) (args : List ℤ) → (reply number desk memory args).answer ≢ pos 0 → ((reply number desk memory args).desk ≡ desk) × ((reply number desk memory args).memory ≡ memory) }
 {}

@@ -14,4 +14,5 @@ mod wish;
 pub use call::Call;
 pub use desk::{Desk, NoMemory};
 pub use laws::desks_answer_once;
-pub use signatures::host_sigs;
+pub use seen::allowance;
+pub use signatures::{host_sigs, parameters};

@@ -6,7 +6,7 @@ use crate::number::{
     answer_of, argument, id_of, index_32, level_of, name_number, signed_32, unsigned_32,
 };
 use crate::wish::to_drop;
-use crate::{Call, Desk, host_sigs};
+use crate::{Call, Desk, allowance, host_sigs, parameters};
 use game_tables::{Action, Body, Code};
 use object_store::{Account, Bytes, Kind, Object, RoomName, World};
 use std::alloc::{AllocError, Global};
@@ -38,15 +38,17 @@ fn calls_have_names_numbers_and_arguments(rt: HostRuntime) -> Result<(), Fail> {
         (16, Call::DropLoad, "drop", 2),
     ];
     assert_eq!(rt; host_sigs().len(), calls.len());
-    for (number, call, name, parameters) in calls {
+    for (number, call, name, arguments) in calls {
         let sig = host_sigs().get(number as usize).ok_or("missing")?;
         assert_eq!(rt; sig.name, name);
-        assert_eq!(rt; sig.params.len(), parameters);
+        assert_eq!(rt; sig.params.len(), arguments);
         assert_eq!(rt; Call::of_number(number), Some(call));
-        assert_eq!(rt; call.parameters(), parameters);
+        assert_eq!(rt; parameters(number), Some(arguments));
     }
     assert_eq!(rt; Call::of_number(17), None);
+    assert_eq!(rt; parameters(17), None);
     assert_eq!(rt; Call::of_number(u32::MAX), None);
+    assert_eq!(rt; parameters(u32::MAX), None);
     Ok(())
 }
 
@@ -101,6 +103,27 @@ fn levels_rise_by_squares(rt: HostRuntime) {
     ];
     for (points, level) in levels {
         assert_eq!(rt; level_of(points), level);
+    }
+}
+
+#[test]
+fn an_allowance_is_at_most_500_units(rt: HostRuntime) {
+    let rows = [
+        (0, 0, 0),
+        (20, 30, 50),
+        (300, 200, 500),
+        (300, 10_000, 500),
+        (u32::MAX, u32::MAX, 500),
+    ];
+    for (limit, bucket, units) in rows {
+        let account = Account {
+            player: 1,
+            limit,
+            bucket,
+            points: 0,
+            memory: Bytes::new(rt.alloc()),
+        };
+        assert_eq!(rt; allowance(&account), units);
     }
 }
 
@@ -235,6 +258,16 @@ fn check_memory(rt: &impl Abort, alloc: Global, view: &View) -> Result<(), Alloc
     Ok(())
 }
 
+fn check_longest_text(rt: &impl Abort, alloc: Global, view: &View) -> Result<(), AllocError> {
+    let player = view.account().player;
+    let text = vec![in alloc; 7; 65_536]?;
+    let desk = Desk::new(alloc, view, player, &text)?;
+    let (recorded, memory) = desk.finish();
+    assert!(rt; recorded.is_empty());
+    assert_eq!(rt; memory.as_slice(), text.as_slice());
+    Ok(())
+}
+
 fn check_record(rt: &impl Abort, alloc: Global, view: &View) -> Result<(), AllocError> {
     let player = view.account().player;
     let creep = thing(Kind::Creep, player, 5);
@@ -259,6 +292,7 @@ fn a_desk_answers_and_keeps(rt: HostRuntime) -> Result<(), Fail> {
     let view = View::of(rt.alloc(), &world, 1)?;
     check_answers(&rt, rt.alloc(), &view)?;
     check_memory(&rt, rt.alloc(), &view)?;
+    check_longest_text(&rt, rt.alloc(), &view)?;
     check_record(&rt, rt.alloc(), &view)?;
     Ok(())
 }

@@ -38,7 +38,7 @@ not_broken account rules.PlayerTwice n a b h = omega (arith, count_by-le-length 
 
 alone-IsSound : (world : Stored) → IsAlone world → IsSound world
 alone-IsSound world is =
-    subst IsSound (sym is.1) (record { places = λ index room h. absurd (cc); tables = tt; accounts = (tt, tt); rules = not_broken is.0 })
+    subst IsSound (sym is.1) (record { places = λ index room h. absurd (cc); tables = tt; rooms = tt; accounts = (tt, tt); rules = not_broken is.0 })
 
 pub of-requires-clause-sound : goal.of-requires-clause-sound
 of-requires-clause-sound g c = alone-IsSound c.in_ok-world.world c.in_ok-world.ensures
