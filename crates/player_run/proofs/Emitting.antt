@@ -1,6 +1,8 @@
 -- What a run leaves is what the module emits.
-use Rattle.std.proofs.Common.{◌≡◌, ℕ, ◌+◌, ◌≤◌, refl, ap, sym, ◌∙◌, subst, arith, List, [], Option}
+use Rattle.std.proofs.Common.{◌≡◌, ℕ, ◌+◌, ◌≤◌, refl, ap, sym, ◌∙◌, subst, arith, List, [], Option, IsPermutation}
 use Rattle.std.specs.List.{IsDistinct}
+use Rattle.std.proofs.lemmas.List.Sorted.{IsPermutation-sym}
+use Rattle.std.proofs.lemmas.Map.Keys.{IsDistinct-IsPermutation}
 use Rattle.wasm_steps.specs.Program.{Program, Store}
 use Rattle.wasm_steps.specs.Steps.{Meaning, State}
 use Rattle.wasm_steps.specs.Runs.{EndsFrom, Ends, ends_main, ends_in_start, ends_behind_start, behind}
@@ -9,8 +11,10 @@ use Rattle.wasm_steps.specs.declared.outcome.Outcome.TheVariants.{Finished, Trap
 use Rattle.wasm_link.specs.Kept.{Kept, link_view}
 use Rattle.wasm_link.specs.Linking.{first_store}
 use Rattle.wasm_machine.specs.Runs.{Runs}
-use Rattle.intent_book.specs.Records.{IsCanonical, same_place}
+use Rattle.intent_book.specs.Records.{IsCanonical, place, same_place}
+use Rattle.intent_book.specs.declared.intent.Intent.{Intent}
 use Rattle.intent_book.specs.declared.player_run.PlayerRun.{PlayerRun}
+use Rattle.intent_book.proofs.Orders.{place_symm}
 use Rattle.visible_view.specs.Sights.{Sight}
 use Rattle.host_calls.specs.Desks.{Desk, desk_of}
 use Rattle.host_calls.specs.Replies.{answers}
@@ -39,6 +43,11 @@ module _ (program : Program) {S : Type 0} (H : Meaning S) where
       omega (arith, later, first, sum)
 
 -- ---- the run
+
+-- Where no two of the canonical list have one action and actor, no two of the entries have.
+pub distinct_before : (entries list : List Intent) → IsPermutation entries list → IsDistinct same_place list → IsDistinct same_place entries
+distinct_before entries list same distinct =
+    IsDistinct-IsPermutation same_place (λ a b. place_symm (place a) (place b)) list entries (IsPermutation-sym entries list same) distinct
 
 pub begins : (sight : Sight) (desk : Desk) (player : ℕ) (memory : List ℕ) → desk ≡ record { sight = sight; book = record { player = player; entries = [] }; memory = memory }
     → player ≡ sight.account.player → memory ≡ sight.account.memory → desk ≡ desk_of sight

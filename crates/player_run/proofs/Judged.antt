@@ -11,12 +11,12 @@ use Rattle.wasm_validate.specs.Modules.{IsValid}
 use Rattle.wasm_link.specs.Linking.{Fits, FirstNot, IsFault, IsKnown, IsLinked, IsOfKind, Link, spans}
 use Rattle.wasm_link.specs.declared.fault.LinkFault.{LinkFault}
 use Rattle.wasm_link.specs.declared.fault.LinkFault.TheVariants as fault
-use Rattle.wasm_link.proofs.Each.{all_at, all_from}
+use Rattle.wasm_link.proofs.Each.{all_at}
 use Rattle.intent_book.specs.declared.refusal.Refusal.{Refusal}
 use Rattle.intent_book.specs.declared.refusal.Refusal.TheVariants as refusals
 use Rattle.host_calls.specs.Calls.{all_calls}
-use Rattle.player_run.specs.Admission.{Accepts, IsRefused, IsUnlinked}
-use Rattle.player_run.proofs.Signatures.{kind_there}
+use Rattle.player_run.specs.Admission.{Accepts, IsRefused, IsUnlinked, SpellsWithin}
+use Rattle.player_run.proofs.Signatures.{all_known, all_of_kind}
 use Rattle.player_run.proofs.Programs.{link_once}
 
 -- They are accepted with one program.
@@ -35,15 +35,16 @@ passes_none limits.Locals m w p = p.2 w.2
 passes_none limits.Pages m w p = p.3 w.3
 passes_none limits.TableEntries m w p = p.4 w.4
 
-not_too_large : (bytes : List ℕ) (limit : Limit) (link : Link) → Accepts bytes link → IsTooLarge bytes limit → ⊥
-not_too_large bytes limits.Bytes link a t = t a.spells.0.1
-not_too_large bytes limits.Functions link a t = passes_none limits.Functions t.1 (subst IsWithin (module_once bytes a.syntax t.1 a.spells.0.0 t.2) a.spells.0.2) t.3
-not_too_large bytes limits.Nesting link a t = passes_none limits.Nesting t.1 (subst IsWithin (module_once bytes a.syntax t.1 a.spells.0.0 t.2) a.spells.0.2) t.3
-not_too_large bytes limits.Locals link a t = passes_none limits.Locals t.1 (subst IsWithin (module_once bytes a.syntax t.1 a.spells.0.0 t.2) a.spells.0.2) t.3
-not_too_large bytes limits.Pages link a t = passes_none limits.Pages t.1 (subst IsWithin (module_once bytes a.syntax t.1 a.spells.0.0 t.2) a.spells.0.2) t.3
-not_too_large bytes limits.TableEntries link a t = passes_none limits.TableEntries t.1 (subst IsWithin (module_once bytes a.syntax t.1 a.spells.0.0 t.2) a.spells.0.2) t.3
+-- Bytes that are too large spell no module within the limits.
+pub large_or_within : (bytes : List ℕ) (limit : Limit) → IsTooLarge bytes limit → (m : Syntax Ops) → SpellsWithin bytes m → ⊥
+large_or_within bytes limits.Bytes t m s = t s.1
+large_or_within bytes limits.Functions t m s = passes_none limits.Functions t.1 (subst IsWithin (module_once bytes m t.1 s.0 t.2) s.2) t.3
+large_or_within bytes limits.Nesting t m s = passes_none limits.Nesting t.1 (subst IsWithin (module_once bytes m t.1 s.0 t.2) s.2) t.3
+large_or_within bytes limits.Locals t m s = passes_none limits.Locals t.1 (subst IsWithin (module_once bytes m t.1 s.0 t.2) s.2) t.3
+large_or_within bytes limits.Pages t m s = passes_none limits.Pages t.1 (subst IsWithin (module_once bytes m t.1 s.0 t.2) s.2) t.3
+large_or_within bytes limits.TableEntries t m s = passes_none limits.TableEntries t.1 (subst IsWithin (module_once bytes m t.1 s.0 t.2) s.2) t.3
 
-no_first : {A : Type 0} (P : A → Type 0) (entries : List A) (place : ℕ) → All P entries → FirstNot P entries place → ⊥
+pub no_first : {A : Type 0} (P : A → Type 0) (entries : List A) (place : ℕ) → All P entries → FirstNot P entries place → ⊥
 no_first P entries place h f = f.refused (all_at P entries place f.entry h f.stands)
 
 -- The module of a refusal is the one that is accepted.
@@ -55,16 +56,10 @@ module _ (bytes : List ℕ) (link : Link) (a : Accepts bytes link) where
   not_unlinked why memory (m, s, sigs, calls, f) = faultless why memory (subst (λ (z : Syntax Ops). IsFault sigs z why) (sym (same_module m s.0.0)) f)
     where
       kinds : All (IsOfKind sigs a.syntax.types) a.syntax.imports
-      kinds = all_from (IsOfKind sigs a.syntax.types) a.syntax.imports (λ i entry e.
-          kind_there all_calls a.sigs sigs a.calls calls a.syntax.types entry (all_at (IsOfKind a.sigs a.syntax.types) a.syntax.imports i entry a.linked.imports e))
-
-      known : All (IsKnown sigs) a.syntax.imports
-      known = all_from (IsKnown sigs) a.syntax.imports (λ i entry e.
-          let k = all_at (IsOfKind sigs a.syntax.types) a.syntax.imports i entry kinds e in
-          (k.number, k.sig, k.named))
+      kinds = all_of_kind all_calls a.sigs sigs a.calls calls a.syntax.types a.syntax.imports a.linked.imports
 
       faultless : (why : LinkFault) → why ≢ fault.Memory → IsFault sigs a.syntax why → ⊥
-      faultless (fault.UnknownImport place) memory f = no_first (IsKnown sigs) a.syntax.imports place known f
+      faultless (fault.UnknownImport place) memory f = no_first (IsKnown sigs) a.syntax.imports place (all_known sigs a.syntax.types a.syntax.imports kinds) f
       faultless (fault.ImportKind place) memory f = no_first (IsOfKind sigs a.syntax.types) a.syntax.imports place kinds f.1
       faultless fault.NoLoop memory f = f.1 link.main a.linked.main
       faultless (fault.Segment place) memory f = no_first Fits (spans a.syntax) place a.linked.segments f.3
@@ -74,7 +69,7 @@ module _ (bytes : List ℕ) (link : Link) (a : Accepts bytes link) where
   pub not_refused : (refusal : Refusal) → refusal ≢ refusals.Memory → IsRefused bytes refusal → ⊥
   not_refused refusals.UnknownPlayer memory r = r
   not_refused refusals.WrongToken memory r = r
-  not_refused refusals.TooLarge memory r = not_too_large bytes r.0 link a r.1
+  not_refused refusals.TooLarge memory r = large_or_within bytes r.0 r.1 a.syntax a.spells.0
   not_refused refusals.Malformed memory r = r.1 a.syntax a.spells.0.0
   not_refused refusals.FloatRefused memory r = r.2 (subst HasNoFloat (same_module r.0 r.1.0) a.spells.1)
   not_refused refusals.Invalid memory r = r.3 (subst IsValid (same_module r.0 r.1.0) a.spells.2)

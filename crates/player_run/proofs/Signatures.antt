@@ -4,7 +4,7 @@ use Rattle.wasm_module.specs.declared.host_sig.HostSig.{HostSig}
 use Rattle.wasm_module.specs.declared.imports.Import.{Import}
 use Rattle.wasm_module.specs.declared.types.FuncType.{FuncType}
 use Rattle.wasm_link.specs.Linking.{Names, IsKnown, IsOfKind}
-use Rattle.wasm_link.proofs.Each.{all_from, not_found}
+use Rattle.wasm_link.proofs.Each.{all_at, all_from, not_found}
 use Rattle.host_calls.specs.declared.call.Call.{Call}
 use Rattle.host_calls.specs.Calls.{IsSignature, AreSignatures}
 
@@ -67,6 +67,18 @@ module _ (calls : List Call) (sigs others : List HostSig) (a : AreSignatures sig
         params = k.params ∙ there.2.params;
         result = k.result ∙ there.2.result_is;
       }
+
+  pub all_known_there : (imports : List Import) → All (IsKnown sigs) imports → All (IsKnown others) imports
+  all_known_there imports h = all_from (IsKnown others) imports (λ i entry e. known_there entry (all_at (IsKnown sigs) imports i entry h e))
+
+  pub all_of_kind : (types : List FuncType) (imports : List Import) → All (IsOfKind sigs types) imports → All (IsOfKind others types) imports
+  all_of_kind types imports h = all_from (IsOfKind others types) imports (λ i entry e. kind_there types entry (all_at (IsOfKind sigs types) imports i entry h e))
+
+-- What is of a call's kind is a call.
+pub all_known : (sigs : List HostSig) (types : List FuncType) (imports : List Import) → All (IsOfKind sigs types) imports → All (IsKnown sigs) imports
+all_known sigs types imports h = all_from (IsKnown sigs) imports (λ i entry e.
+    let k = all_at (IsOfKind sigs types) imports i entry h e in
+    (k.number, k.sig, k.named))
 
 -- ---- what linking asks of the signatures
 

@@ -11,8 +11,8 @@ ghost use Rattle.wasm_link.specs.Kept.{link_view};
 ghost use Rattle.player_run.specs.Emitted.{EmitsBy, fuel_of};
 
 use crate::outcome::{instructions, run_outcome};
-use game_tables::{most_limit, unit_instructions};
-use host_calls::Desk;
+use game_tables::unit_instructions;
+use host_calls::{Desk, allowance};
 use intent_book::PlayerRun;
 use object_store::{Account, World};
 pub use std::alloc::AllocError as NoMemory;
@@ -56,7 +56,6 @@ fn run_view(alloc: Global, linked: &Linked, view: &View, player: u32) -> Result<
     let mut instance = Instance::new(alloc, linked)?;
     let outcome = instance.run(&mut desk, fuel(account));
     let (book, memory) = desk.finish();
-    let _entries = book.len();
     Ok(PlayerRun {
         player,
         outcome: run_outcome(outcome),
@@ -70,6 +69,5 @@ fn run_view(alloc: Global, linked: &Linked, view: &View, player: u32) -> Result<
 fn fuel(account: &Account) -> u64
     ensures { result ≡ fuel_of account.now }
 {
-    let units = u64::from(account.limit) + u64::from(account.bucket);
-    unit_instructions() * units.min(u64::from(most_limit()))
+    unit_instructions() * allowance(account)
 }
