@@ -1,5 +1,5 @@
 -- One tick of a world with players: the uploads are judged, each player with a module runs it on what he sees of the world as it stands, and what the runs want is ruled.
-use Rattle.std.specs.Prelude.{◌≡◌, ℕ, ◌^◌, nat_le, if◌then◌else◌, List, [], ◌∷◌, length, map, Option, Some, None}
+use Rattle.std.specs.Prelude.{◌≡◌, ℕ, nat_le, if◌then◌else◌, List, [], ◌∷◌, length, map, Option, Some, None}
 use Rattle.std.specs.Ordering.{nat_cmp}
 use Rattle.std.specs.FinMap.{FinMap, get, insert, entries}
 use Rattle.object_store.specs.declared.account.Account.{Account}
@@ -11,7 +11,7 @@ use Rattle.world_rules.specs.Rules.{IsPlayer}
 use Rattle.world_rules.specs.Tick.{next_world}
 use Rattle.world_rules.specs.World.{World}
 use Rattle.visible_view.specs.Sights.{Sight, sight_of}
-use Rattle.upload_stream.specs.Streams.{Upload}
+use Rattle.upload_stream.specs.Streams.{Upload, module_bytes_bound}
 use Rattle.player_run.specs.Admission.{IsAccepted, IsRefused}
 use Rattle.player_run.specs.Emitted.{Emits}
 use Rattle.tick_journal.specs.declared.entries.UploadEntry.{UploadEntry}
@@ -48,7 +48,7 @@ abbrev pub entry_of : Upload → Option Refusal → UploadEntry
 entry_of upload result = record {
   player = upload.player;
   result_number = result_number result;
-  bytes = if nat_le (length upload.bytes) (2 ^ 20) then upload.bytes else [];
+  bytes = if nat_le (length upload.bytes) module_bytes_bound then upload.bytes else [];
 }
 
 -- Uploads are judged one after the other, and so the later of two modules of a player is his.

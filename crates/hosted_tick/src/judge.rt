@@ -1,11 +1,12 @@
 // The judgement of a tick's uploads.
-ghost use Rattle.std.specs.Prelude.{◌≡◌, ◌≢◌, ◌^◌, length, map, nat_le, if◌then◌else◌, [], Option, None, Some, IfOk, IfErr, OnOk};
+ghost use Rattle.std.specs.Prelude.{◌≡◌, ◌≢◌, length, map, nat_le, if◌then◌else◌, [], Option, None, Some, IfOk, IfErr, OnOk};
 ghost use Rattle.std.specs.FinMap.{insert};
 ghost use Rattle.world_rules.specs.World.{world_of};
 ghost use Rattle.wasm_link.specs.Kept.{link_view};
 ghost use Rattle.intent_book.specs.declared.refusal.Refusal.{Refusal};
 ghost use Rattle.player_run.specs.Admission.{Accepts};
 ghost use Rattle.upload_stream.specs.Entries.{upload_of};
+ghost use Rattle.upload_stream.specs.Streams.{module_bytes_bound};
 ghost use Rattle.hosted_tick.specs.Hosting.{AreLinked, modules_of};
 ghost use Rattle.hosted_tick.specs.Next.{AreJudged, IsResult, entry_of, modules_after, result_number};
 
@@ -15,10 +16,7 @@ use object_store::{Bytes, World};
 use player_run::{Linked, Refusal, admit};
 use std::alloc::Global;
 use tick_journal::UploadEntry;
-use upload_stream::Upload;
-
-/// The most bytes of a module that are recorded, 1 MiB.
-const MOST_RECORDED: usize = 0x10_0000;
+use upload_stream::{Upload, most_module_bytes};
 
 /// Judges uploads in their order, and says what is recorded of each.
 pub(crate) fn judge_all(
@@ -31,7 +29,7 @@ pub(crate) fn judge_all(
     ensures judged { IfOk result (λ records. AreJudged (world_of world.now) (modules_of modules.old.entries) (map upload_of uploads.now) (modules_of modules.new.entries) records.items) }
     ensures linked { OnOk result (AreLinked modules.new.entries) }
 {
-    let mut records = Vec::new(alloc);
+    let mut records = Vec::with_capacity(alloc, uploads.len())?;
     for upload in uploads {
         records.push(judge(alloc, world, upload, modules)?)?;
     }
@@ -127,9 +125,9 @@ fn unless_memory(refusal: Refusal) -> Result<Refusal, NoMemory>
 
 // What is recorded of a module's bytes: none of a module that is too long.
 fn recorded_bytes(alloc: Global, bytes: &[u8]) -> Result<Bytes, NoMemory>
-    ensures { IfOk result (λ kept. kept ≡ (if nat_le (length bytes.now) (2 ^ 20) then bytes.now else [])) }
+    ensures { IfOk result (λ kept. kept ≡ (if nat_le (length bytes.now) module_bytes_bound then bytes.now else [])) }
 {
-    if bytes.len() <= MOST_RECORDED {
+    if bytes.len() <= most_module_bytes() as usize {
         Bytes::of(alloc, bytes)
     } else {
         Ok(Bytes::new(alloc))
@@ -139,7 +137,49 @@ fn recorded_bytes(alloc: Global, bytes: &[u8]) -> Result<Bytes, NoMemory>
 #[cfg(test)]
 mod tests {
     use super::*;
+    use object_store::Account;
     use std::test::Fail;
+
+    // A module whose loop goes on without end.
+    const ENDLESS: &[u8] =
+        b"\x00asm\x01\x00\x00\x00\x01\x04\x01\x60\x00\x00\x03\x02\x01\x00\x07\x08\x01\x04loop\x00\x00\x0a\x09\x01\x07\x00\x03\x40\x0c\x00\x0b\x0b";
+
+    // A module whose loop does nothing.
+    const IDLE: &[u8] =
+        b"\x00asm\x01\x00\x00\x00\x01\x04\x01\x60\x00\x00\x03\x02\x01\x00\x07\x08\x01\x04loop\x00\x00\x0a\x04\x01\x02\x00\x0b";
+
+    // A world without rooms, of the players 7 and 9.
+    fn two_players(alloc: Global) -> Result<World, NoMemory> {
+        let mut world = World::empty(alloc, 1);
+        world.push_account(account(alloc, 7))?;
+        world.push_account(account(alloc, 9))?;
+        Ok(world)
+    }
+
+    fn account(alloc: Global, player: u32) -> Account
+        ensures { result.player ≡ player }
+    {
+        Account {
+            player,
+            limit: 20,
+            bucket: 1000,
+            points: 0,
+            memory: Bytes::new(alloc),
+        }
+    }
+
+    // What players upload for tick 1.
+    fn uploaded<'a>(alloc: Global, of: &[(u32, &'a [u8])]) -> Result<Vec<Upload<'a>>, NoMemory> {
+        let mut uploads = Vec::new(alloc);
+        for (player, bytes) in of {
+            uploads.push(Upload {
+                tick: 1,
+                player: *player,
+                bytes: *bytes,
+            })?;
+        }
+        Ok(uploads)
+    }
 
     #[test]
     fn unknown_players_are_refused(rt: HostRuntime) -> Result<(), Fail> {
@@ -156,6 +196,53 @@ mod tests {
         assert_eq!(rt; entry.player, 7);
         assert_eq!(rt; entry.result_number, 1);
         assert_eq!(rt; entry.bytes.as_slice(), b"abc".as_slice());
+        Ok(())
+    }
+
+    #[test]
+    fn the_later_module_of_a_player_is_his(rt: HostRuntime) -> Result<(), Fail> {
+        let alloc = rt.alloc();
+        let world = two_players(alloc)?;
+        let of: [(u32, &[u8]); 5] = [
+            (9, ENDLESS),
+            (7, ENDLESS),
+            (7, IDLE),
+            (8, IDLE),
+            (9, b"abc"),
+        ];
+        let uploads = uploaded(alloc, &of)?;
+        let mut modules = Modules::new(alloc);
+        let records = judge_all(alloc, &world, &uploads, &mut modules)?;
+        let numbers = [0, 0, 0, 1, 4];
+        assert_eq!(rt; records.len(), 5);
+        for ((entry, (player, bytes)), number) in records.iter().zip(of).zip(numbers) {
+            assert_eq!(rt; (entry.player, entry.result_number), (player, number));
+            assert_eq!(rt; entry.bytes.as_slice(), bytes);
+        }
+        assert_eq!(rt; modules.len(), 2);
+        for (player, bytes) in [(7, IDLE), (9, ENDLESS)] {
+            let module = modules.get(&player).ok_or("no module")?;
+            assert_eq!(rt; module.bytes.as_slice(), bytes);
+        }
+        Ok(())
+    }
+
+    #[test]
+    fn bytes_above_a_mebibyte_are_not_recorded(rt: HostRuntime) -> Result<(), Fail> {
+        let alloc = rt.alloc();
+        let world = two_players(alloc)?;
+        let most = vec![in alloc; 0u8; 1_048_576]?;
+        let more = vec![in alloc; 0u8; 1_048_577]?;
+        let uploads = uploaded(alloc, &[(7, most.as_slice()), (7, more.as_slice())])?;
+        let mut modules = Modules::new(alloc);
+        let records = judge_all(alloc, &world, &uploads, &mut modules)?;
+        let wanted = [(4, 1_048_576), (3, 0)];
+        assert_eq!(rt; records.len(), 2);
+        for (entry, (number, len)) in records.iter().zip(wanted) {
+            assert_eq!(rt; (entry.player, entry.result_number), (7, number));
+            assert_eq!(rt; entry.bytes.len(), len);
+        }
+        assert!(rt; modules.is_empty());
         Ok(())
     }
 }
