@@ -1,5 +1,5 @@
--- The texts of the lines, as `format!` joins them.
-use Rattle.std.proofs.Common.{◌≡◌, ℕ, ◌++◌, List, length, append_assoc}
+-- The texts of the lines, as `format!` and `write!` join them.
+use Rattle.std.proofs.Common.{◌≡◌, ℕ, ◌++◌, List, length, append_assoc, sym, ap, ◌∙◌}
 use Rattle.std.specs.Prelude.{decimal, codes}
 use Rattle.object_store.specs.Stored.{Stored}
 use Rattle.intent_book.specs.declared.player_run.PlayerRun.{PlayerRun}
@@ -13,23 +13,31 @@ pub start_text : (world : Stored) (tick rooms objects players : ℕ) (line : Lis
 unfolding start_line
 start_text world tick rooms objects players line joined a b c d = rw (joined, a, b, c, d) (simp append_assoc)
 
-pub tick_text : (world : Stored) (tick objects intents energy : ℕ) (line : List ℕ)
-    → line ≡ codes "tick " ++ (decimal tick ++ (codes " objects " ++ (decimal objects ++ (codes " intents " ++ (decimal intents ++ (codes " energy " ++ (decimal energy ++ codes "\n")))))))
+pub tick_text : (world : Stored) (tick objects intents energy : ℕ) (old new : List ℕ)
+    → new ≡ old ++ (codes "tick " ++ (decimal tick ++ (codes " objects " ++ (decimal objects ++ (codes " intents " ++ (decimal intents ++ (codes " energy " ++ (decimal energy ++ codes "\n"))))))))
     → tick ≡ world.tick → objects ≡ object_count world → energy ≡ total_energy world
-    → line ≡ tick_line world intents
+    → new ≡ old ++ tick_line world intents
 unfolding tick_line
-tick_text world tick objects intents energy line joined a b c = rw (joined, a, b, c) (simp append_assoc)
+tick_text world tick objects intents energy old new joined a b c = rw (joined, a, b, c) (simp append_assoc)
 
-pub upload_text : (entry : UploadEntry) (player : ℕ) (text line : List ℕ)
-    → line ≡ codes "upload player " ++ (decimal player ++ (codes " " ++ (text ++ codes "\n")))
+text_joined : (entry : UploadEntry) (player : ℕ) (text old new : List ℕ)
+    → new ≡ old ++ (codes "upload player " ++ (decimal player ++ (codes " " ++ (text ++ codes "\n"))))
     → player ≡ entry.player → text ≡ result_text entry.result_number
-    → line ≡ upload_line entry
+    → new ≡ old ++ upload_line entry
 unfolding upload_line
-upload_text entry player text line joined a b = rw (joined, a, b) (simp append_assoc)
+text_joined entry player text old new joined a b = rw (joined, a, b) (simp append_assoc)
 
-pub run_text : (run : PlayerRun) (player used : ℕ) (outcome line : List ℕ)
-    → line ≡ codes "player " ++ (decimal player ++ (codes " " ++ (outcome ++ (codes " " ++ (decimal used ++ codes "\n")))))
+pub upload_text : (entry : UploadEntry) (player : ℕ) (verdict name old new : List ℕ)
+    → new ≡ old ++ (codes "upload player " ++ (decimal player ++ (codes " " ++ (verdict ++ (name ++ codes "\n")))))
+    → player ≡ entry.player → verdict ++ name ≡ result_text entry.result_number
+    → new ≡ old ++ upload_line entry
+upload_text entry player verdict name old new joined a b =
+    let front : List ℕ → List ℕ = λ end. old ++ (codes "upload player " ++ (decimal player ++ (codes " " ++ end))) in
+    text_joined entry player (verdict ++ name) old new (joined ∙ ap front (sym (append_assoc verdict name (codes "\n")))) a b
+
+pub run_text : (run : PlayerRun) (player used : ℕ) (outcome old new : List ℕ)
+    → new ≡ old ++ (codes "player " ++ (decimal player ++ (codes " " ++ (outcome ++ (codes " " ++ (decimal used ++ codes "\n"))))))
     → player ≡ run.player → outcome ≡ outcome_text run.outcome → used ≡ run.used
-    → line ≡ run_line run
+    → new ≡ old ++ run_line run
 unfolding run_line
-run_text run player used outcome line joined a b c = rw (joined, a, b, c) (simp append_assoc)
+run_text run player used outcome old new joined a b c = rw (joined, a, b, c) (simp append_assoc)

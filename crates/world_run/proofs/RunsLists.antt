@@ -1,5 +1,5 @@
 -- The steps of a run, one after another.
-use Rattle.std.proofs.Common.{◌≡◌, ℕ, suc, ◌+◌, ◌≤◌, List, [], ◌∷◌, ◌++◌, length, take, Option, Some, None, refl, ap, sym, subst, ◌∙◌, zero-add, arith}
+use Rattle.std.proofs.Common.{◌≡◌, ℕ, suc, ◌+◌, ◌≤◌, List, [], ◌∷◌, ◌++◌, length, take, Option, Some, None, refl, ap, sym, subst, ◌∙◌, arith, append_assoc}
 use Rattle.std.proofs.lemmas.List.{append-nil, length_push}
 use Rattle.std.proofs.lemmas.List.Concat.{flat_map-append}
 use Rattle.std.specs.List.{flat_map}
@@ -15,7 +15,7 @@ use Rattle.upload_stream.specs.Streams.{Upload}
 use Rattle.hosted_tick.specs.Hosting.{Held, IsHosted}
 use Rattle.world_run.specs.Steps.{Step}
 use Rattle.world_run.specs.Lines.{start_line, step_lines}
-use Rattle.world_run.specs.Runs.{Follow, IsStep, base_frame, step_frame, last_of, opened, Fills, IsEmpty, Leaves, LeavesPart}
+use Rattle.world_run.specs.Runs.{Follow, IsStep, base_frame, step_frame, last_of, opened, Fills, IsEmpty, AppendsPart, CutsLast, Leaves, LeavesPart, output}
 use Rattle.world_run.specs.Stages.{Grows, GrowsPart}
 
 -- ---- known bytes
@@ -24,16 +24,9 @@ pub appends_nothing : (a : Option (List ℕ)) → Appends a a []
 appends_nothing None = tt
 appends_nothing (Some xs) = sym (append-nil xs)
 
-take_second : (xs ys : List ℕ) (n : ℕ) → xs ++ take n ys ≡ take (length xs + n) (xs ++ ys)
-take_second [] ys n = ap (λ k. take k ys) (sym (zero-add n))
-take_second (x ∷ xs) ys n =
-    let e : suc (length xs) + n ≡ suc (length xs + n) = omega arith in
-    rw e (ap (λ z. x ∷ z) (take_second xs ys n))
-
--- a part of a second piece behind a whole first one
-pub appends_part : (a b c : Option (List ℕ)) (xs ys : List ℕ) → Appends a b xs → AppendsPrefix b c ys → AppendsPrefix a c (xs ++ ys)
-appends_part a b c xs ys h k =
-    (length xs + k.0, rw (← take_second xs ys k.0) (appends_more a b c xs (take k.0 ys) h k.1))
+-- a part of a last piece behind two whole ones
+appends_part : (a b c : Option (List ℕ)) (xs ys zs : List ℕ) → Appends a b xs → AppendsPart b c ys zs → AppendsPart a c (xs ++ ys) zs
+appends_part a b c xs ys zs h k = (k.0, subst (Appends a c) (sym (append_assoc xs ys (take k.0 zs))) (appends_more a b c xs (ys ++ take k.0 zs) h k.1))
 
 pub is_empty : (disk : Option (List ℕ)) (len : ℕ) → LengthIs disk len → len ≤ 0 → IsEmpty disk
 is_empty None len h low = tt
@@ -104,7 +97,10 @@ along_part disk_old disk disk_new sink_old sink sink_new stream first count last
   record {
     follow = follow_last stream first so_far.steps last step so_far.grows.follow so_far.ended more;
     frames = rw (← flat_more step_frame so_far.steps step) (appends_more disk_old disk disk_new (flat_map step_frame so_far.steps) (step_frame step) so_far.grows.frames bytes);
-    lines = rw (← flat_more step_lines so_far.steps step) (appends_part sink_old sink sink_new (flat_map step_lines so_far.steps) (step_lines step) so_far.grows.lines line);
+    earlier = so_far.steps;
+    last = step;
+    ordered = refl;
+    lines = (line.0, appends_more sink_old sink sink_new (flat_map step_lines so_far.steps) (take line.0 (step_lines step)) so_far.grows.lines line.1);
   },
 )
 
@@ -120,11 +116,16 @@ leaves disk_old disk disk_new sink_old sink sink_new stream first steps empty by
   output_is = appends_more sink_old sink sink_new (start_line first) (flat_map step_lines steps) line grows.lines;
 }
 
+cuts_last : (old new : Option (List ℕ)) (first : Stored) (earlier : List Step) (last : Step) → AppendsPart old new (output first earlier) (step_lines last) → CutsLast old new first (earlier ++ last ∷ [])
+cuts_last old new first [] last part = ([], last, refl, part)
+cuts_last old new first (step ∷ earlier) last part = (step ∷ earlier, last, refl, part)
+
 pub leaves_part : (disk_old disk disk_new sink_old sink sink_new : Option (List ℕ)) (stream : List Upload) (first : Stored) (steps : List Step) → IsEmpty disk_old → Appends disk_old disk (base_frame first) → Appends sink_old sink (start_line first) → GrowsPart disk disk_new sink sink_new stream (opened first) steps → LeavesPart disk_old disk_new sink_old sink_new stream first steps
 leaves_part disk_old disk disk_new sink_old sink sink_new stream first steps empty bytes line grows = record {
   follow = grows.follow;
   journal_is = fills disk_old disk_new _ empty (appends_more disk_old disk disk_new (base_frame first) (flat_map step_frame steps) bytes grows.frames);
-  output_is = appends_part sink_old sink sink_new (start_line first) (flat_map step_lines steps) line grows.lines;
+  output_is = subst (CutsLast sink_old sink_new first) (sym grows.ordered)
+      (cuts_last sink_old sink_new first grows.earlier grows.last (appends_part sink_old sink sink_new (start_line first) (flat_map step_lines grows.earlier) (step_lines grows.last) line grows.lines));
 }
 
 -- The opening line was cut off.
@@ -132,5 +133,5 @@ pub leaves_start : (disk_old disk_new sink_old sink_new : Option (List ℕ)) (st
 leaves_start disk_old disk_new sink_old sink_new stream first hosted empty bytes line = record {
   follow = hosted;
   journal_is = rw append-nil (fills disk_old disk_new (base_frame first) empty bytes);
-  output_is = rw append-nil line;
+  output_is = line;
 }

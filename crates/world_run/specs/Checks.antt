@@ -1,7 +1,9 @@
 -- What a check of a module answers.
-use Rattle.std.specs.Prelude.{◌≡◌, ℕ, ◌+◌, ◌^◌, ◌⊎◌, List, [], Option, codes}
+use Rattle.std.specs.Prelude.{◌≡◌, ℕ, ◌+◌, ◌⊎◌, List, [], ◌++◌, Option, codes}
 use Rattle.world_io.specs.Told.{GaveAll, Gave}
+use Rattle.intent_book.specs.Refusals.{refusal_name}
 use Rattle.intent_book.specs.declared.refusal.Refusal.TheVariants as refusals
+use Rattle.upload_stream.specs.Streams.{module_bytes_bound}
 use Rattle.player_run.specs.Admission.{IsAccepted, IsRefused}
 use Rattle.world_run.specs.declared.status.Status.{Status}
 use Rattle.world_run.specs.declared.status.Status.TheVariants as statuses
@@ -18,21 +20,14 @@ Checks bytes status = ⊥
 -- The line that is printed for an answer, and nothing for any other status.
 abbrev pub answer_line : Status → List ℕ
 answer_line statuses.Done = codes "accepted\n"
-answer_line (statuses.Refused refusals.Malformed) = codes "refused Malformed\n"
-answer_line (statuses.Refused refusals.TooLarge) = codes "refused TooLarge\n"
-answer_line (statuses.Refused refusals.FloatRefused) = codes "refused FloatRefused\n"
-answer_line (statuses.Refused refusals.Invalid) = codes "refused Invalid\n"
-answer_line (statuses.Refused refusals.UnknownImport) = codes "refused UnknownImport\n"
-answer_line (statuses.Refused refusals.ImportKind) = codes "refused ImportKind\n"
-answer_line (statuses.Refused refusals.NoLoop) = codes "refused NoLoop\n"
-answer_line (statuses.Refused refusals.Segment) = codes "refused Segment\n"
+answer_line (statuses.Refused refusal) = codes "refused " ++ refusal_name refusal ++ codes "\n"
 answer_line status = []
 
--- The source was read to its end, and its bytes call for this answer; or it gave one byte more than 1 MiB, which is too large whatever comes behind.
+-- The source was read to its end, and its bytes call for this answer; or it gave one byte more than a module may have, which is too large whatever comes behind.
 abbrev pub ReadsAnswer : Option (List ℕ) → Option (List ℕ) → Status → Type 0
 ReadsAnswer old new status =
     ((bytes : List ℕ) × GaveAll old new bytes × Checks bytes status)
-    ⊎ ((status ≡ statuses.Refused refusals.TooLarge) × Gave old new (2 ^ 20 + 1))
+    ⊎ ((status ≡ statuses.Refused refusals.TooLarge) × Gave old new (module_bytes_bound + 1))
 
 -- ---- how a check ends, by its status
 

@@ -8,8 +8,7 @@ use Rattle.world_form.specs.declared.field.Field.{Field}
 use Rattle.world_form.specs.declared.field.Field.TheVariants as fields
 use Rattle.world_form.specs.declared.fault.WorldFault.{WorldFault}
 use Rattle.world_form.specs.declared.fault.WorldFault.TheVariants as faults
-use Rattle.intent_book.specs.declared.refusal.Refusal.{Refusal}
-use Rattle.intent_book.specs.declared.refusal.Refusal.TheVariants as refusals
+use Rattle.intent_book.specs.Refusals.{refusal_name}
 use Rattle.world_run.specs.declared.status.Status.{Status}
 use Rattle.world_run.specs.declared.status.Status.TheVariants as statuses
 
@@ -85,19 +84,6 @@ world_fault_text (faults.BadValue field place) = codes "BadValue " ++ field_name
 world_fault_text (faults.NotBuilt kind) = codes "NotBuilt " ++ kind_name kind
 world_fault_text (faults.Rule rule n) = codes "Rule " ++ rule_name rule ++ and_number n
 world_fault_text faults.Memory = codes "Memory"
-
-abbrev pub refusal_name : Refusal → List ℕ
-refusal_name refusals.UnknownPlayer = codes "UnknownPlayer"
-refusal_name refusals.WrongToken = codes "WrongToken"
-refusal_name refusals.TooLarge = codes "TooLarge"
-refusal_name refusals.Malformed = codes "Malformed"
-refusal_name refusals.FloatRefused = codes "FloatRefused"
-refusal_name refusals.Invalid = codes "Invalid"
-refusal_name refusals.UnknownImport = codes "UnknownImport"
-refusal_name refusals.ImportKind = codes "ImportKind"
-refusal_name refusals.NoLoop = codes "NoLoop"
-refusal_name refusals.Segment = codes "Segment"
-refusal_name refusals.Memory = codes "Memory"
 
 abbrev pub status_number : Status → ℕ
 status_number statuses.Done = 0

@@ -1,7 +1,8 @@
 -- The lines that a run prints.
-use Rattle.std.specs.Prelude.{ℕ, List, [], ◌++◌, ◌==◌, if◌then◌else◌, length, decimal, codes}
+use Rattle.std.specs.Prelude.{ℕ, List, [], ◌++◌, ◌==◌, if◌then◌else◌, length, decimal, codes, option_map, unwrap_or}
 use Rattle.std.specs.List.{flat_map, sum_by}
 use Rattle.object_store.specs.Stored.{Stored}
+use Rattle.intent_book.specs.Refusals.{refusal_name, refusal_of}
 use Rattle.intent_book.specs.declared.player_run.PlayerRun.{PlayerRun}
 use Rattle.intent_book.specs.declared.player_run.RunOutcome.{RunOutcome}
 use Rattle.intent_book.specs.declared.player_run.RunOutcome.TheVariants.{Finished, Trapped, Spent}
@@ -28,19 +29,7 @@ start_line world =
 
 -- the result of an upload, by its number
 unfoldable pub result_text : ℕ → List ℕ
-result_text number =
-    if number == 0 then codes "accepted"
-    else if number == 1 then codes "refused UnknownPlayer"
-    else if number == 2 then codes "refused WrongToken"
-    else if number == 3 then codes "refused TooLarge"
-    else if number == 4 then codes "refused Malformed"
-    else if number == 5 then codes "refused FloatRefused"
-    else if number == 6 then codes "refused Invalid"
-    else if number == 7 then codes "refused UnknownImport"
-    else if number == 8 then codes "refused ImportKind"
-    else if number == 9 then codes "refused NoLoop"
-    else if number == 10 then codes "refused Segment"
-    else []
+result_text number = if number == 0 then codes "accepted" else unwrap_or (option_map (λ refusal. codes "refused " ++ refusal_name refusal) (refusal_of number)) []
 
 -- for each upload of a tick
 unfoldable pub upload_line : UploadEntry → List ℕ

@@ -1,5 +1,5 @@
 -- What a run makes of its inputs.
-use Rattle.std.specs.Prelude.{◌≡◌, ℕ, suc, ◌+◌, ◌^◌, ◌<◌, ◌≤◌, ◌⊎◌, List, [], ◌∷◌, ◌++◌, length, Option, Some, None, slice_get, ⊤}
+use Rattle.std.specs.Prelude.{◌≡◌, ℕ, suc, ◌+◌, ◌^◌, ◌<◌, ◌≤◌, ◌⊎◌, List, [], ◌∷◌, ◌++◌, length, take, Option, Some, None, slice_get, ⊤}
 use Rattle.std.specs.List.{flat_map}
 use Rattle.std.specs.Int.{w64, to_le_bytes}
 use Rattle.std.specs.Io.KnownBytes.{Appends}
@@ -154,14 +154,23 @@ IsBeforeJournal status = ⊥
 
 -- ---- what a run leaves
 
+-- These bytes were appended, and a part of those that come next.
+abbrev pub AppendsPart : Option (List ℕ) → Option (List ℕ) → List ℕ → List ℕ → Type 0
+AppendsPart old new whole next = (count : ℕ) × Appends old new (whole ++ take count next)
+
 -- The disk has the journal of these steps from this world on, and the sink was given their lines.
 pub record Leaves (disk_old disk_new sink_old sink_new : Option (List ℕ)) (stream : List Upload) (first : Stored) (steps : List Step) : Type 0 where
   pub follow : Follow stream (opened first) steps
   pub journal_is : Fills disk_old disk_new (journal first steps)
   pub output_is : Appends sink_old sink_new (output first steps)
 
--- The same, but that the sink was given only a part of the lines.
+-- The sink was given the opening line, the lines of all steps but the last, and a part of those of the last; or only a part of the opening line, where there is no step.
+abbrev pub CutsLast : Option (List ℕ) → Option (List ℕ) → Stored → List Step → Type 0
+CutsLast old new first [] = AppendsPrefix old new (start_line first)
+CutsLast old new first steps = (earlier : List Step) × (last : Step) × (steps ≡ earlier ++ last ∷ []) × AppendsPart old new (output first earlier) (step_lines last)
+
+-- The same, but that the sink was given only a part of the last lines.
 pub record LeavesPart (disk_old disk_new sink_old sink_new : Option (List ℕ)) (stream : List Upload) (first : Stored) (steps : List Step) : Type 0 where
   pub follow : Follow stream (opened first) steps
   pub journal_is : Fills disk_old disk_new (journal first steps)
-  pub output_is : AppendsPrefix sink_old sink_new (output first steps)
+  pub output_is : CutsLast sink_old sink_new first steps

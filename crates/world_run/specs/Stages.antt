@@ -1,15 +1,14 @@
 -- With which statuses each stage can end a run, and what the ticks leave.
-use Rattle.std.specs.Prelude.{ℕ, List, Option}
+use Rattle.std.specs.Prelude.{◌≡◌, ℕ, List, [], ◌∷◌, ◌++◌, Option}
 use Rattle.std.specs.List.{flat_map}
 use Rattle.std.specs.Io.KnownBytes.{Appends}
 use Rattle.upload_stream.specs.Streams.{Upload}
 use Rattle.hosted_tick.specs.Hosting.{Held}
 use Rattle.world_form.specs.declared.fault.WorldFault.{WorldFault}
 use Rattle.world_form.specs.declared.fault.WorldFault.TheVariants as faults
-use Rattle.world_io.specs.Told.{AppendsPrefix}
 use Rattle.world_run.specs.Steps.{Step}
 use Rattle.world_run.specs.Lines.{step_lines}
-use Rattle.world_run.specs.Runs.{Follow, step_frame}
+use Rattle.world_run.specs.Runs.{AppendsPart, Follow, step_frame}
 use Rattle.world_run.specs.declared.status.Status.{Status}
 use Rattle.world_run.specs.declared.status.Status.TheVariants as statuses
 
@@ -84,11 +83,14 @@ pub record Grows (disk_old disk_new sink_old sink_new : Option (List ℕ)) (stre
   pub frames : Appends disk_old disk_new (flat_map step_frame steps)
   pub lines : Appends sink_old sink_new (flat_map step_lines steps)
 
--- The same, but that only a part of the lines came to the sink.
+-- The same, but that only a part of the lines of the last step came to the sink.
 pub record GrowsPart (disk_old disk_new sink_old sink_new : Option (List ℕ)) (stream : List Upload) (first : Held) (steps : List Step) : Type 0 where
   pub follow : Follow stream first steps
   pub frames : Appends disk_old disk_new (flat_map step_frame steps)
-  pub lines : AppendsPrefix sink_old sink_new (flat_map step_lines steps)
+  pub earlier : List Step
+  pub last : Step
+  pub ordered : steps ≡ earlier ++ last ∷ []
+  pub lines : AppendsPart sink_old sink_new (flat_map step_lines earlier) (step_lines last)
 
 -- The same, but that nothing is said of the disk.
 pub record GrowsLines (sink_old sink_new : Option (List ℕ)) (stream : List Upload) (first : Held) (steps : List Step) : Type 0 where

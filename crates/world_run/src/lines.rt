@@ -1,12 +1,12 @@
 // The lines that a run prints.
-ghost use Rattle.std.specs.Prelude.{◌≡◌, ◌<◌, ◌^◌, ◌++◌, length, IfOk, OnOk};
+ghost use Rattle.std.specs.Prelude.{◌≡◌, ◌<◌, ◌^◌, ◌++◌, length, string_bytes, IfOk, OnOk};
 ghost use Rattle.std.specs.List.{flat_map, sum_by};
 ghost use Rattle.world_rules.specs.Tick.{intents_of};
 ghost use Rattle.world_run.specs.Steps.{step_of};
 ghost use Rattle.world_run.specs.Lines.{start_line as start_line_of, upload_line as upload_line_of, result_text as result_text_of, run_line as run_line_of, outcome_text as outcome_text_of, tick_line as tick_line_of, step_lines as step_lines_of, object_count as object_count_of, total_energy as total_energy_of};
 
 use hosted_tick::Ticked;
-use intent_book::{PlayerRun, RunOutcome};
+use intent_book::{PlayerRun, Refusal, RunOutcome};
 use object_store::{Object, World};
 use std::alloc::{AllocError, Global};
 use tick_journal::UploadEntry;
@@ -30,74 +30,60 @@ pub(crate) fn start_line(alloc: Global, world: &World) -> Result<Vec<u8>, AllocE
 pub(crate) fn step_lines(alloc: Global, done: &Ticked) -> Result<Vec<u8>, AllocError>
     ensures { IfOk result (λ lines. lines.items ≡ step_lines_of (step_of done.now)) }
 {
-    let mut lines = Vec::new(alloc);
-    add_uploads(alloc, &done.uploads, &mut lines)?;
-    add_runs(alloc, &done.runs, &mut lines)?;
-    let line = tick_line(alloc, done.hosted.world(), intent_count(&done.runs))?;
-    lines.extend_from_slice(&line)?;
-    Ok(lines)
+    let mut lines = String::new(alloc);
+    add_uploads(&done.uploads, &mut lines)?;
+    add_runs(&done.runs, &mut lines)?;
+    add_tick(done.hosted.world(), intent_count(&done.runs), &mut lines)?;
+    Ok(lines.into_bytes())
 }
 
-fn add_uploads(
-    alloc: Global,
-    uploads: &[UploadEntry],
-    lines: &mut Vec<u8>,
-) -> Result<(), AllocError>
-    ensures { OnOk result (lines.new.items ≡ lines.old.items ++ flat_map upload_line_of uploads.now) }
+fn add_uploads(uploads: &[UploadEntry], lines: &mut String) -> Result<(), AllocError>
+    ensures { OnOk result (string_bytes lines.new ≡ string_bytes lines.old ++ flat_map upload_line_of uploads.now) }
 {
     for entry in uploads {
-        lines.extend_from_slice(&upload_line(alloc, entry)?)?;
+        add_upload(entry, lines)?;
     }
     Ok(())
 }
 
-fn add_runs(alloc: Global, runs: &[PlayerRun], lines: &mut Vec<u8>) -> Result<(), AllocError>
-    ensures { OnOk result (lines.new.items ≡ lines.old.items ++ flat_map run_line_of runs.now) }
+fn add_runs(runs: &[PlayerRun], lines: &mut String) -> Result<(), AllocError>
+    ensures { OnOk result (string_bytes lines.new ≡ string_bytes lines.old ++ flat_map run_line_of runs.now) }
 {
     for run in runs {
-        lines.extend_from_slice(&run_line(alloc, run)?)?;
+        add_run(run, lines)?;
     }
     Ok(())
 }
 
-fn upload_line(alloc: Global, entry: &UploadEntry) -> Result<Vec<u8>, AllocError>
-    ensures { IfOk result (λ line. line.items ≡ upload_line_of entry.now) }
+fn add_upload(entry: &UploadEntry, lines: &mut String) -> Result<(), AllocError>
+    ensures { OnOk result (string_bytes lines.new ≡ string_bytes lines.old ++ upload_line_of entry.now) }
 {
     let player = entry.player;
-    let text = result_text(entry.result_number);
-    let line = format!(in alloc; "upload player {player} {text}\n")?;
-    Ok(line.into_bytes())
+    let (verdict, name) = result_words(entry.result_number);
+    write!(lines, "upload player {player} {verdict}{name}\n")
 }
 
-// The result of an upload, by its number.
+// The result of an upload, by its number: the verdict, and the name of a refusal.
 #[tactic(auto, unfolding(crate::specs::Lines::result_text))]
-fn result_text(number: u8) -> &'static str
-    ensures { result.now ≡ result_text_of number }
+fn result_words(number: u8) -> (&'static str, &'static str)
+    ensures { result.0.now ++ result.1.now ≡ result_text_of number }
 {
-    match number {
-        0 => "accepted",
-        1 => "refused UnknownPlayer",
-        2 => "refused WrongToken",
-        3 => "refused TooLarge",
-        4 => "refused Malformed",
-        5 => "refused FloatRefused",
-        6 => "refused Invalid",
-        7 => "refused UnknownImport",
-        8 => "refused ImportKind",
-        9 => "refused NoLoop",
-        10 => "refused Segment",
-        _ => "",
+    if number == 0 {
+        return ("accepted", "");
+    }
+    match Refusal::of_number(number) {
+        Some(refusal) => ("refused ", refusal.name()),
+        None => ("", ""),
     }
 }
 
-fn run_line(alloc: Global, run: &PlayerRun) -> Result<Vec<u8>, AllocError>
-    ensures { IfOk result (λ line. line.items ≡ run_line_of run.now) }
+fn add_run(run: &PlayerRun, lines: &mut String) -> Result<(), AllocError>
+    ensures { OnOk result (string_bytes lines.new ≡ string_bytes lines.old ++ run_line_of run.now) }
 {
     let player = run.player;
     let outcome = outcome_text(run.outcome);
     let used = run.used;
-    let line = format!(in alloc; "player {player} {outcome} {used}\n")?;
-    Ok(line.into_bytes())
+    write!(lines, "player {player} {outcome} {used}\n")
 }
 
 #[tactic(auto, unfolding(crate::specs::Lines::outcome_text))]
@@ -122,17 +108,17 @@ fn intent_count(runs: &[PlayerRun]) -> u128
     count
 }
 
-// The line of a world after a tick, in which so many intents were recorded.
-fn tick_line(alloc: Global, world: &World, intents: u128) -> Result<Vec<u8>, AllocError>
-    ensures { IfOk result (λ line. line.items ≡ tick_line_of world.now intents) }
+// Adds the line of a world after a tick, in which so many intents were recorded.
+fn add_tick(world: &World, intents: u128, lines: &mut String) -> Result<(), AllocError>
+    ensures { OnOk result (string_bytes lines.new ≡ string_bytes lines.old ++ tick_line_of world.now intents) }
 {
     let tick = world.tick();
     let objects = object_count(world);
     let energy = total_energy(world);
-    let line = format!(in alloc;
+    write!(
+        lines,
         "tick {tick} objects {objects} intents {intents} energy {energy}\n"
-    )?;
-    Ok(line.into_bytes())
+    )
 }
 
 #[tactic(auto, using(crate::proofs::LinesSums::counts))]

@@ -1,6 +1,6 @@
 // How a run ends.
 ghost use Rattle.std.specs.Prelude.{◌≡◌, string_bytes, IfOk};
-ghost use Rattle.world_run.specs.Faults.{field_name, kind_name, rule_name, refusal_name, world_fault_text, status_number, status_text, fault_text};
+ghost use Rattle.world_run.specs.Faults.{field_name, kind_name, rule_name, world_fault_text, status_number, status_text, fault_text};
 
 use game_tables::Kind;
 use player_run::Refusal;
@@ -84,7 +84,7 @@ impl Status {
             Status::IdsExhausted(index) => format!(in alloc; "IdsExhausted {index}"),
             Status::Memory => String::from_str(alloc, "Memory"),
             Status::Refused(refusal) => {
-                let name = name_of_refusal(refusal);
+                let name = refusal.name();
                 format!(in alloc; "Refused {name}")
             }
         }
@@ -192,24 +192,5 @@ fn name_of_rule(rule: Rule) -> &'static str
         Rule::Range => "Range",
         Rule::PlayerTwice => "PlayerTwice",
         Rule::Sites => "Sites",
-    }
-}
-
-// The name of a refusal in a fault line.
-fn name_of_refusal(refusal: Refusal) -> &'static str
-    ensures { result.now ≡ refusal_name refusal }
-{
-    match refusal {
-        Refusal::UnknownPlayer => "UnknownPlayer",
-        Refusal::WrongToken => "WrongToken",
-        Refusal::TooLarge => "TooLarge",
-        Refusal::Malformed => "Malformed",
-        Refusal::FloatRefused => "FloatRefused",
-        Refusal::Invalid => "Invalid",
-        Refusal::UnknownImport => "UnknownImport",
-        Refusal::ImportKind => "ImportKind",
-        Refusal::NoLoop => "NoLoop",
-        Refusal::Segment => "Segment",
-        Refusal::Memory => "Memory",
     }
 }

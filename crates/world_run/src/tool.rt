@@ -1,5 +1,5 @@
 // Commands that only read, and keep nothing.
-ghost use Rattle.std.specs.Prelude.{◌≡◌, ◌≢◌, ◌⊎◌, ℕ, ◌≤◌, List, map, string_bytes, Some, IfErr, OnOk};
+ghost use Rattle.std.specs.Prelude.{◌≡◌, ◌≢◌, ◌⊎◌, ℕ, ◌≤◌, List, map, string_bytes, Some, IfOk, IfErr, OnOk};
 ghost use Rattle.std.specs.Io.KnownBytes.{Appends};
 ghost use Rattle.world_io.specs.Causes.{Rose};
 ghost use Rattle.world_io.specs.Told.{AppendsPrefix};
@@ -12,11 +12,9 @@ ghost use Rattle.world_run.specs.declared.status.Status.{Status as StatusView};
 use crate::status::Status;
 use crate::words::{Command, WordsFault, read_words};
 use player_run::{Refusal, admit};
-use std::alloc::Global;
+use std::alloc::{AllocError, Global};
+use upload_stream::most_module_bytes;
 use world_io::{Disk, ReadStop, Sink, Source, read_all, write_all};
-
-/// The most bytes of a module, 1 MiB.
-const MOST_BYTES: u64 = 1_048_576;
 
 /// Runs a command that only reads: so far `check MODULE`.
 ///
@@ -71,7 +69,10 @@ pub fn tool_main<S: Source, O: Sink, D: Disk>(
         return status;
     }
     match answer(alloc, input) {
-        answer @ (Status::Done | Status::Refused(_)) => print(out, answer),
+        answer @ (Status::Done | Status::Refused(_)) => match line_of(alloc, answer) {
+            Ok(line) => print(out, &line, answer),
+            Err(_) => Status::Memory,
+        },
         status => status,
     }
 }
@@ -99,7 +100,7 @@ fn answer<S: Source>(alloc: Global, input: &mut S) -> Status
     ensures steady { result ≢ Status.ReadFault → S.faults input.new ≡ S.faults input.old }
     ensures later { S.faults input.old ≤ S.faults input.new }
 {
-    match read_all(alloc, input, MOST_BYTES) {
+    match read_all(alloc, input, u64::from(most_module_bytes())) {
         Ok(bytes) => verdict(alloc, &bytes),
         Err(ReadStop::Fault) => Status::ReadFault,
         Err(ReadStop::TooLong) => Status::Refused(Refusal::TooLarge),
@@ -119,8 +120,9 @@ fn verdict(alloc: Global, bytes: &[u8]) -> Status
 }
 
 // Prints the line of an answer.
-fn print<O: Sink>(out: &mut O, answer: Status) -> Status
-    requires { IsAnswer answer }
+fn print<O: Sink>(out: &mut O, line: &str, answer: Status) -> Status
+    requires answer { IsAnswer answer }
+    requires line { line.now ≡ answer_line answer }
     ensures only { (result ≡ answer) ⊎ (result ≡ Status.WriteFault) }
     ensures line { IsAnswer result → Appends (O.written out.old) (O.written out.new) (answer_line answer) }
     ensures line_cut { result ≡ Status.WriteFault → AppendsPrefix (O.written out.old) (O.written out.new) (answer_line answer) }
@@ -128,26 +130,22 @@ fn print<O: Sink>(out: &mut O, answer: Status) -> Status
     ensures steady { result ≢ Status.WriteFault → O.faults out.new ≡ O.faults out.old }
     ensures later { O.faults out.old ≤ O.faults out.new }
 {
-    match write_all(out, line_of(answer).as_bytes()) {
+    match write_all(out, line.as_bytes()) {
         Ok(()) => answer,
         Err(_) => Status::WriteFault,
     }
 }
 
 // The line of an answer, with its line feed.
-fn line_of(answer: Status) -> &'static str
-    ensures { result.now ≡ answer_line answer }
+fn line_of(alloc: Global, answer: Status) -> Result<String, AllocError>
+    ensures { IfOk result (λ line. string_bytes line ≡ answer_line answer) }
 {
     match answer {
-        Status::Done => "accepted\n",
-        Status::Refused(Refusal::Malformed) => "refused Malformed\n",
-        Status::Refused(Refusal::TooLarge) => "refused TooLarge\n",
-        Status::Refused(Refusal::FloatRefused) => "refused FloatRefused\n",
-        Status::Refused(Refusal::Invalid) => "refused Invalid\n",
-        Status::Refused(Refusal::UnknownImport) => "refused UnknownImport\n",
-        Status::Refused(Refusal::ImportKind) => "refused ImportKind\n",
-        Status::Refused(Refusal::NoLoop) => "refused NoLoop\n",
-        Status::Refused(Refusal::Segment) => "refused Segment\n",
-        _ => "",
+        Status::Done => String::from_str(alloc, "accepted\n"),
+        Status::Refused(refusal) => {
+            let name = refusal.name();
+            format!(in alloc; "refused {name}\n")
+        }
+        _ => Ok(String::new(alloc)),
     }
 }
