@@ -9,8 +9,12 @@ mod run_tests;
 #[cfg(test)]
 mod status_tests;
 #[cfg(test)]
+mod tick_tests;
+#[cfg(test)]
 mod tool_tests;
 #[cfg(test)]
 mod view_tests;
 #[cfg(test)]
 mod words_tests;
+#[cfg(test)]
+mod worlds;

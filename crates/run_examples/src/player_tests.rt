@@ -1,17 +1,18 @@
 // Runs with players, over devices in memory.
-ghost use Rattle.std.specs.Prelude.{◌≡◌, ◌<◌, ◌^◌, length, IfOk};
-
+use crate::worlds::room;
 use std::alloc::{AllocError, Global};
 use std::test::Fail;
+use tick_journal::tick_content;
 use world_io::{MemoryDisk, MemorySink, MemorySource};
 use world_run::{Status, run_alone};
+use world_text::read_world;
 
-// How a run ended, with what it printed and how many bytes its journal has.
+// How a run ended, with what it printed and its journal.
 #[derive(Drop)]
 struct Ended {
     status: Status,
     printed: Vec<u8>,
-    journal: usize,
+    journal: Vec<u8>,
 }
 
 // Loops for ever.
@@ -26,6 +27,10 @@ const IDLE: &[u8] =
 const DROPPER: &[u8] =
     b"\0asm\x01\0\0\0\x01\x0A\x02\x60\x02\x7E\x7F\x01\x7F\x60\0\0\x02\x10\x01\x07screeps\x04drop\0\0\x03\x02\x01\x01\x07\x08\x01\x04loop\0\x01\x0A\x0B\x01\x09\0\x42\x03\x41\x05\x10\0\x1A\x0B";
 
+// Drops 7 of what the creep carries that was born first in the second room.
+const OTHER_DROPPER: &[u8] =
+    b"\0asm\x01\0\0\0\x01\x0A\x02\x60\x02\x7E\x7F\x01\x7F\x60\0\0\x02\x10\x01\x07screeps\x04drop\0\0\x03\x02\x01\x01\x07\x08\x01\x04loop\0\x01\x0A\x0F\x01\x0D\0\x42\x81\x80\x80\x80\x10\x41\x07\x10\0\x1A\x0B";
+
 // Drops 5 of what creep 3 carries, and then traps.
 const TRAPPED: &[u8] =
     b"\0asm\x01\0\0\0\x01\x0A\x02\x60\x02\x7E\x7F\x01\x7F\x60\0\0\x02\x10\x01\x07screeps\x04drop\0\0\x03\x02\x01\x01\x07\x08\x01\x04loop\0\x01\x0A\x0C\x01\x0A\0\x42\x03\x41\x05\x10\0\x1A\0\x0B";
@@ -33,15 +38,11 @@ const TRAPPED: &[u8] =
 // A room with a source that is renewed at once, a pile of 1,001 and a creep of player 1 with a load of 20, whose next
 // serial is this; and player 1 with this limit and bucket.
 fn world_of(alloc: Global, next: u32, limit: u32, bucket: u32) -> Result<Vec<u8>, AllocError> {
-    let mut terrain = String::new(alloc);
-    for at in 0..2500_usize {
-        let corner = at == 0 || at == 49 || at == 2450 || at == 2499;
-        terrain.push(if corner { '1' } else { '0' })?;
-    }
     let objects =
         "{\"id\":1,\"kind\":\"source\",\"x\":10,\"y\":10,\"timer\":1},{\"id\":2,\"kind\":\"pile\",\"x\":20,\"y\":20,\"energy\":1001},{\"id\":3,\"kind\":\"creep\",\"x\":30,\"y\":30,\"owner\":1,\"body\":[\"carry\",\"move\"],\"energy\":20,\"timer\":1500}";
+    let room = room(alloc, "E0S0", next, objects)?;
     let text = format!(in alloc;
-        "{{\"version\":1,\"tick\":0,\"rooms\":[{{\"name\":\"E0S0\",\"terrain\":\"{terrain}\",\"next\":{next},\"objects\":[{objects}]}}],\"players\":[{{\"player\":1,\"limit\":{limit},\"bucket\":{bucket}}}]}}"
+        "{{\"version\":1,\"tick\":0,\"rooms\":[{room}],\"players\":[{{\"player\":1,\"limit\":{limit},\"bucket\":{bucket}}}]}}"
     )?;
     Ok(text.into_bytes())
 }
@@ -77,7 +78,7 @@ fn run(
     Ok(Ended {
         status,
         printed: Vec::from_slice(alloc, out.written())?,
-        journal: disk.bytes().len(),
+        journal: Vec::from_slice(alloc, disk.bytes())?,
     })
 }
 
@@ -169,7 +170,7 @@ fn refused_streams_and_used_up_serials(rt: HostRuntime) -> Result<(), Fail> {
     let falling: [(u64, u32, &[u8]); 2] = [(1, 1, b""), (0, 1, b"")];
     let ended = run(alloc, world_of(alloc, 4, 20, 0)?, &falling, "1")?;
     assert_eq!(rt; ended.status, Status::Uploads(16));
-    assert_eq!(rt; (ended.printed.len(), ended.journal), (0, 0));
+    assert_eq!(rt; (ended.printed.len(), ended.journal.len()), (0, 0));
     let ended = run(alloc, world_of(alloc, 4_293_918_721, 20, 0)?, &[], "1")?;
     assert_eq!(rt; ended.status, Status::IdsExhausted(0));
     assert_eq!(rt;
@@ -178,5 +179,63 @@ fn refused_streams_and_used_up_serials(rt: HostRuntime) -> Result<(), Fail> {
     );
     let ended = run(alloc, world_of(alloc, 4_293_918_720, 20, 0)?, &[], "1")?;
     assert_eq!(rt; ended.status, Status::Done);
+    Ok(())
+}
+
+// Two rooms with these next serials: in the first a creep of player 1 with this load on a pile of this energy, in the
+// second a creep of player 2 with this load, and more objects; and the players with these buckets.
+fn world_of_two(
+    alloc: Global,
+    nexts: (u32, u32),
+    loads: (u32, u32),
+    pile: u32,
+    more: &str,
+    buckets: (u32, u32),
+) -> Result<String, AllocError> {
+    let (load, pile_energy) = (loads.0, pile);
+    let objects = format!(in alloc;
+        "{{\"id\":2,\"kind\":\"pile\",\"x\":30,\"y\":30,\"energy\":{pile_energy}}},{{\"id\":3,\"kind\":\"creep\",\"x\":30,\"y\":30,\"owner\":1,\"body\":[\"carry\",\"move\"],\"energy\":{load},\"timer\":1500}}"
+    )?;
+    let first = room(alloc, "E0S0", nexts.0, &objects)?;
+    let load = loads.1;
+    let objects = format!(in alloc;
+        "{{\"id\":4294967297,\"kind\":\"creep\",\"x\":10,\"y\":10,\"owner\":2,\"body\":[\"carry\",\"move\"],\"energy\":{load},\"timer\":1500}}{more}"
+    )?;
+    let second = room(alloc, "E1S0", nexts.1, &objects)?;
+    let (one, other) = buckets;
+    format!(in alloc;
+        "{{\"version\":1,\"tick\":0,\"rooms\":[{first},{second}],\"players\":[{{\"player\":1,\"limit\":20,\"bucket\":{one}}},{{\"player\":2,\"limit\":500,\"bucket\":{other}}}]}}"
+    )
+}
+
+// The end of a journal whose last tick leaves the accounts and rooms of this text.
+fn end_of(alloc: Global, text: &str) -> Result<Vec<u8>, Fail> {
+    let Ok(file) = read_world(alloc, text.as_bytes()) else {
+        return Err("refused".into());
+    };
+    // (a tick without uploads and runs: a letter, the tick, and two numbers)
+    let content = tick_content(alloc, &[], &[], &file.world)?;
+    Ok(Vec::from_slice(alloc, content.get(17..).unwrap_or(&[]))?)
+}
+
+#[test]
+fn players_of_two_rooms_drop_in_one_tick(rt: HostRuntime) -> Result<(), Fail> {
+    let alloc = rt.alloc();
+    let world = world_of_two(alloc, (4, 2), (20, 50), 1001, "", (30, 9_000))?;
+    let uploads: [(u64, u32, &[u8]); 2] = [(0, 1, DROPPER), (0, 2, OTHER_DROPPER)];
+    let ended = run(alloc, world.into_bytes(), &uploads, "1")?;
+    assert_eq!(rt; ended.status, Status::Done);
+    assert_eq!(rt;
+        ended.printed.as_slice(),
+        b"start tick 0 rooms 2 objects 3 players 2\nupload player 1 accepted\nupload player 2 accepted\n\
+        player 1 finished 4\nplayer 2 finished 4\ntick 1 objects 4 intents 2 energy 1068\n"
+            .as_slice()
+    );
+    // (the pile of 1,001 and 5 loses 2, the new one of 7 loses 1; the buckets lose a unit)
+    let more = ",{\"id\":4294967298,\"kind\":\"pile\",\"x\":10,\"y\":10,\"energy\":6}";
+    let after = world_of_two(alloc, (4, 3), (15, 43), 1004, more, (49, 9_499))?;
+    let end = end_of(alloc, &after)?;
+    assert!(rt; end.len() > 200);
+    assert!(rt; ended.journal.ends_with(&end));
     Ok(())
 }

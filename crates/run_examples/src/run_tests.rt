@@ -1,6 +1,7 @@
 // Runs over devices in memory, and the calls that fail.
 ghost use Rattle.std.specs.Prelude.{◌≡◌, ◌<◌, ◌^◌, length, IfOk};
 
+use crate::worlds::room;
 use std::alloc::{AllocError, Global};
 use std::test::Fail;
 use world_io::{Disk, Failed, MemoryDisk, MemorySink, MemorySource};
@@ -22,6 +23,7 @@ struct Inputs {
     uploads: Vec<u8>,
     disk: Vec<u8>,
     reads: Vec<u64>,
+    upload_reads: Vec<u64>,
     writes: Vec<u64>,
     calls: Vec<u64>,
 }
@@ -36,27 +38,31 @@ struct Ended {
 
 // A room with a source that is renewed at once and a pile of 1,001.
 fn small_world(alloc: Global) -> Result<Vec<u8>, AllocError> {
-    let mut terrain = String::new(alloc);
-    for at in 0..2500_usize {
-        let corner = at == 0 || at == 49 || at == 2450 || at == 2499;
-        terrain.push(if corner { '1' } else { '0' })?;
-    }
-    let text = format!(in alloc;
-        "{{\"version\":1,\"tick\":0,\"rooms\":[{{\"name\":\"E0S0\",\"terrain\":\"{terrain}\",\"next\":3,\"objects\":[{{\"id\":1,\"kind\":\"source\",\"x\":10,\"y\":10,\"timer\":1}},{{\"id\":2,\"kind\":\"pile\",\"x\":20,\"y\":20,\"energy\":1001}}]}}]}}"
+    let room = room(
+        alloc,
+        "E0S0",
+        3,
+        "{\"id\":1,\"kind\":\"source\",\"x\":10,\"y\":10,\"timer\":1},{\"id\":2,\"kind\":\"pile\",\"x\":20,\"y\":20,\"energy\":1001}",
     )?;
+    let text = format!(in alloc; "{{\"version\":1,\"tick\":0,\"rooms\":[{room}]}}")?;
     Ok(text.into_bytes())
 }
 
 // Two rooms, with two piles in the first and one in the second, at tick 41.
 fn two_rooms(alloc: Global) -> Result<Vec<u8>, AllocError> {
-    let mut terrain = String::new(alloc);
-    for at in 0..2500_usize {
-        let corner = at == 0 || at == 49 || at == 2450 || at == 2499;
-        terrain.push(if corner { '1' } else { '0' })?;
-    }
-    let text = format!(in alloc;
-        "{{\"version\":1,\"tick\":41,\"rooms\":[{{\"name\":\"E0S0\",\"terrain\":\"{terrain}\",\"next\":3,\"objects\":[{{\"id\":1,\"kind\":\"pile\",\"x\":10,\"y\":10,\"energy\":1000000000}},{{\"id\":2,\"kind\":\"pile\",\"x\":20,\"y\":20,\"energy\":1}}]}},{{\"name\":\"E1S0\",\"terrain\":\"{terrain}\",\"next\":2,\"objects\":[{{\"id\":4294967297,\"kind\":\"pile\",\"x\":1,\"y\":1,\"energy\":7}}]}}]}}"
+    let first = room(
+        alloc,
+        "E0S0",
+        3,
+        "{\"id\":1,\"kind\":\"pile\",\"x\":10,\"y\":10,\"energy\":1000000000},{\"id\":2,\"kind\":\"pile\",\"x\":20,\"y\":20,\"energy\":1}",
     )?;
+    let second = room(
+        alloc,
+        "E1S0",
+        2,
+        "{\"id\":4294967297,\"kind\":\"pile\",\"x\":1,\"y\":1,\"energy\":7}",
+    )?;
+    let text = format!(in alloc; "{{\"version\":1,\"tick\":41,\"rooms\":[{first},{second}]}}")?;
     Ok(text.into_bytes())
 }
 
@@ -69,6 +75,7 @@ fn small_inputs(alloc: Global) -> Result<Inputs, AllocError>
         uploads: Vec::new(alloc),
         disk: Vec::new(alloc),
         reads: Vec::new(alloc),
+        upload_reads: Vec::new(alloc),
         writes: Vec::new(alloc),
         calls: Vec::new(alloc),
     })
@@ -90,11 +97,12 @@ fn run(alloc: Global, inputs: Inputs, ticks: &str) -> Result<Ended, AllocError>
         uploads,
         disk,
         reads,
+        upload_reads,
         writes,
         calls,
     } = inputs;
     let mut world = MemorySource::new(world, reads);
-    let mut uploads = MemorySource::new(uploads, Vec::new(alloc));
+    let mut uploads = MemorySource::new(uploads, upload_reads);
     let mut out = MemorySink::new(alloc, writes);
     let mut disk = MemoryDisk::new(disk, calls, None);
     let words = words(alloc, ticks)?;
@@ -190,6 +198,13 @@ fn a_failing_first_call_is_named(rt: HostRuntime) -> Result<(), Fail> {
         ..small_inputs(alloc)?
     };
     let ended = run(alloc, reads, "1")?;
+    assert_eq!(rt; ended.status, Status::ReadFault);
+    assert!(rt; ended.journal.is_empty());
+    let upload_reads = Inputs {
+        upload_reads: vec![in alloc; 0u64]?,
+        ..small_inputs(alloc)?
+    };
+    let ended = run(alloc, upload_reads, "1")?;
     assert_eq!(rt; ended.status, Status::ReadFault);
     assert!(rt; ended.journal.is_empty());
     let writes = Inputs {

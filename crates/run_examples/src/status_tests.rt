@@ -28,9 +28,26 @@ fn faults_are_printed(rt: HostRuntime) {
             Status::World(WorldFault::Rule(Rule::Range, 1)),
             "fault 3 World Rule Range 1\n",
         ),
+        (
+            Status::World(WorldFault::TooLong),
+            "fault 3 World TooLong\n",
+        ),
         (Status::Uploads(0), "fault 4 Uploads 0\n"),
+        (Status::ReadFault, "fault 5 ReadFault\n"),
+        (Status::WriteFault, "fault 6 WriteFault\n"),
+        (Status::DiskFault, "fault 7 DiskFault\n"),
         (Status::NotAJournal(0), "fault 8 NotAJournal 0\n"),
+        (Status::IdsExhausted(0), "fault 10 IdsExhausted 0\n"),
+        (Status::IdsExhausted(399), "fault 10 IdsExhausted 399\n"),
         (Status::Memory, "fault 11 Memory\n"),
+        (
+            Status::Refused(Refusal::UnknownPlayer),
+            "fault 12 Refused UnknownPlayer\n",
+        ),
+        (
+            Status::Refused(Refusal::WrongToken),
+            "fault 12 Refused WrongToken\n",
+        ),
         (
             Status::Refused(Refusal::Malformed),
             "fault 12 Refused Malformed\n",
@@ -62,6 +79,10 @@ fn faults_are_printed(rt: HostRuntime) {
         (
             Status::Refused(Refusal::Segment),
             "fault 12 Refused Segment\n",
+        ),
+        (
+            Status::Refused(Refusal::Memory),
+            "fault 12 Refused Memory\n",
         ),
     ] {
         let Ok(line) = status.fault_line(rt.alloc()) else {

@@ -1,35 +1,35 @@
 // What players see of a world that was read from a file.
-ghost use Rattle.std.specs.Prelude.{◌≡◌};
-
+use crate::worlds::room;
 use object_store::{Ground, RoomName};
 use std::alloc::{AllocError, Global};
 use std::test::Fail;
 use visible_view::View;
 use world_text::read_world;
 
-// Plain ground with walls at the corners.
-fn terrain(alloc: Global) -> Result<String, AllocError> {
-    let mut terrain = String::new(alloc);
-    for at in 0..2500_usize {
-        let corner = at == 0 || at == 49 || at == 2450 || at == 2499;
-        terrain.push(if corner { '1' } else { '0' })?;
-    }
-    Ok(terrain)
-}
-
 // Three rooms: player 1 has a controller in the first, and in the second a creep that was born in the first; in the
 // third he has a site and a reservation, and player 2 a creep.
 fn three_rooms(alloc: Global) -> Result<String, AllocError> {
-    let terrain = terrain(alloc)?;
-    let first =
-        "{\"id\":2,\"kind\":\"source\",\"x\":10,\"y\":10,\"energy\":7},{\"id\":1,\"kind\":\"controller\",\"x\":5,\"y\":5,\"owner\":1,\"extra\":1,\"timer\":5},{\"id\":4,\"kind\":\"site\",\"x\":9,\"y\":9,\"owner\":1,\"extra\":8}";
-    let second =
-        "{\"id\":4294967297,\"kind\":\"pile\",\"x\":7,\"y\":7,\"energy\":5},{\"id\":3,\"kind\":\"creep\",\"x\":6,\"y\":8,\"owner\":1,\"body\":[\"move\",\"carry\"],\"hits\":150,\"energy\":40,\"timer\":9}";
-    let third =
-        "{\"id\":8589934593,\"kind\":\"site\",\"x\":3,\"y\":3,\"owner\":1,\"extra\":7},{\"id\":8589934594,\"kind\":\"controller\",\"x\":5,\"y\":5,\"other\":1,\"other_ticks\":5},{\"id\":8589934595,\"kind\":\"creep\",\"x\":6,\"y\":6,\"owner\":2,\"body\":[\"move\"],\"timer\":9}";
+    let first = room(
+        alloc,
+        "E0S0",
+        5,
+        "{\"id\":2,\"kind\":\"source\",\"x\":10,\"y\":10,\"energy\":7},{\"id\":1,\"kind\":\"controller\",\"x\":5,\"y\":5,\"owner\":1,\"extra\":1,\"timer\":5},{\"id\":4,\"kind\":\"site\",\"x\":9,\"y\":9,\"owner\":1,\"extra\":8}",
+    )?;
+    let second = room(
+        alloc,
+        "W0S0",
+        9,
+        "{\"id\":4294967297,\"kind\":\"pile\",\"x\":7,\"y\":7,\"energy\":5},{\"id\":3,\"kind\":\"creep\",\"x\":6,\"y\":8,\"owner\":1,\"body\":[\"move\",\"carry\"],\"hits\":150,\"energy\":40,\"timer\":9}",
+    )?;
+    let third = room(
+        alloc,
+        "E2S0",
+        9,
+        "{\"id\":8589934593,\"kind\":\"site\",\"x\":3,\"y\":3,\"owner\":1,\"extra\":7},{\"id\":8589934594,\"kind\":\"controller\",\"x\":5,\"y\":5,\"other\":1,\"other_ticks\":5},{\"id\":8589934595,\"kind\":\"creep\",\"x\":6,\"y\":6,\"owner\":2,\"body\":[\"move\"],\"timer\":9}",
+    )?;
     let players = "{\"player\":1,\"limit\":20,\"bucket\":30},{\"player\":2,\"limit\":0}";
     format!(in alloc;
-        "{{\"version\":1,\"tick\":6,\"rooms\":[{{\"name\":\"E0S0\",\"terrain\":\"{terrain}\",\"next\":5,\"objects\":[{first}]}},{{\"name\":\"W0S0\",\"terrain\":\"{terrain}\",\"next\":9,\"objects\":[{second}]}},{{\"name\":\"E2S0\",\"terrain\":\"{terrain}\",\"next\":9,\"objects\":[{third}]}}],\"players\":[{players}]}}"
+        "{{\"version\":1,\"tick\":6,\"rooms\":[{first},{second},{third}],\"players\":[{players}]}}"
     )
 }
 
