@@ -8,8 +8,10 @@ rounds counts. The journals lie in memory where there is /dev/shm, so that no di
 The first table has the loops of bench/machine.py as players of 5,000,000 instructions a tick, beside the same in machine_bench, which is
 looked for beside PROGRAM and in crates/machine_bench/out. The second has ticks by how many players there are and what they see, with an
 empty `loop` for each, beside the same without modules. The third has the modules that a player would write to hurt, and the time for an
-instruction that they pay for, beside that of a plain loop. The fourth has those that hardly pay for any, and the time for each player. The
-fifth has streams of uploads, by their entries and bytes.
+instruction that they pay for, beside that of a plain loop; what the tick takes besides is left out, for which it is measured with an empty
+`loop`, or where a record is full with a module that fills it and no more. The fourth has those that hardly pay for any, and the time for
+each player. The fifth has streams of uploads, by their entries and bytes, and the most memory that the program took (its least is what
+Python takes, which starts it).
 
 The times depend on the machine and on what else it does: compare figures of one run alone. With --quick each row is run once, in fewer
 ticks, which shows that it runs and little else.
@@ -23,7 +25,7 @@ import tempfile
 import time
 
 import machine
-from modules import OPENING, code_entry, func_type, leb, listed, name_bytes, player_module, section
+from modules import I32, OPENING, code_entry, func_type, host_import, leb, listed, name_bytes, player_module, section
 from scripts import Script, unkept
 from worlds import MIB, SECOND, bytes_of, room, thing, upload_entry, world
 
@@ -92,6 +94,10 @@ def crowded(count, creeps):
 # ---- modules
 
 IMPORTS = {
+    "tick": "(result i64)",
+    "me": "(result i32)",
+    "allowance": "(result i32)",
+    "bucket": "(result i32)",
     "rooms": "(result i32)",
     "room": "(param i32) (result i32)",
     "room_name": "(param i32) (result i32)",
@@ -101,6 +107,7 @@ IMPORTS = {
     "count": "(result i32)",
     "find": "(param i64) (result i32)",
     "get": "(param i32 i32) (result i64)",
+    "memory_length": "(result i32)",
     "memory_read": "(param i32) (result i32)",
     "memory_write": "(param i32 i32) (result i32)",
     "drop": "(param i64 i32) (result i32)",
@@ -127,14 +134,21 @@ def id_of(number):
 
 ENTRY = "(i32.and (local.get $i) (i32.const 4095))"
 FILL = f"(loop $f (drop (call $drop {id_of('(local.get $i)')} (i32.const 1))) {STEP} (br_if $f (i32.lt_u (local.get $i) (i32.const 4096))))"
+FILLING = f'(module (import "screeps" "drop" (func $drop {IMPORTS["drop"]})) (func (export "loop") (local $i i32) {FILL}))'
 SCRAMBLED_ENTRY = f"(i32.and {SCRAMBLED} (i32.const 4095))"
 MEMORY = "(memory 2)"
 WHOLE_TEXT = "(drop (call $memory_write (i32.const 0) (i32.const 65536)))"
 
-# Modules of a player who sees the wide world, with the CPU units that he has.
+# Modules of a player who sees the wide world, with the CPU units that he has, and with the module whose tick is left out, where that is
+# another than an empty `loop`.
 COSTLY = {
     "an endless loop": ('(module (func (export "loop") (loop $l (br $l))))', 500),
     "a start that never ends": ('(module (func $s (loop $l (br $l))) (start $s) (func (export "loop")))', 500),
+    "tick": (calling("tick"), 500),
+    "me": (calling("me"), 500),
+    "allowance": (calling("allowance"), 500),
+    "bucket": (calling("bucket"), 500),
+    "points": (calling("points"), 500),
     "rooms": (calling("rooms"), 500),
     "room": (calling("room", f"(i32.rem_u {SCRAMBLED} (i32.const 300))"), 500),
     "room, past the last": (calling("room", "(i32.const -1)"), 500),
@@ -149,11 +163,12 @@ COSTLY = {
     "get of capacities": (calling("get", f"(i32.rem_u {SCRAMBLED} (i32.const 19294))", "(i32.const 9)"), 500),
     "get of a creep's capacity": (calling("get", "(i32.const 7)", "(i32.const 9)"), 500),
     "get of the last part": (calling("get", f"(i32.rem_u {SCRAMBLED} (i32.const 2048))", "(i32.const 149)"), 500),
-    "a full record, its last entry again": (calling("drop", "(i64.const 1)", "(i32.const 1)", before=FILL), 500),
-    "a full record, its first entry again": (calling("drop", id_of(ENTRY), "(i32.const 1)", before=FILL), 500),
-    "a full record, any entry again": (calling("drop", id_of(SCRAMBLED_ENTRY), "(i32.const 1)", before=FILL), 500),
+    "a full record, its last entry again": (calling("drop", "(i64.const 1)", "(i32.const 1)", before=FILL), 500, FILLING),
+    "a full record, its first entry again": (calling("drop", id_of(ENTRY), "(i32.const 1)", before=FILL), 500, FILLING),
+    "a full record, any entry again": (calling("drop", id_of(SCRAMBLED_ENTRY), "(i32.const 1)", before=FILL), 500, FILLING),
     "a record of one entry": (calling("drop", "(i64.const 1)", "(i32.const 1)"), 500),
     "drops that are refused": (calling("drop", id_of(SCRAMBLED_ENTRY), "(i32.const 51)"), 500),
+    "memory_length": (calling("memory_length"), 500),
     "memory_write of 64 KiB": (calling("memory_write", "(i32.const 0)", "(i32.const 65536)", more=MEMORY), 10),
     "memory_read of 64 KiB": (text_of(["memory_read", "memory_write"], "(drop (call $memory_read (i32.const 0)))", MEMORY, WHOLE_TEXT), 10),
     "memory_write of nothing": (calling("memory_write", "(i32.const 0)", "(i32.const 0)", more=MEMORY), 500),
@@ -173,11 +188,50 @@ def many_functions():
     return player_module(b"", helpers=helpers)
 
 
+NEAR_MIB = MIB - 200
+
+
+def with_many(types=(), imports=(), sections=(), exports=()):
+    """A module of an empty `loop` with these entries besides, and with further sections by their numbers."""
+    parts = {
+        1: listed([func_type(b"", b""), func_type(b"", I32), *types]),
+        2: listed(imports),
+        3: listed([b"\0"]),
+        7: listed([name_bytes("loop") + b"\0" + leb(len(imports)), *exports]),
+        10: listed([code_entry(b"")]),
+        **dict(sections),
+    }
+    return OPENING + b"".join(section(number, parts[number]) for number in sorted(parts))
+
+
 def many_globals():
     """200,000 globals, which take five bytes each."""
-    globals_ = section(6, listed([b"\x7f\1\x41\0\x0b"] * 200_000))
-    content = OPENING + section(1, listed([func_type(b"", b"")])) + section(3, listed([b"\0"])) + globals_
-    return content + section(7, listed([name_bytes("loop") + b"\0\0"])) + section(10, listed([code_entry(b"")]))
+    return with_many(sections={6: listed([b"\x7f\1\x41\0\x0b"] * 200_000)})
+
+
+def empty_data():
+    """Segments of no bytes for a memory of no pages."""
+    return with_many(sections={5: listed([b"\0\0"]), 11: listed([b"\0\x41\0\x0b\0"] * (NEAR_MIB // 5))})
+
+
+def empty_elements():
+    """Segments of no functions for a table of no entries."""
+    return with_many(sections={4: listed([b"\x70\0\0"]), 9: listed([b"\0\x41\0\x0b\0"] * (NEAR_MIB // 5))})
+
+
+def many_types():
+    return with_many(types=[func_type(b"", b"")] * (NEAR_MIB // 3))
+
+
+def many_exports():
+    """Exports of `loop` under names of six bytes."""
+    return with_many(exports=[name_bytes(f"{number:06x}") + b"\0\0" for number in range(NEAR_MIB // 9)])
+
+
+def many_imports():
+    """Imports of one call, again and again."""
+    entry = host_import("me", 1)
+    return with_many(imports=[entry] * (NEAR_MIB // len(entry)))
 
 
 def full_table():
@@ -201,16 +255,30 @@ CHEAP = {
     "a table of 65,536 entries, filled": full_table(),
     "256 pages": player_module(b"", pages=256),
     "256 pages and a mebibyte of data": much_data(),
+    "a memory that grows from 0 to 256 pages": player_module(b"\x41\x80\x02\x40\0\x1a", pages=0),
+    "empty data segments in a mebibyte": empty_data(),
+    "empty element segments in a mebibyte": empty_elements(),
+    "types in a mebibyte": many_types(),
+    "exports in a mebibyte": many_exports(),
+    "imports in a mebibyte": many_imports(),
 }
 
 
 # ---- times
 
 
-def seconds(command):
+def seconds(command, stdout=subprocess.PIPE):
     began = time.perf_counter()
-    done = subprocess.run(command, stdout=subprocess.PIPE, check=True)
-    return time.perf_counter() - began, done.stdout.decode()
+    done = subprocess.run(command, stdout=stdout, check=True)
+    return time.perf_counter() - began, (done.stdout or b"").decode()
+
+
+# Runs a command and prints the most memory in KiB that it took. A process begins with the memory of the one that started it, and so one
+# that holds little has to.
+PEAK = """import resource, subprocess, sys
+subprocess.run(sys.argv[1:], stdout=subprocess.DEVNULL, check=True)
+print(resource.getrusage(resource.RUSAGE_CHILDREN).ru_maxrss)
+"""
 
 
 class Bench:
@@ -233,10 +301,14 @@ class Bench:
         with open(self.path(name), "wb") as it:
             it.write(content)
 
-    def once(self, ticks):
+    def command(self, ticks):
+        """The words of a run, for which the old journal is taken away."""
         if os.path.exists(self.path("journal")):
             os.remove(self.path("journal"))
-        return seconds([self.program, "run", self.path("world"), self.path("uploads"), self.path("journal"), "--ticks", str(ticks)])
+        return [self.program, "run", self.path("world"), self.path("uploads"), self.path("journal"), "--ticks", str(ticks)]
+
+    def once(self, ticks):
+        return seconds(self.command(ticks))
 
     def tick(self, first, stream, more):
         """Seconds of a tick after the first one, by so many more, and the instructions that were used in it."""
@@ -253,7 +325,12 @@ class Bench:
         """Seconds of a run of one tick."""
         self.put("world", first)
         self.put("uploads", stream)
-        return min(self.once(1)[0] for _ in range(self.rounds))
+        return min(seconds(self.command(1), subprocess.DEVNULL)[0] for _ in range(self.rounds))
+
+    def peak(self):
+        """The most memory in MiB of a run of one tick with the files of the last one."""
+        done = subprocess.run([sys.executable, "-I", "-S", "-c", PEAK, *self.command(1)], stdout=subprocess.PIPE, check=True)
+        return int(done.stdout) / 1024
 
 
 def for_each(count, module):
@@ -307,13 +384,16 @@ def costly(bench):
     first = wide()
     empty, _ = bench.tick(first, upload_entry(0, 1, EMPTY), 10)
     print(f"{'  an empty loop':38}{0:13,}{empty * 1e3:10.2f}", flush=True)
+    full, filling = bench.tick(first, upload_entry(0, 1, bench.module(FILLING)), 5)
+    print(f"{'  a record that is filled':38}{filling:13,.0f}{full * 1e3:10.2f}", flush=True)
     plain = None
-    for name, (text, units) in {"plain": (machine.ORDINARY["plain"], UNITS), **COSTLY}.items():
+    for name, (text, units, *without) in {"plain": (machine.ORDINARY["plain"], UNITS), **COSTLY}.items():
         module = bench.module(text)
         it = first.replace(f'"limit": {UNITS}'.encode(), f'"limit": {units}'.encode())
         tick, used = bench.tick(it, upload_entry(0, 1, module), 5)
         assert used == 10_000 * units, f"{name}: used {used}"
-        each = (tick - empty) * 1e9 / used
+        rest, paid = (full, filling) if without else (empty, 0)
+        each = (tick - rest) * 1e9 / (used - paid)
         plain = plain or each
         print(f"{name:38}{used:13,.0f}{tick * 1e3:10.2f}{each:10.2f}{each / plain:10.2f}", flush=True)
 
@@ -345,7 +425,7 @@ def cheap(bench):
 
 def uploads(bench):
     """Streams of uploads: the time of a run of one tick beside that without, and of a tick behind it."""
-    print(f"{'stream':38}{'bytes':>13}{'ms':>10}{'ns an entry':>13}{'ns a byte':>11}{'tick us':>9}")
+    print(f"{'stream':38}{'bytes':>13}{'ms':>10}{'ns an entry':>13}{'ns a byte':>11}{'peak MiB':>10}{'tick us':>9}")
     first = of_rooms([[]], players_of(1))
     idle = bench.first_tick(first, b"")
     count = 10_000 if bench.quick else 200_000
@@ -359,11 +439,20 @@ def uploads(bench):
         ("modules of 9,999 functions", upload_entry(0, 1, many_functions()) * 16, 16),
         ("modules of 200,000 globals", upload_entry(0, 1, many_globals()) * 16, 16),
         ("bytes of 0, 1 MiB each", upload_entry(0, 1, bytes(MIB)) * 16, 16),
+        ("no entry", b"", 0),
     ]
     for name, stream, entries in streams:
-        took = bench.first_tick(first, stream) - idle
         tick, _ = bench.tick(first, stream, 1000)
-        print(f"{name:38}{len(stream):13,}{took * 1e3:10.2f}{took * 1e9 / entries:13,.0f}{took * 1e9 / len(stream):11.2f}{tick * 1e6:9.1f}", flush=True)
+        print(f"{uploads_row(bench, first, idle, name, stream, entries)}{tick * 1e6:9.1f}", flush=True)
+    # (256 MiB, of which each entry has a line and is recorded; no longer than the others where it has to be quick)
+    longest = (MIB if bench.quick else 256 * MIB) // 16
+    print(uploads_row(bench, first, idle, "entries of nobody, the longest stream", struct.pack("<QII", 0, 9, 0) * longest, longest), flush=True)
+
+
+def uploads_row(bench, first, idle, name, stream, entries):
+    took = bench.first_tick(first, stream) - idle
+    each, of_byte = (took * 1e9 / count if count else 0.0 for count in (entries, len(stream)))
+    return f"{name:38}{len(stream):13,}{took * 1e3:10.2f}{each:13,.0f}{of_byte:11.2f}{bench.peak():10.1f}"
 
 
 def main():

@@ -383,7 +383,7 @@ def without_memory(first, number, calls, **others):
     desk = Desk(full(first), number)
     code = []
     for name, *arguments in calls:
-        code += compared(desk.answer(name, arguments, bytearray(others.pop("size", 0))), name, *arguments)
+        code += compared(desk.answer(name, arguments, bytearray()), name, *arguments)
     return Script(code, **{"pages": None, **others})
 
 
@@ -703,6 +703,29 @@ def check_many_players():
     play("64 players", first, 3, [Upload(0, 64 - n, Table(calls)) for n in range(64)])
 
 
+def check_full_world():
+    """As many rooms, objects and players as a world may have: player 1 sees all of it, by a creep in each room."""
+    rooms = []
+    for n in range(400):
+        # (each object stands in the room before that of its birth, so that the last ids are not in the last room)
+        home = (n + 1) % 400
+        roads = [thing("road", born(home, 3 + k), 1 + k, 1 + n % 48, timer=1000 - k) for k in range(48)]
+        first, second = (thing("creep", born(home, 1 + k), 1 + k, 49, owner=owner, body=["carry"], energy=n % 51, timer=9) for k, owner in enumerate((1, 2 + n % 63)))
+        rooms.append(room(f"E{n % 20}S{n // 20}", 51, second, *roads, first))
+    first = world(*rooms, players=[player(64 - n, 500, points=n) for n in range(64)])
+    last = max(one["id"] for one in objects_of(first))
+    checks.note("a full world", [] if (len(objects_of(first)), last) == (20_000, born(399, 50)) else ["it is none"])
+    calls = [("rooms",), ("count",), *[("room", at) for at in (0, 1, 398, 399, 400)], *[("room_name", at) for at in (0, 398, 399, 400)]]
+    calls += [("find", id) for id in (1, born(200, 7), born(200, 51), born(398, 50), born(399, 1), last - 1, last, last + 1, born(400, 1))]
+    calls += [("get", at, field) for at in (0, 1, 9_999, 19_998, 19_999, 20_000) for field in range(17)]
+    calls += [("terrain", 399, 49, 49), ("terrain", 399, 48, 48), ("terrain", 400, 1, 1), ("drop", last, 1), ("drop", born(399, 1), 1)]
+    table = Table(calls)
+    steps = play("400 rooms, 20,000 objects and 64 players, of whom one sees all", first, 2, [Upload(0, 64 - n, table) for n in range(64)])
+    # (what the first player gets, by hand)
+    told = struct.unpack_from("<7q", bytes.fromhex(account_of(steps[0].world, 1)["memory"]))
+    checks.note("what the first of 64 players counts", [] if told == (400, 20_000, 0, 1, 398, 399, -10) else [f"{told}"])
+
+
 def check_rows():
     """Rows that are worked out by hand."""
     small = "start tick 0 rooms 1 objects 2 players 1"
@@ -766,6 +789,7 @@ def main():
     check_ends()
     check_fuel()
     check_many_players()
+    check_full_world()
     check_serials()
     checks.finish()
 

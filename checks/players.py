@@ -1,16 +1,19 @@
 #!/usr/bin/env python3
-"""Checks what is in players/ for those who write players: the C header against the definitions of the calls and of the game's
-numbers, the maker of upload streams, and the sample player, which the built program runs over several worlds.
+"""Checks what is in players/ for those who write players: the C header and the tables of docs/players.md against each other and
+against the definitions of the calls and of the game's numbers, the maker of upload streams, and the sample player, which the built
+program runs over several worlds.
 
 It runs behind `rt ci`, which builds crates/world_server/out/world_server; a word names another build of it. What a run prints
 and what it leaves in its journal is compared with a second, slow writing of the sample player, of the tick and of the
 journal's contents in this file. The instructions that a run used are those that it prints. Where clang and wasm-ld are
-installed, the sample player is built anew and held against the same.
+installed, the sample player is built anew and held against the same, and other players in C are built and run.
 """
 
 import json
 import os
 import re
+import resource
+import shlex
 import shutil
 import struct
 import subprocess
@@ -22,6 +25,9 @@ PLAYERS = os.path.join(TOP, "players")
 WORLD = os.path.join(TOP, "worlds/one_player.json")
 UPLOADS = os.path.join(TOP, "worlds/one_player.uploads")
 PROGRAM = os.path.abspath(sys.argv[1]) if len(sys.argv) > 1 else os.path.join(TOP, "crates/world_server/out/world_server")
+
+MIB = 1 << 20
+MOST_STREAM = 256 * MIB
 
 failures = 0
 passed = 0
@@ -102,18 +108,28 @@ def numbers(path, function, value=r"(\d+)"):
     return {snake(name): int(number) for name, number in found}
 
 
-def defined_constants():
-    """Each constant that the definitions have, by its name in the header."""
+def answered_codes():
+    """The codes that some call answers today, by the name in the header."""
     codes = numbers(["crates/game_tables/specs/Codes.antt"], "code_number", r"neg_ℤ \(pos (\d+)\)")
-    wanted = {f"CODE_{name}": -number for name, number in codes.items()}
-    wanted["CODE_OK"] = 0
+    used = re.search(r"code\.Code\.TheVariants\.\{([\w, ]+)\}", text_of("crates/host_calls/specs/Replies.antt"))[1].split(", ")
+    return {"CODE_OK": 0, **{f"CODE_{snake(name)}": -codes[snake(name)] for name in used if name != "Done"}}
+
+
+def defined_constants():
+    """Each constant that the header has to have."""
+    wanted = answered_codes()
     later = re.findall(r"^in_rules (\w+) rules = false", text_of("crates/game_tables/specs/Kinds.antt"), re.M)
     kinds = numbers(["crates/game_tables/specs/Numbers.antt"], "kind_number")
     wanted |= {f"KIND_{name}": number for name, number in kinds.items() if name not in [snake(it) for it in later]}
     wanted |= {f"PART_{name}": number for name, number in numbers(["crates/game_tables/specs/Numbers.antt"], "part_number").items()}
     wanted |= {f"GROUND_{name}": number for name, number in numbers(["crates/room_terrain/specs/Tiles.antt"], "ground_number").items()}
-    bound = re.search(r"^memory_bound = (\d+)", text_of("crates/game_tables/specs/Limits.antt"), re.M)
-    return {**wanted, **defined_fields(), "MEMORY_MOST": int(bound[1])}
+    return {**wanted, **defined_fields(), "MEMORY_MOST": defined_number("game_tables/specs/Limits.antt", "memory_bound")}
+
+
+def defined_number(path, name):
+    """The number of a definition `name = number`, or of one that says `<= number` of something."""
+    found = re.search(rf"^{name}\b[^\n]*(?:= |≤ )(\d+)$", text_of("crates", path), re.M)
+    return int(found[1])
 
 
 def defined_fields():
@@ -127,26 +143,133 @@ def defined_fields():
     return fields
 
 
+def header_constants(header):
+    return {name: int(number) for name, number in re.findall(r"\b([A-Z][A-Z_]+) = (-?\d+)", header)}
+
+
 def check_header():
     header = text_of("players/screeps.h")
     note("the calls of the header", differ("calls", header_calls(header), defined_calls()))
-    constants = {name: int(number) for name, number in re.findall(r"\b([A-Z][A-Z_]+) = (-?\d+)", header)}
-    wanted = defined_constants()
-    for name, number in sorted(constants.items()):
-        note(f"the header's {name}", differ(name, number, wanted.get(name)))
-    # (a code that no call answers yet may be missing, and nothing else)
-    missing = [name for name in wanted if name not in constants and not name.startswith("CODE_")]
-    note("the header has all constants", differ("missing", missing, []))
+    imported = '__attribute__((import_module("screeps"), import_name(#name)))'
+    note("the header imports from `screeps`", None if f"#define SCREEPS_CALL(name) {imported}\n" in header else "SCREEPS_CALL is another macro")
+    constants, wanted = header_constants(header), defined_constants()
+    for name in sorted({*constants, *wanted}):
+        note(f"the header's {name}", differ(name, constants.get(name), wanted.get(name)))
+
+
+# ---- the tables of docs/players.md
+
+
+def table_under(text, head):
+    """The rows of the table with this head, each a list of its cells."""
+    lines = text[text.index(head) :].splitlines()[2:]
+    rows = []
+    for line in lines:
+        if not line.startswith("|"):
+            break
+        rows.append([cell.strip() for cell in line.strip("|").split("|")])
+    return rows
+
+
+def table_types(text):
+    """The types of a call as `(L creep, I amount) -> I` has them."""
+    letters = {"I": "I32", "L": "I64"}
+    params, answer = re.fullmatch(r"`\(([^)]*)\) -> ([IL])`", text).groups()
+    return [letters[it.split()[0]] for it in params.split(",") if it.strip()], letters[answer]
+
+
+def named_numbers(text, prefix, names):
+    """What `1 source, 2 controller` says, as constants, where the names are among these."""
+    return {f"{prefix}_{name.upper()}": int(number) for number, name in re.findall(r"\b(\d+) (\w+)", text) if name.upper() in names}
+
+
+def of_prefix(constants, prefix):
+    return {name: number for name, number in constants.items() if name.startswith(prefix + "_")}
+
+
+def table_fields(rows):
+    """The numbers of the fields by the table, as constants; FIELD_PART is the number of the first part."""
+    fields = {}
+    for numbers_, names, _ in rows:
+        if numbers_.startswith("100 + i"):
+            fields["FIELD_PART"] = 100
+            continue
+        names = [{"number of parts": "parts"}.get(it, it).replace(" ", "_").upper() for it in names.split(", ")]
+        fields |= {f"FIELD_{name}": int(number) for number, name in zip(numbers_.split(", "), names, strict=True)}
+    return fields
+
+
+def whole(text):
+    """A number of the documents, as `10,000`, at the front of a text; a mebibyte is 2^20."""
+    number = int(re.match(r"[\d,]*\d", text)[0].replace(",", ""))
+    return number << 20 if re.match(r"[\d,]+ MiB", text) else number
+
+
+def check_tables():
+    """The tables for those who write players say what the header does, and the limits are those of the definitions."""
+    text, header = text_of("docs/players.md"), text_of("players/screeps.h")
+    constants = header_constants(header)
+    calls = table_under(text, "| Name | Type | Answer |")
+    note("the calls of the table", differ("calls", [(name, *table_types(types)) for name, types, _ in calls], header_calls(header)))
+    codes = table_under(text, "| Code | In `screeps.h` | Says |")
+    note("the codes of the table", differ("codes", {name.strip("`"): int(number) for number, name, _ in codes}, of_prefix(constants, "CODE")))
+    said = {int(it) for row in calls for it in re.findall(r"-\d+", row[2])} | {int(row[2]) for row in table_under(text, "| Order | Check | Else |")} | {0}
+    note("the codes of the calls", differ("codes", said, set(of_prefix(constants, "CODE").values())))
+    fields = table_under(text, "| Number | Field | Is |")
+    note("the fields of the table", differ("fields", table_fields(fields), of_prefix(constants, "FIELD")))
+    cells = {"KIND": next(it[2] for it in fields if it[1] == "kind"), "PART": fields[-1][2], "GROUND": next(it[2] for it in calls if it[0] == "terrain")}
+    for prefix, cell in cells.items():
+        wanted = of_prefix(constants, prefix)
+        names = {name[len(prefix) + 1 :] for name in wanted}
+        note(f"the numbers {prefix} of the table", differ("numbers", named_numbers(cell, prefix, names), wanted))
+    check_limits(text, header)
+
+
+def check_limits(text, header):
+    limits = "wasm_module/specs/Limits.antt"
+    locals_ = re.search(r"→ locals_of m\.types index function ≤ (\d+)", text_of("crates", limits))
+    pages, nesting = (re.search(it, text_of("crates", limits)) for it in (r"bounds\.min ≤ (\d+)\) m\.memories", r"ops_nesting code\.1 ≤ (\d+)"))
+    entries = re.search(r"bounds\.min ≤ (\d+)\) m\.tables", text_of("crates", limits))
+    wanted = [MIB, defined_number(limits, "WithinFunctions"), *(int(it[1]) for it in (nesting, locals_, pages, entries))]
+    rows = table_under(text, "| Limit | Most |")
+    note("the limits of the table", differ("limits", [whole(most) for _, most in rows], wanted))
+    named = {name: defined_number("game_tables/specs/Limits.antt", name) for name in ("limit_bound", "bucket_bound", "unit_size", "memory_bound")}
+    named["entries_bound"] = defined_number("intent_book/specs/Records.antt", "entries_bound")
+    named |= {name: defined_number("wasm_steps/specs/Program.antt", name) for name in ("most_frames", "most_values")}
+    texts = {"docs/players.md": " ".join(text.split()), "players/screeps.h": re.sub(r"[\s*]+", " ", header)}
+    sentences = [
+        ("docs/players.md", "up to {bucket_bound}. In a tick he may use"),
+        ("docs/players.md", "but at most {limit_bound} units. A unit is {unit_size} instructions."),
+        ("docs/players.md", "more than {most_frames} calls within one another, or where locals and operands of all calls together would be more than {most_values}."),
+        ("docs/players.md", "It is up to {memory_bound} bytes of any kind"),
+        ("docs/players.md", "`len` is above {memory_bound} or"),
+        ("docs/players.md", "fewer than {entries_bound} intents are recorded in this tick"),
+        ("players/screeps.h", "{entries_bound} intents are recorded in this tick"),
+        ("players/screeps.h", "in this tick, 0 to {limit_bound}. A unit is {unit_size} instructions."),
+        ("players/screeps.h", "saved before this tick, 0 to {bucket_bound}."),
+    ]
+    for path, sentence in sentences:
+        wanted = sentence.format(**{name: f"{number:,}" for name, number in named.items()})
+        note(f"{path} says its limit", None if wanted in texts[path] else f"{wanted!r} does not stand there")
 
 
 # ---- the maker of upload streams
 
 
-def streamed(words, folder):
+def streamed(words, folder, stdout=subprocess.PIPE, prepare=None):
     """Runs players/upload_stream.py: its exit status, its standard output and its standard error."""
     command = [sys.executable, os.path.join(PLAYERS, "upload_stream.py"), *words]
-    done = subprocess.run(command, cwd=folder, stdin=subprocess.DEVNULL, capture_output=True, timeout=60)
-    return done.returncode, done.stdout, done.stderr.decode()
+    done = subprocess.run(command, cwd=folder, stdin=subprocess.DEVNULL, stdout=stdout, stderr=subprocess.PIPE, preexec_fn=prepare, timeout=60)
+    return done.returncode, done.stdout or b"", done.stderr.decode()
+
+
+def refusal_faults(found, said):
+    """What is wrong of a refusal, which is a status other than 0, no output, and one line that says this."""
+    status, out, err = found
+    faults = [None if status == 1 else f"status {status}", differ("output", out, b"")]
+    if not re.fullmatch(r"upload_stream\.py: [^\n]+\n", err):
+        faults.append(f"no single line that begins with its name: {err[-400:]!r}")
+    return [*faults, None if said in err else f"{said!r} is not in {err[-400:]!r}"]
 
 
 def stream(*entries):
@@ -172,25 +295,90 @@ def check_streams(folder):
         with open(os.path.join(folder, "made"), "rb") as it:
             note(f"the stream of {words} in a file", differ("status", status, 0), differ("file", it.read(), wanted), differ("output", out, b""))
         os.remove(os.path.join(folder, "made"))
-    refused = [
-        (["1:1:one.wasm", "0:1:one.wasm"], "rising tick"),
-        (["0:1:one.wasm", "9:1:one.wasm", "8:1:one.wasm"], "rising tick"),
-        (["0:1"], "TICK:PLAYER:FILE"),
-        (["0:1:"], "TICK:PLAYER:FILE"),
-        (["x:1:one.wasm"], "no number"),
-        (["0::one.wasm"], "no number"),
-        (["0:4294967296:one.wasm"], "above"),
-        (["18446744073709551616:1:one.wasm"], "above"),
-        (["0:1:no such file"], "no such file"),
-    ]
-    for words, said in refused:
-        status, out, err = streamed([*words, "-o", "made"], folder)
-        faults = [None if status not in (0, None) else "status 0", None if said in err else f"said {err!r}", differ("output", out, b"")]
-        note(f"no stream of {words}", *faults, "a file was made" if os.path.exists(os.path.join(folder, "made")) else None)
+    check_refused_streams(folder)
+    check_outputs(folder, stream((0, 1, one)))
     status, out, _ = streamed(["--help"], folder)
     note("the help of upload_stream.py", differ("status", status, 0), None if b"TICK:PLAYER:FILE" in out else f"said {out!r}")
     sample = stream((0, 1, bytes_of("players/dropper.wasm")))
     note("worlds/one_player.uploads is the upload of players/dropper.wasm", differ("stream", bytes_of(UPLOADS), sample))
+
+
+def check_refused_streams(folder):
+    """Words of which there is no stream: each refusal is one line, and no file is made or changed."""
+    for name, length in (("half", MOST_STREAM // 2), ("above", MOST_STREAM - 15), ("whole", MOST_STREAM - 16)):
+        with open(os.path.join(folder, name), "wb") as it:
+            it.truncate(length)
+    os.mkdir(os.path.join(folder, "folder"))
+    refused = [
+        (["1:1:one.wasm", "0:1:one.wasm"], "rising tick"),
+        (["0:1:one.wasm", "9:1:one.wasm", "8:1:one.wasm"], "rising tick"),
+        ([""], "TICK:PLAYER:FILE"),
+        (["0:1"], "TICK:PLAYER:FILE"),
+        (["0:1:"], "TICK:PLAYER:FILE"),
+        (["x:1:one.wasm"], "no number"),
+        (["-1:1:one.wasm"], ""),
+        (["1\n:1:one.wasm"], "no number"),
+        (["²:1:one.wasm"], "no number"),
+        (["0::one.wasm"], "no number"),
+        (["0:4294967296:one.wasm"], "above"),
+        (["18446744073709551616:1:one.wasm"], "above"),
+        (["9" * 5000 + ":1:one.wasm"], "above"),
+        (["0:" + "9" * 5000 + ":one.wasm"], "above"),
+        (["0:1:no such file"], "no such file"),
+        (["0:1:no\nsuch\nfile"], "No such file"),
+        (["0:1:folder"], "Is a directory"),
+        (["0:1:one.wasm", "0:1:folder/none"], "No such file"),
+        (["0:1:above"], "longer than 268435456"),
+        (["0:1:half", "0:1:half"], "longer than 268435456"),
+        (["0:1:whole", "0:1:none"], "longer than 268435456"),
+        (["0:1:/dev/zero"], "longer than 268435456"),
+        (["--none"], "--none"),
+    ]
+    for words, said in refused:
+        name = f"no stream of {[it[:60] for it in words]}"
+        # (what never ends is not read to its end)
+        found = streamed([*words, "-o", "made"], folder, prepare=little_memory)
+        note(name, *refusal_faults(found, said), differ("files", os.listdir(folder).count("made"), 0))
+        with open(os.path.join(folder, "old"), "wb") as it:
+            it.write(b"old")
+        found = streamed([*words, "-o", "old"], folder, prepare=little_memory)
+        with open(os.path.join(folder, "old"), "rb") as it:
+            note(f"{name}, over an old file", *refusal_faults(found, said), differ("file", it.read(), b"old"))
+    found = streamed(["0:1:whole", "-o", "made"], folder)
+    made = os.path.join(folder, "made")
+    with open(made, "rb") as it:
+        note("a stream of 256 MiB", differ("said", found, (0, b"", "")), differ("head", it.read(17), struct.pack("<QII", 0, 1, MOST_STREAM - 16) + b"\0"))
+    note("the length of a stream of 256 MiB", differ("length", os.path.getsize(made), MOST_STREAM))
+    for name in ("half", "above", "whole", "made", "old"):
+        os.remove(os.path.join(folder, name))
+    left = sorted(it for it in os.listdir(folder) if it not in ("one.wasm", "none", "a:b", "folder"))
+    note("nothing else is left by refused streams", differ("files", left, []))
+
+
+def little_memory():
+    resource.setrlimit(resource.RLIMIT_AS, (1 << 30, 1 << 30))
+
+
+def check_outputs(folder, wanted):
+    """Outputs that fail, each with one line."""
+    word = "0:1:one.wasm"
+    for words in ([word], ["--help"]):
+        with open("/dev/full", "wb") as sink:
+            note(f"{words} to a full output", *refusal_faults(streamed(words, folder, stdout=sink), "standard output"))
+        for_reading, for_writing = os.pipe()
+        os.close(for_reading)
+        with open(for_writing, "wb") as sink:
+            note(f"{words} to a pipe that nobody reads", *refusal_faults(streamed(words, folder, stdout=sink), "standard output"))
+        note(f"{words} to a closed output", *refusal_faults(streamed(words, folder, stdout=None, prepare=lambda: os.close(1)), "standard output"))
+    for path, said in (("/dev/full", "No space"), ("folder", "Is a directory"), ("folder/none/made", "No such file"), ("", "no name")):
+        note(f"a stream in {path!r}", *refusal_faults(streamed([word, "-o", path], folder), said))
+    found = streamed([word, "-o", "/dev/stdout"], folder)
+    note("a stream in a file that is no plain one", differ("said", found, (0, wanted, "")))
+    os.symlink("behind", os.path.join(folder, "link"))
+    found = streamed([word, "-o", "link"], folder)
+    with open(os.path.join(folder, "behind"), "rb") as it:
+        note("a stream behind a link", differ("said", found, (0, b"", "")), differ("file", it.read(), wanted))
+    note("the link stays", None if os.path.islink(os.path.join(folder, "link")) else "it is none any more")
 
 
 # ---- the world and its journal, from docs/formats.md
@@ -456,6 +644,50 @@ void loop(void) {
 """
 
 
+# What a compiler turns into calls of memcpy and memset, with the other two called by name.
+MEMORY = """#include "screeps.h"
+void *memmove(void *to, const void *from, __SIZE_TYPE__ length);
+int memcmp(const void *one, const void *other, __SIZE_TYPE__ length);
+struct big { unsigned char bytes[300]; };
+static struct big first, second;
+static unsigned char told[1400];
+void loop(void) {
+    int zeros[200] = {0};
+    unsigned char counted[20];
+    int count = screeps_count();
+    for (int at = 0; at < 300; at++) first.bytes[at] = (unsigned char)(at * 7 + count);
+    second = first;
+    struct big third = second;
+    third.bytes[count] = 0;
+    zeros[count] = 77;
+    for (int at = 0; at < 20; at++) counted[at] = (unsigned char)at;
+    memmove(counted + 3, counted, 10);
+    memmove(counted, counted + 5, 10);
+    for (int at = 0; at < 300; at++) told[at] = second.bytes[at], told[300 + at] = third.bytes[at];
+    for (int at = 0; at < 200; at++) *(int *)(told + 600 + 4 * at) = zeros[at];
+    told[1] = (unsigned char)(2 + memcmp(&first, &second, 300));
+    told[2] = (unsigned char)(2 + memcmp(&third, &second, 300));
+    told[3] = (unsigned char)(2 + memcmp(&second, &third, 300));
+    memmove(told + 4, counted, 20);
+    screeps_memory_write(told, sizeof told);
+}
+"""
+
+
+def memory_told(count):
+    """The memory text that it leaves where so many objects are seen."""
+    first = bytes((at * 7 + count) % 256 for at in range(300))
+    third = bytearray(first)
+    third[count] = 0
+    counted = list(range(20))
+    counted[3:13] = counted[0:10]
+    counted[0:10] = counted[5:15]
+    told = bytearray(first + third + b"".join(struct.pack("<i", 77 if at == count else 0) for at in range(200)))
+    told[1:4] = 2, 1, 3
+    told[4:24] = bytes(counted)
+    return bytes(told)
+
+
 def built(source, module):
     done = subprocess.run([os.path.join(PLAYERS, "build.sh"), source, module], stdin=subprocess.DEVNULL, capture_output=True, timeout=120)
     said = (done.stdout + done.stderr).decode()
@@ -463,24 +695,109 @@ def built(source, module):
     return done.returncode == 0
 
 
+def check_documented(folder, module):
+    """The command that docs/players.md has for clang makes the same module as players/build.sh."""
+    lines = text_of("docs/players.md").splitlines()
+    first = next(at for at, line in enumerate(lines) if line.startswith("    clang "))
+    last = next(at for at in range(first, len(lines)) if not lines[at].endswith("\\"))
+    words = shlex.split(" ".join(line.strip().removesuffix("\\") for line in lines[first : last + 1]))
+    shutil.copytree(PLAYERS, os.path.join(folder, "players"))
+    os.remove(os.path.join(folder, words[-1]))
+    done = subprocess.run(words, cwd=folder, stdin=subprocess.DEVNULL, stdout=subprocess.PIPE, stderr=subprocess.STDOUT, timeout=120)
+    note("the documented command for clang", differ("said", (done.returncode, done.stdout), (0, b"")))
+    if done.returncode == 0:
+        note("the module of the documented command", differ("module", bytes_of(folder, words[-1]), bytes_of(module)))
+
+
+def built_text(folder, name, text):
+    """A player of this text, or None where it isn't built."""
+    source, module = os.path.join(folder, f"{name}.c"), os.path.join(folder, f"{name}.wasm")
+    with open(source, "w", encoding="utf-8") as it:
+        it.write(text)
+    return module if built(source, module) else None
+
+
+def imports_of(module):
+    """The imports of a module: module name, name, and the types of the function."""
+    at, types, imports = 8, [], []
+
+    def number():
+        nonlocal at
+        value, shift = 0, 0
+        while True:
+            byte = module[at]
+            at, value, shift = at + 1, value | (byte & 127) << shift, shift + 7
+            if byte < 128:
+                return value
+
+    def some(count):
+        nonlocal at
+        at += count
+        return module[at - count : at]
+
+    def kinds():
+        return [{0x7F: "I32", 0x7E: "I64"}[it] for it in some(number())]
+
+    while at < len(module):
+        kind, length = some(1)[0], number()
+        end = at + length
+        if kind == 1:
+            for _ in range(number()):
+                some(1)
+                types.append((kinds(), kinds()))
+        if kind == 2:
+            for _ in range(number()):
+                names = [some(number()).decode() for _ in range(2)]
+                some(1)
+                params, results = types[number()]
+                imports.append((*names, params, results))
+        at = end
+    return imports
+
+
 def check_built(folder):
     module = os.path.join(folder, "dropper.wasm")
     if built(os.path.join(PLAYERS, "dropper.c"), module):
         check_accepted("players/dropper.c, built anew, is accepted", module)
         check_player("players/dropper.c, built anew,", bytes_of(module))
-    source, module = os.path.join(folder, "all_calls.c"), os.path.join(folder, "all_calls.wasm")
-    with open(source, "w", encoding="utf-8") as it:
-        it.write(ALL_CALLS)
+        check_documented(folder, module)
     called = set(re.findall(r"screeps_(\w+)\(", ALL_CALLS))
     note("each call of the header is called", differ("calls", called, {name for name, _, _ in defined_calls()}))
-    if built(source, module):
+    module = built_text(folder, "all_calls", ALL_CALLS)
+    if module:
         check_accepted("a player with every call of the header is accepted", module)
+        wanted = [("screeps", name, params, [answer]) for name, params, answer in defined_calls()]
+        note("its imports", differ("imports", sorted(imports_of(bytes_of(module))), sorted(wanted)))
+    module = built_text(folder, "memory", MEMORY)
+    if module:
+        check_accepted("a player that copies structs and fills arrays is accepted", module)
+        check_told("what it copied and filled", bytes_of(module))
+
+
+def check_told(name, module):
+    """The memory text of player 1 after a tick of worlds/one_player.json."""
+    with tempfile.TemporaryDirectory() as folder:
+        with open(os.path.join(folder, "uploads"), "wb") as it:
+            it.write(stream((0, 1, module)))
+        status, out, err = served(["run", WORLD, "uploads", "journal", "--ticks", "1"], folder)
+        used = used_by(out, 1)
+        if (status, err) != (0, "") or len(used) != 1:
+            note(name, f"status {status}, said {err!r}, printed {out[:500]!r}")
+            return
+        with open(os.path.join(folder, "journal"), "rb") as it:
+            journal = it.read()
+    with open(WORLD, encoding="utf-8") as it:
+        world = opened(json.load(it))
+    step(world, 1, used[0], [], memory_told(counted(world)[0]))
+    wanted = frame(tick_content(world, [(1, module)], (1, used[0], [])))
+    note(name, differ("the frame of the tick", journal[len(journal) - len(wanted) :], wanted))
 
 
 def main():
     if not os.path.isfile(PROGRAM):
         sys.exit(f"{os.path.relpath(__file__)}: there is no {os.path.relpath(PROGRAM)}: `rt ci` builds it")
     check_header()
+    check_tables()
     with tempfile.TemporaryDirectory() as folder:
         check_streams(folder)
     check_sample()

@@ -4,8 +4,8 @@ standard error byte for byte, and each file of the folder that it runs in, befor
 
 It runs behind `rt ci`, which builds crates/world_server/out/world_server. What is compared with comes from
 a second, slow writing of the formats and of the tick in bench/worlds.py, or from the documents: each example of
-README.md and docs/ that calls the built program is run, and has to print what stands there. What players do
-is the subject of checks/desk.py.
+README.md and docs/ that calls the built program is run, and has to print what stands there; each that makes an
+upload stream is run too, and has to make the file of the repository. What players do is the subject of checks/desk.py.
 """
 
 import copy
@@ -14,6 +14,7 @@ import os
 import re
 import shutil
 import struct
+import subprocess
 import sys
 import tempfile
 
@@ -255,7 +256,9 @@ def check_faults():
     check("no world file", RUN, lacking, 5, err=fault, after=made)
     check("no upload stream", RUN, {"world.json": bytes_of(SMALL)}, 5, err=fault, after=made)
     check("a folder as the world file", RUN, {**lacking, "world.json": None}, 5, err=fault, after=made)
+    check("a folder as the upload stream", RUN, {**inputs(), "uploads.bin": None}, 5, err=fault, after=made)
     check("a world file that is refused, and no upload stream", RUN, {"world.json": b"x"}, 3, err=refused(3, "World NotJson"), after=made)
+    check("a world file that is refused, and a folder as the upload stream", RUN, {"world.json": b"x", "uploads.bin": None}, 3, err=refused(3, "World NotJson"), after=made)
     with open(FULL, "wb") as sink:
         kept = {"journal.bin": journal(SMALL, 0)}
         check("a full standard output", ticks(7), inputs(), 6, err=refused(6, "WriteFault"), after=kept, stdout=sink)
@@ -469,13 +472,17 @@ def check_modules():
 # ---- the documents
 
 CALL = "crates/world_server/out/world_server "
+MAKER = "players/upload_stream.py "
+
+# How many examples each document has: one that is lost, or that is no longer found, is a fault as one too many is.
+EXAMPLES = {"README.md": 2, "docs/hosting.md": 4, "docs/players.md": 3}
 
 
 def examples_of(text):
-    """The calls of the program in indented blocks, each with the lines that stand behind it in its block."""
+    """The calls of the program and of the maker of upload streams in indented blocks, each with the lines that stand behind it in its block."""
     found, last = [], None
     for line in text.splitlines():
-        if line.startswith("    " + CALL):
+        if line.startswith(("    " + CALL, "    " + MAKER)):
             last = (line.strip(), [])
             found.append(last)
         elif line.startswith("    ") and last:
@@ -485,30 +492,48 @@ def examples_of(text):
     return found
 
 
+def call_faults(call, printed, folder):
+    """What is wrong of an example that calls the program."""
+    for left in os.listdir(folder):
+        if left.endswith(".journal"):
+            os.remove(os.path.join(folder, left))
+    status, out, err = run(call[len(CALL) :].split(), folder)
+    wanted = "".join(f"{line}\n" for line in printed).encode()
+    faults = [] if out + err == wanted else [f"printed {shown(out + err)}, in the document {shown(wanted)}"]
+    # (a fault line says the exit status)
+    said = re.match(rb"fault (\d+) ", err)
+    return faults + ([] if status == (int(said[1]) if said else 0) else [f"exit status {status}"])
+
+
+def maker_faults(call, printed, folder):
+    """What is wrong of an example that makes an upload stream, which stands in the repository too."""
+    words = call.split()
+    made = words[words.index("-o") + 1]
+    os.remove(os.path.join(folder, made))
+    done = subprocess.run([sys.executable, *words], cwd=folder, stdin=subprocess.DEVNULL, stdout=subprocess.PIPE, stderr=subprocess.STDOUT, timeout=60)
+    wanted = "".join(f"{line}\n" for line in printed).encode()
+    faults = [] if (done.returncode, done.stdout) == (0, wanted) else [f"exit status {done.returncode}, printed {shown(done.stdout)}"]
+    if not os.path.isfile(os.path.join(folder, made)):
+        return [*faults, f"{made} is not made"]
+    with open(os.path.join(folder, made), "rb") as one, open(os.path.join(TOP, made), "rb") as other:
+        return faults if one.read() == other.read() else [*faults, f"{made} is not that of the repository"]
+
+
 def check_documents():
     paths = [os.path.join(TOP, "README.md")]
     paths += sorted(os.path.join(TOP, "docs", it) for it in os.listdir(os.path.join(TOP, "docs")) if it.endswith(".md"))
-    count = 0
-    with tempfile.TemporaryDirectory() as folder:
-        for part in ("worlds", "modules", "players"):
-            shutil.copytree(os.path.join(TOP, part), os.path.join(folder, part))
-        for path in paths:
-            with open(path, encoding="utf-8") as it:
-                found = examples_of(it.read())
+    for path in paths:
+        document = os.path.relpath(path, TOP)
+        with open(path, encoding="utf-8") as it:
+            found = examples_of(it.read())
+        with tempfile.TemporaryDirectory() as folder:
+            for part in ("worlds", "modules", "players"):
+                shutil.copytree(os.path.join(TOP, part), os.path.join(folder, part))
             for call, printed in found:
-                count += 1
-                for left in os.listdir(folder):
-                    if left.endswith(".journal"):
-                        os.remove(os.path.join(folder, left))
-                status, out, err = run(call[len(CALL) :].split(), folder)
-                wanted = "".join(f"{line}\n" for line in printed).encode()
-                faults = [] if out + err == wanted else [f"printed {shown(out + err)}, in the document {shown(wanted)}"]
-                # (a fault line says the exit status)
-                said = re.match(rb"fault (\d+) ", err)
-                if status != (int(said[1]) if said else 0):
-                    faults.append(f"exit status {status}")
-                note(f"{os.path.relpath(path, TOP)}: {call}", faults)
-    note("the documents have examples", [] if count >= 3 else [f"only {count} were found"])
+                faults = call_faults(call, printed, folder) if call.startswith(CALL) else maker_faults(call, printed, folder)
+                note(f"{document}: {call}", faults)
+        wanted = EXAMPLES.get(document, 0)
+        note(f"the examples of {document}", [] if len(found) == wanted else [f"{len(found)} were found, and not {wanted}"])
 
 
 def main():

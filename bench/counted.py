@@ -1,0 +1,49 @@
+#!/usr/bin/env python3
+"""Counts the processor's instructions for one of a module: python3 bench/counted.py PROGRAM.
+
+Run it in the repository's top folder once the program is built (README.md), where `wat2wasm` of wabt and valgrind are installed. The loops
+of bench/machine.py run as a player of 5,000,000 instructions in the second tick of a run, and as many instructions in machine_bench, which
+is looked for beside PROGRAM and in crates/machine_bench/out. Counts stay the same from run to run, whatever else the machine does, so that
+small differences show which times hide.
+"""
+
+import os
+import re
+import subprocess
+import sys
+import tempfile
+
+import machine
+from players import FUEL, Bench, machine_at, of_rooms, players_of
+from worlds import upload_entry
+
+
+def counted(folder, command):
+    """The instructions that a command takes."""
+    words = ["valgrind", "--tool=callgrind", f"--callgrind-out-file={folder}/callgrind", *command]
+    done = subprocess.run(words, stdout=subprocess.DEVNULL, stderr=subprocess.PIPE, check=True)
+    return int(re.search(rb"Collected : (\d+)", done.stderr)[1])
+
+
+def main():
+    if len(sys.argv) != 2 or not os.path.isfile(sys.argv[1]):
+        sys.exit("no program: python3 bench/counted.py PROGRAM")
+    program = os.path.abspath(sys.argv[1])
+    other = machine_at(program)
+    if not other:
+        sys.exit("no machine_bench: build it, or place it beside the program")
+    print(f"{'module':10}{'program':>10}{'machine_bench':>15}{'times':>8}")
+    with tempfile.TemporaryDirectory() as folder:
+        bench = Bench(program, folder, True)
+        for name, text in machine.ORDINARY.items():
+            module = bench.module(text)
+            bench.put("world", of_rooms([[]], players_of(1)))
+            bench.put("uploads", upload_entry(0, 1, module))
+            one, two = (counted(folder, bench.command(ticks)) for ticks in (1, 2))
+            idle, whole = (counted(folder, [other, bench.path("it.wasm"), str(fuel)]) for fuel in (0, FUEL))
+            each, alone = (two - one) / FUEL, (whole - idle) / FUEL
+            print(f"{name:10}{each:10.2f}{alone:15.2f}{each / alone:8.3f}", flush=True)
+
+
+if __name__ == "__main__":
+    main()
