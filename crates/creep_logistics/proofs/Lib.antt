@@ -1,3 +1,1 @@
-pub mod Piles
-pub mod Parts
 pub mod Loads

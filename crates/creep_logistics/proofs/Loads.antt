@@ -6,8 +6,8 @@ use Rattle.object_store.specs.Tables.{Table, HasId, find_object, with_object}
 use Rattle.intent_book.specs.declared.intent.Intent.{Intent}
 use Rattle.world_rules.specs.RoomParts.{RoomPart, table_part}
 use Rattle.world_rules.specs.Drops.{can_drop, dropped, dropped_by, dropped_of, fallen, wanted_of}
-use Rattle.creep_logistics.proofs.Piles.{has_the_id}
-use Rattle.creep_logistics.proofs.Parts.{get_table_part, part_replaced}
+use Rattle.falling_energy.proofs.Piles.{has_the_id}
+use Rattle.falling_energy.proofs.Parts.{get_table_part, part_replaced}
 
 -- the creep without what it drops
 abbrev pub emptied : Intent → Object → Object

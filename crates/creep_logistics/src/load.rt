@@ -1,12 +1,11 @@
 // What a creep drops of its load.
-ghost use Rattle.std.specs.Prelude.{◌≡◌, ℕ, ◌⊎◌, ◌≤◌, ◌<◌, ◌+◌, ◌-◌, ◌*◌, ◌^◌, List};
-ghost use Rattle.std.specs.List.{AllByRecursion};
+ghost use Rattle.std.specs.Prelude.{◌≡◌, List};
 ghost use Rattle.room_terrain.specs.declared.terrain.Ground.{Ground};
-ghost use Rattle.object_store.specs.Tables.{HasNoId, IsOnTile};
 ghost use Rattle.world_rules.specs.RoomParts.{table_part};
 ghost use Rattle.world_rules.specs.Drops.{can_drop, dropped, wanted_of};
+ghost use Rattle.room_rules.specs.Calls.{IsReady, Keeps};
 
-use crate::falls::fall;
+use falling_energy::fall;
 use game_tables::Kind;
 use intent_book::Intent;
 use object_store::{Object, RoomTable};
@@ -16,17 +15,9 @@ use object_store::{Object, RoomTable};
 ///
 /// Where no pile is there, one is made under the room's next serial.
 pub fn drop_load(room: &mut RoomTable, intent: &Intent)
-    requires tiles { AllByRecursion IsOnTile room.old.objects }
-    requires serial { room.old.next < 2 ^ 32 - 1 }
-    requires fresh { HasNoId (room.old.index * 2 ^ 32 + room.old.next) room.old.objects }
-    requires spare { 1 ≤ room.old.spare }
+    requires ready { IsReady room.old }
     ensures rule { (grounds : List Ground) → table_part grounds room.new ≡ dropped intent.now (table_part grounds room.old) }
-    ensures used { room.new.next + room.new.spare ≡ room.old.next + room.old.spare }
-    ensures made { room.new.next ≤ room.old.next + 1 }
-    ensures later { room.old.next ≤ room.new.next }
-    ensures tiles { AllByRecursion IsOnTile room.new.objects }
-    ensures index { room.new.index ≡ room.old.index }
-    ensures ids { (id : ℕ) → HasNoId id room.old.objects → HasNoId id room.new.objects ⊎ ((id ≡ room.old.index * 2 ^ 32 + room.old.next) × (room.new.next ≡ room.old.next + 1)) }
+    ensures keeps { Keeps room.old room.new }
 {
     let Some(creep) = room.get(intent.actor).copied() else {
         return;

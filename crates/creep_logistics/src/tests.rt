@@ -4,7 +4,6 @@ ghost use Rattle.object_store.specs.Tables.{IsOnTile};
 ghost use Rattle.world_rules.specs.Drops.{pile_of};
 ghost use Rattle.world_rules.specs.Examples.{creep_with};
 
-use crate::falls::fall;
 use crate::load::drop_load;
 use game_tables::{Action, Body, Kind, Part};
 use intent_book::Intent;
@@ -112,31 +111,6 @@ fn after_drop(
         },
     );
     Ok(state(&room))
-}
-
-// The state after an amount falls on a tile in the row of the pile, which lies at the column 30.
-fn after_fall(alloc: Global, x: u8, amount: u64) -> Result<[u64; 5], AllocError>
-    requires { x ≤ 49 }
-{
-    let mut room = room(alloc, pile(30, 7), creep(20))?;
-    fall(&mut room, x, 30, amount);
-    Ok(state(&room))
-}
-
-#[test]
-fn energy_falls_on_the_pile_of_its_tile(rt: HostRuntime) -> Result<(), Fail> {
-    let alloc = rt.alloc();
-    assert_eq!(rt; after_fall(alloc, 30, 5)?, [12, 20, 0, 4, 1]);
-    assert_eq!(rt;
-        after_fall(alloc, 30, u64::MAX)?,
-        [1_000_000_000, 20, 0, 4, 1]
-    );
-    assert_eq!(rt;
-        after_fall(alloc, 31, u64::MAX)?,
-        [7, 20, 1_000_000_000, 5, 0]
-    );
-    assert_eq!(rt; after_fall(alloc, 31, 0)?, [7, 20, 0, 4, 1]);
-    Ok(())
 }
 
 #[test]

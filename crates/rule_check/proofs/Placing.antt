@@ -13,6 +13,7 @@ use Rattle.object_store.specs.declared.account.Account.{Account}
 use Rattle.world_rules.specs.Kinds.{is_site}
 use Rattle.world_rules.specs.World.{Placed, Frame, Listing, placed, placed_from, world_listed}
 use Rattle.world_rules.specs.Rules.{Stands, IsRoom, IsPlayer}
+use Rattle.world_rules.proofs.Rooms.{frame_listed}
 use Rattle.rule_check.specs.declared.view.RoomView.{RoomView}
 use Rattle.rule_check.specs.Views.{viewed, viewed_room, IsOrdered}
 use Rattle.rule_check.specs.Checks.{IsListed, ids_in, site_owners_of, owners_in}
@@ -26,11 +27,11 @@ the_world rooms accounts = viewed rooms accounts 0
 -- ---- rooms
 
 pub frame_at : (rooms : List RoomView) (accounts : List Account) (i : ℕ) (room : RoomView) → slice_get rooms i ≡ Some room → IsRoom (world_listed (the_world rooms accounts)) i (viewed_room room).frame
-frame_at rooms accounts i room is = mapped_at (λ listed. listed.frame) (map viewed_room rooms) i (viewed_room room) (mapped_at viewed_room rooms i room is)
+frame_at rooms accounts i room is = frame_listed (the_world rooms accounts) i ∙ mapped_at (λ listed. listed.frame) (map viewed_room rooms) i (viewed_room room) (mapped_at viewed_room rooms i room is)
 
 pub room_at : (rooms : List RoomView) (accounts : List Account) (i : ℕ) (frame : Frame) → IsRoom (world_listed (the_world rooms accounts)) i frame → (room : RoomView) × (slice_get rooms i ≡ Some room) × ((viewed_room room).frame ≡ frame)
 room_at rooms accounts i frame is =
-    let listed = mapped_back (λ listed. listed.frame) (map viewed_room rooms) i frame is in
+    let listed = mapped_back (λ listed. listed.frame) (map viewed_room rooms) i frame (sym (frame_listed (the_world rooms accounts) i) ∙ is) in
     let room = mapped_back viewed_room rooms i listed.0 listed.1 in
     (room.0, room.1, ap (λ listed. listed.frame) room.2 ∙ listed.2)
 

@@ -16,8 +16,7 @@ use Rattle.game_tables.specs.Actions.{action_number}
 use Rattle.game_tables.specs.declared.action.Action.TheVariants as actions
 use Rattle.intent_book.specs.declared.intent.Intent.{Intent}
 use Rattle.intent_book.specs.Records.{place_cmp, place_eq}
-use Rattle.world_rules.specs.Intents.{same_entry, last_of_each}
-use Rattle.world_rules.specs.Tick.{comes_before, put_in_order, in_order}
+use Rattle.world_rules.specs.Intents.{same_entry, last_of_each, comes_before, put_in_order, in_order}
 use Rattle.ruled_tick.specs.Standing.{is_drop}
 
 -- ---- keys

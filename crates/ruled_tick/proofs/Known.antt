@@ -17,7 +17,7 @@ use Rattle.world_rules.specs.World.{Placed, placed_from, listed_room, world_of}
 use Rattle.world_rules.specs.Sound.{IsSound}
 use Rattle.world_rules.proofs.Entries.{times}
 use Rattle.world_rules.proofs.Same.{once}
-use Rattle.visible_view.proofs.Moved.{find_moved, strictly}
+use Rattle.object_store.proofs.Moved.{find_moved, strictly}
 use Rattle.ruled_tick.specs.declared.standing.Standing.{Standing}
 use Rattle.ruled_tick.specs.Placing.{placed_at, placed_among}
 use Rattle.ruled_tick.specs.Standing.{id_in, shown, shown_entry, standing_at, StandAsIn}

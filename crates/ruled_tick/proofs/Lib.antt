@@ -1,6 +1,4 @@
 pub mod Objects
-pub mod Kept
-pub mod Dropped
 pub mod Entered
 pub mod Actions
 pub mod Acted

@@ -7,58 +7,76 @@ use Rattle.intent_book.specs.declared.player_run.PlayerRun.{PlayerRun}
 use Rattle.object_store.specs.declared.account.Account.{Account}
 use Rattle.object_store.specs.Stored.{Stored}
 use Rattle.world_rules.specs.World.{World, world_of}
-use Rattle.world_rules.specs.Intents.{counting}
-use Rattle.world_rules.specs.Tick.{account_after, gained, intents_of, next_world, ruled, run_of, sum_for}
+use Rattle.world_rules.specs.Tick.{account_raised, account_after, book, crossed, gained, intents_of, plain_world, next_world, ruled, run_of}
 use Rattle.world_rules.specs.Sound.{IsSound}
 use Rattle.world_rules.proofs.Keys.{keyed, accounts_sorted, entries_of_sorted}
 use Rattle.ruled_tick.specs.Ticked.{accounted, ticked, IsRuledRooms}
 use Rattle.ruled_tick.proofs.Actions.{none_gained}
 use Rattle.ruled_tick.proofs.Steps.{ticked-IsRuled}
-use Rattle.ruled_tick.proofs.Follows.{accounted-player, changed-IsSound, ticked-IsSound}
+use Rattle.ruled_tick.proofs.Follows.{accounted-player, changed-IsSound}
 
 abbrev player_of : Account → ℕ
 player_of account = account.player
 
-accounted_keyed : (gains : List (ℕ × ℕ)) → ((player : ℕ) → sum_for gains player ≡ 0) → (runs : List PlayerRun) → ((account : Account) → (accounted runs account).player ≡ account.player) → (accounts : List Account)
-    → map (λ (e : ℕ × Account). (e.0, account_after (sum_for gains e.0) e.1 (run_of e.0 runs))) (keyed player_of accounts) ≡ keyed player_of (map (accounted runs) accounts)
-accounted_keyed gains none runs same [] = refl
-accounted_keyed gains none runs same (account ∷ accounts) =
-    let rest = accounted_keyed gains none runs same accounts in
-    λ i. (sym (same account) i, account_after (none account.player i) account (run_of account.player runs)) ∷ rest i
+-- accounts that change by the points that their players gained, where no player gains some
+module _ (change : ℕ → ℕ → Account → Account) (same : (account : Account) → (change 0 account.player account).player ≡ account.player) where
+  abbrev pub earned : Account → Account
+  earned account = change 0 account.player account
 
--- what is stored after the rooms of a tick, with the accounts after the runs
-pub accounted-IsNext : (w after_rooms : Stored) (runs : List PlayerRun) → IsSound w → ((account : Account) → (accounted runs account).player ≡ account.player) → after_rooms.accounts ≡ w.accounts → world_of after_rooms ≡ ruled (world_of w) (intents_of runs)
-    → world_of (record after_rooms { accounts = map (accounted runs) w.accounts }) ≡ next_world (world_of w) runs
-accounted-IsNext w after_rooms runs sound same accounts is =
-    let gains : List (ℕ × ℕ) = gained (world_of w) (intents_of runs) in
-    let changed : List (ℕ × Account) → List (ℕ × Account) = λ es. map (λ (e : ℕ × Account). (e.0, account_after (sum_for gains e.0) e.1 (run_of e.0 runs))) es in
-    let after : World → World = λ world. record world { accounts = from_entries (changed (entries world.accounts)) } in
-    let with_accounts : List (ℕ × Account) → World = λ es. record (world_of after_rooms) { accounts = from_entries es } in
-    let none : (player : ℕ) → sum_for gains player ≡ 0 = none_gained (world_of w) (counting (world_of w) (intents_of runs)) in
-    sym (
-    ap after (sym is)
-    ∙ ap (λ (list : List Account). with_accounts (changed (entries (from_entries {R = nat_cmp} (keyed player_of list))))) accounts
-    ∙ ap (λ (es : List (ℕ × Account)). with_accounts (changed es)) (entries_of_sorted (keyed player_of w.accounts) (accounts_sorted w.accounts sound.accounts))
-    ∙ ap with_accounts (accounted_keyed gains none runs same w.accounts)
-    )
+  earned_keyed : (gain : ℕ → ℕ) → ((player : ℕ) → gain player ≡ 0) → (accounts : List Account)
+      → map (λ (e : ℕ × Account). (e.0, change (gain e.0) e.0 e.1)) (keyed player_of accounts) ≡ keyed player_of (map earned accounts)
+  earned_keyed gain none [] = refl
+  earned_keyed gain none (account ∷ accounts) =
+      let rest = earned_keyed gain none accounts in
+      λ i. (sym (same account) i, change (none account.player i) account.player account) ∷ rest i
 
-module _ (w : Stored) (intents : List Intent) (next : Stored) (r : IsRuledRooms w intents next) where
-  -- with the accounts as they were
-  pub plain_is : (after : Stored) → after ≡ record next { accounts = w.accounts } → after ≡ ticked r.acted
-  plain_is after is = is ∙ ap (λ (s : Stored). record s { accounts = w.accounts }) r.next ∙ (λ i. record (ticked r.acted) { accounts = sym r.accounts i })
+  -- the world after the rooms of a tick, with its accounts changed
+  abbrev pub with_earned : World → List Intent → World
+  with_earned world list =
+      let after : World = ruled book crossed world list in
+      record after { accounts = from_entries (map (λ (e : ℕ × Account). (e.0, change (gained book world list e.0) e.0 e.1)) (entries after.accounts)) }
 
-  pub plain-IsRuled : (after : Stored) → after ≡ record next { accounts = w.accounts } → world_of after ≡ ruled (world_of w) intents
-  plain-IsRuled after is = ap world_of (plain_is after is) ∙ ticked-IsRuled w r.acted intents r.sound r.same
+  -- what is stored after the rooms of a tick, with its accounts changed
+  pub earned_is : (w after_rooms : Stored) (list : List Intent) → IsSound w → after_rooms.accounts ≡ w.accounts → world_of after_rooms ≡ ruled book crossed (world_of w) list
+      → world_of (record after_rooms { accounts = map earned w.accounts }) ≡ with_earned (world_of w) list
+  earned_is w after_rooms list sound accounts is =
+      let gain : ℕ → ℕ = gained book (world_of w) list in
+      let changed : List (ℕ × Account) → List (ℕ × Account) = λ es. map (λ (e : ℕ × Account). (e.0, change (gain e.0) e.0 e.1)) es in
+      let after : World → World = λ world. record world { accounts = from_entries (changed (entries world.accounts)) } in
+      let with_accounts : List (ℕ × Account) → World = λ es. record (world_of after_rooms) { accounts = from_entries es } in
+      let none : (player : ℕ) → gain player ≡ 0 = none_gained (world_of w) list in
+      sym (
+      ap after (sym is)
+      ∙ ap (λ (all : List Account). with_accounts (changed (entries (from_entries {R = nat_cmp} (keyed player_of all))))) accounts
+      ∙ ap (λ (es : List (ℕ × Account)). with_accounts (changed es)) (entries_of_sorted (keyed player_of w.accounts) (accounts_sorted w.accounts sound.accounts))
+      ∙ ap with_accounts (earned_keyed gain none w.accounts)
+      )
 
-  pub plain-IsSound : (after : Stored) → after ≡ record next { accounts = w.accounts } → IsSound after
-  plain-IsSound after is = subst IsSound (sym (plain_is after is)) (ticked-IsSound r.acted r.sound)
+-- of two stored worlds the second is the first after its rooms, with these accounts
+module _ (w : Stored) (list : List Intent) (sound : IsSound w) (next : Stored) (r : IsRuledRooms w list next) (f : Account → Account) (same : (account : Account) → (f account).player ≡ account.player)
+    (after : Stored) (is : after ≡ record next { accounts = map f w.accounts }) where
+  pub after_is : after ≡ record (ticked r.acted) { accounts = map f w.accounts }
+  after_is = is ∙ ap (λ (s : Stored). record s { accounts = map f w.accounts }) r.next
+
+  pub after-IsSound : IsSound after
+  after-IsSound = subst IsSound (sym (after_is ∙ (λ i. record (ticked r.acted) { accounts = map f (sym r.accounts i) }))) (changed-IsSound f same r.acted r.sound)
+
+module _ (w : Stored) (intents : List Intent) (sound : IsSound w) (next : Stored) (r : IsRuledRooms w intents next) (after : Stored) (is : after ≡ record next { accounts = map (account_raised 0) w.accounts }) where
+  -- with the points raised
+  pub plain-IsRuled : world_of after ≡ plain_world (world_of w) intents
+  plain-IsRuled =
+      ap world_of (after_is w intents sound next r (account_raised 0) (λ account. refl) after is)
+      ∙ earned_is (λ gain player account. account_raised gain account) (λ account. refl) w (ticked r.acted) intents sound r.accounts (ticked-IsRuled w r.acted intents r.sound r.same)
+
+  pub plain-IsSound : IsSound after
+  plain-IsSound = after-IsSound w intents sound next r (account_raised 0) (λ account. refl) after is
 
 module _ (w : Stored) (runs : List PlayerRun) (sound : IsSound w) (next : Stored) (r : IsRuledRooms w (intents_of runs) next) (after : Stored) (is : after ≡ record next { accounts = map (accounted runs) w.accounts }) where
-  ran_is : after ≡ record (ticked r.acted) { accounts = map (accounted runs) w.accounts }
-  ran_is = is ∙ ap (λ (s : Stored). record s { accounts = map (accounted runs) w.accounts }) r.next
-
+  -- with the accounts after the runs
   pub ran-IsNext : world_of after ≡ next_world (world_of w) runs
-  ran-IsNext = ap world_of ran_is ∙ accounted-IsNext w (ticked r.acted) runs sound (accounted-player runs) r.accounts (ticked-IsRuled w r.acted (intents_of runs) r.sound r.same)
+  ran-IsNext =
+      ap world_of (after_is w (intents_of runs) sound next r (accounted runs) (accounted-player runs) after is)
+      ∙ earned_is (λ gain player account. account_after gain account (run_of player runs)) (accounted-player runs) w (ticked r.acted) (intents_of runs) sound r.accounts (ticked-IsRuled w r.acted (intents_of runs) r.sound r.same)
 
   pub ran-IsSound : IsSound after
-  ran-IsSound = subst IsSound (sym (ran_is ∙ (λ i. record (ticked r.acted) { accounts = map (accounted runs) (sym r.accounts i) }))) (changed-IsSound (accounted runs) (accounted-player runs) r.acted r.sound)
+  ran-IsSound = after-IsSound w (intents_of runs) sound next r (accounted runs) (accounted-player runs) after is

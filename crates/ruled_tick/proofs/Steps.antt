@@ -11,13 +11,16 @@ use Rattle.object_store.specs.Tables.{Table, IsRising}
 use Rattle.object_store.specs.Stored.{Stored, HaveRisingTables}
 use Rattle.world_rules.specs.Kinds.{is_controller}
 use Rattle.world_rules.specs.World.{World, ListedRoom, listed_room, world_listed, world_of}
-use Rattle.world_rules.specs.RoomParts.{RoomPart, in_every_room}
-use Rattle.world_rules.specs.Upkeep.{Sums, unchanged, renewed, decayed, controller_of, is_taken, each, in_turn, upkeep}
-use Rattle.world_rules.specs.Intents.{all_actions, counting}
-use Rattle.world_rules.specs.Tick.{Course, ruled, begun, after_actions, entries_of, sums_of}
+use Rattle.world_rules.specs.RoomParts.{in_every_room}
+use Rattle.world_rules.specs.RuleBook.{Sums, Step}
+use Rattle.world_rules.specs.Steps.{each}
+use Rattle.world_rules.specs.Upkeep.{unchanged, renewed, decayed, controller_of, is_taken, steps}
+use Rattle.world_rules.specs.Intents.{kept, entries_of}
+use Rattle.world_rules.specs.Tick.{Course, acted, movement, sums_in, after_steps, ruled, book, crossed}
 use Rattle.world_rules.specs.Sound.{IsSound}
 use Rattle.world_rules.proofs.Keys.{keyed, table_sorted, entries_of_sorted, values_of}
-use Rattle.world_rules.proofs.Lifting.{AreIdsOnce, SaysSame, stored_part, with_table, in_every_room-stored, unchanged-in_every_room, once_after_all, tables_rise}
+use Rattle.world_rules.proofs.Lifting.{AreIdsOnce, SaysSame, stored_part, with_table, in_every_room-stored, once_after_all, tables_rise}
+use Rattle.world_rules.proofs.Unchanged.{in_every_room-unchanged}
 use Rattle.world_rules.proofs.Each.{each-stored, each_in_table, IsRising-filter_map, times_in-filter_map}
 use Rattle.world_rules.proofs.Same.{once, tables_at}
 use Rattle.ruled_tick.specs.Entered.{entered_all}
@@ -27,39 +30,43 @@ use Rattle.ruled_tick.proofs.Actions.{acted_world}
 
 -- ---- the steps in force
 
-rest_of_steps : (later : List (RoomPart → RoomPart)) (world : World) → in_turn (unchanged ∷ later) world ≡ in_turn later world
-rest_of_steps later world = ap (in_turn later) (unchanged-in_every_room world)
+rest_of_steps : (sums : ℕ → Sums) (later : List Step) (world : World) → after_steps sums (unchanged ∷ later) world ≡ after_steps sums later world
+rest_of_steps sums later world = ap (after_steps sums later) (in_every_room-unchanged (λ room. unchanged (sums room)) (λ room part. refl) world)
 
-upkeep_in_force : (sums : Sums) (world : World) → upkeep sums world ≡ in_every_room decayed (in_every_room renewed world)
+-- the steps in force, in every room
+abbrev upkept_rooms : World → World
+upkept_rooms world = in_every_room (λ room. decayed) (in_every_room (λ room. renewed) world)
+
+upkeep_in_force : (sums : ℕ → Sums) (world : World) → after_steps sums steps world ≡ upkept_rooms world
 upkeep_in_force sums world =
-    let last : List (RoomPart → RoomPart) = renewed ∷ unchanged ∷ decayed ∷ [] in
-    let u = unchanged in
-    rest_of_steps (u ∷ u ∷ u ∷ u ∷ u ∷ u ∷ last) world
-    ∙ rest_of_steps (u ∷ u ∷ u ∷ u ∷ u ∷ last) world
-    ∙ rest_of_steps (u ∷ u ∷ u ∷ u ∷ last) world
-    ∙ rest_of_steps (u ∷ u ∷ u ∷ last) world
-    ∙ rest_of_steps (u ∷ u ∷ last) world
-    ∙ rest_of_steps (u ∷ last) world
-    ∙ rest_of_steps last world
-    ∙ rest_of_steps (decayed ∷ []) (in_every_room renewed world)
+    let u : Step = unchanged in
+    let last : List Step = (λ s. renewed) ∷ u ∷ (λ s. decayed) ∷ [] in
+    rest_of_steps sums (u ∷ u ∷ u ∷ u ∷ u ∷ u ∷ last) world
+    ∙ rest_of_steps sums (u ∷ u ∷ u ∷ u ∷ u ∷ last) world
+    ∙ rest_of_steps sums (u ∷ u ∷ u ∷ u ∷ last) world
+    ∙ rest_of_steps sums (u ∷ u ∷ u ∷ last) world
+    ∙ rest_of_steps sums (u ∷ u ∷ last) world
+    ∙ rest_of_steps sums (u ∷ last) world
+    ∙ rest_of_steps sums last world
+    ∙ rest_of_steps sums ((λ s. decayed) ∷ []) (in_every_room (λ room. renewed) world)
 
 abbrev counted : World → World
 counted after = record after { tick = after.tick + 1 }
 
 -- after the entries a tick renews and decays
-pub ruled_in_force : (world : World) (intents : List Intent) → ruled world intents ≡ counted (in_every_room decayed (in_every_room renewed (entered_all world world (entries_of DropLoad (counting world intents)))))
+pub ruled_in_force : (world : World) (intents : List Intent) → ruled book crossed world intents ≡ counted (upkept_rooms (entered_all world world (entries_of DropLoad (kept world intents))))
 ruled_in_force world intents =
-    let acted : Course = after_actions world all_actions (counting world intents) (begun world) in
-    ap (λ (moved : World). counted (upkeep (sums_of acted) moved)) (unchanged-in_every_room acted.world)
-    ∙ ap counted (upkeep_in_force (sums_of acted) acted.world)
-    ∙ ap (λ (w : World). counted (in_every_room decayed (in_every_room renewed w))) (acted_world world (counting world intents))
+    let after : Course = acted book world intents in
+    ap (λ (moved : World). counted (after_steps (sums_in after) steps moved)) (in_every_room-unchanged (movement book world intents) (λ room part. refl) after.world)
+    ∙ ap counted (upkeep_in_force (sums_in after) after.world)
+    ∙ ap (λ (w : World). counted (upkept_rooms w)) (acted_world world (kept world intents))
 
 -- ---- the same on a stored room
 
-abbrev renewed_table : Table → Table
+abbrev pub renewed_table : Table → Table
 renewed_table table = each_in_table (renewed_to (capacity_among table.objects)) table
 
-abbrev decayed_table : Table → Table
+abbrev pub decayed_table : Table → Table
 decayed_table table = each_in_table decayed_by_kind table
 
 controller_stored : (index : ℕ) (room : Room) → IsRising room.table.objects → controller_of (stored_part index room) ≡ controller_among room.table.objects
@@ -67,7 +74,7 @@ controller_stored index room rise =
     ap (λ (es : List (ℕ × Object)). lists.find (λ (object : Object). is_controller object.kind) (map (λ (e : ℕ × Object). e.1) es)) (entries_of_sorted (keyed (λ (object : Object). object.id) room.table.objects) (table_sorted room.table.objects rise))
     ∙ ap (lists.find (λ (object : Object). is_controller object.kind)) (values_of (λ (object : Object). object.id) room.table.objects)
 
-renewed_stored : (index : ℕ) (room : Room) → IsRising room.table.objects → SaysSame renewed renewed_table index room
+pub renewed_stored : (index : ℕ) (room : Room) → IsRising room.table.objects → SaysSame renewed renewed_table index room
 renewed_stored index room rise =
     let capacity = capacity_among room.table.objects in
     let stands = each-stored (renewed_to capacity) (renewed-id capacity) index room rise in
@@ -76,7 +83,7 @@ renewed_stored index room rise =
       ids = stands.ids;
     }
 
-decayed_stored : (index : ℕ) (room : Room) → IsRising room.table.objects → SaysSame decayed decayed_table index room
+pub decayed_stored : (index : ℕ) (room : Room) → IsRising room.table.objects → SaysSame decayed decayed_table index room
 decayed_stored index room rise = let stands = each-stored decayed_by_kind decayed-id index room rise in record { part = stands.part; ids = stands.ids }
 
 -- ---- the same on a stored world
@@ -84,19 +91,23 @@ decayed_stored index room rise = let stands = each-stored decayed_by_kind decaye
 abbrev with_tables : (Table → Table) → Stored → Stored
 with_tables f stored = record stored { rooms = map (with_table f) stored.rooms }
 
-renewed_world : (stored : Stored) → AreIdsOnce stored.rooms → HaveRisingTables stored.rooms → in_every_room renewed (world_of stored) ≡ world_of (with_tables renewed_table stored)
-renewed_world stored once rise = in_every_room-stored renewed renewed_table stored once (λ index room is. renewed_stored index room (tables_at stored.rooms index room rise is))
+renewed_world : (stored : Stored) → AreIdsOnce stored.rooms → HaveRisingTables stored.rooms → in_every_room (λ room. renewed) (world_of stored) ≡ world_of (with_tables renewed_table stored)
+renewed_world stored once rise = in_every_room-stored (λ room. renewed) renewed_table stored once (λ index room is. renewed_stored index room (tables_at stored.rooms index room rise is))
 
-decayed_world : (stored : Stored) → AreIdsOnce stored.rooms → HaveRisingTables stored.rooms → in_every_room decayed (world_of stored) ≡ world_of (with_tables decayed_table stored)
-decayed_world stored once rise = in_every_room-stored decayed decayed_table stored once (λ index room is. decayed_stored index room (tables_at stored.rooms index room rise is))
+decayed_world : (stored : Stored) → AreIdsOnce stored.rooms → HaveRisingTables stored.rooms → in_every_room (λ room. decayed) (world_of stored) ≡ world_of (with_tables decayed_table stored)
+decayed_world stored once rise = in_every_room-stored (λ room. decayed) decayed_table stored once (λ index room is. decayed_stored index room (tables_at stored.rooms index room rise is))
 
 renewed_once : (rooms : List Room) → AreIdsOnce rooms → AreIdsOnce (map (with_table renewed_table) rooms)
 renewed_once rooms = once_after_all renewed_table rooms (λ id room. let capacity = capacity_among room.table.objects in times_in-filter_map (renewed_to capacity) (renewed-id capacity) id room.table.objects)
 
+-- a table rises after its renewal
+pub renewed_rises : (room : Room) → IsRising room.table.objects → IsRising (with_table renewed_table room).table.objects
+renewed_rises room = let capacity = capacity_among room.table.objects in IsRising-filter_map (renewed_to capacity) (renewed-id capacity) room.table.objects
+
 renewed_rise : (rooms : List Room) → HaveRisingTables rooms → HaveRisingTables (map (with_table renewed_table) rooms)
 renewed_rise rooms = tables_rise renewed_table rooms (λ room. let capacity = capacity_among room.table.objects in IsRising-filter_map (renewed_to capacity) (renewed-id capacity) room.table.objects)
 
-both_in_turn : {A B C : Type 0} (f : A → Option B) (g : B → Option C) (xs : List A) → filter_map g (filter_map f xs) ≡ filter_map (λ x. option_and_then g (f x)) xs
+pub both_in_turn : {A B C : Type 0} (f : A → Option B) (g : B → Option C) (xs : List A) → filter_map g (filter_map f xs) ≡ filter_map (λ x. option_and_then g (f x)) xs
 both_in_turn f g [] = refl
 both_in_turn f g (x ∷ xs) =
     let rest = both_in_turn f g xs in
@@ -114,18 +125,18 @@ listed_same (room ∷ rooms) =
     λ i. record { frame = (listed_room room).frame; objects = objects i } ∷ rest i
 
 -- upkeep of what is stored is that of the world
-ticked_upkeep : (stored : Stored) → IsSound stored → counted (in_every_room decayed (in_every_room renewed (world_of stored))) ≡ world_of (ticked stored)
+ticked_upkeep : (stored : Stored) → IsSound stored → counted (upkept_rooms (world_of stored)) ≡ world_of (ticked stored)
 ticked_upkeep stored sound =
-    let listing : List ListedRoom → World = λ rooms. world_listed (record { tick = stored.tick + 1; rooms = rooms; accounts = stored.accounts }) in
-    ap (λ (world : World). counted (in_every_room decayed world)) (renewed_world stored (once stored sound) sound.tables)
+    let listing : List ListedRoom → World = λ rooms. world_listed (record { rules = 1; tick = stored.tick + 1; rooms = rooms; accounts = stored.accounts }) in
+    ap (λ (world : World). counted (in_every_room (λ room. decayed) world)) (renewed_world stored (once stored sound) sound.tables)
     ∙ ap counted (decayed_world (with_tables renewed_table stored) (renewed_once stored.rooms (once stored sound)) (renewed_rise stored.rooms sound.tables))
     ∙ ap listing (listed_same stored.rooms)
 
 -- a tick of what is stored, as the entries leave it, is a tick of the world
-pub ticked-IsRuled : (stored acted : Stored) (intents : List Intent) → IsSound acted → world_of acted ≡ entered_all (world_of stored) (world_of stored) (entries_of DropLoad (counting (world_of stored) intents))
-    → world_of (ticked acted) ≡ ruled (world_of stored) intents
+pub ticked-IsRuled : (stored acted : Stored) (intents : List Intent) → IsSound acted → world_of acted ≡ entered_all (world_of stored) (world_of stored) (entries_of DropLoad (kept (world_of stored) intents))
+    → world_of (ticked acted) ≡ ruled book crossed (world_of stored) intents
 ticked-IsRuled stored acted intents sound same = sym (
     ruled_in_force (world_of stored) intents
-    ∙ ap (λ (w : World). counted (in_every_room decayed (in_every_room renewed w))) (sym same)
+    ∙ ap (λ (w : World). counted (upkept_rooms w)) (sym same)
     ∙ ticked_upkeep acted sound
     )

@@ -1,19 +1,18 @@
 -- The entries that are ruled are those of dropping among those that count.
-use Rattle.std.proofs.Common.{◌≡◌, ℕ, ◌≤◌, ◌==◌, ◌&&◌, ◌||◌, nat_lt, if◌then◌else◌, Bool, true, false, cond, List, [], ◌∷◌, length, refl, sym, ap, subst, ◌∙◌, arith}
+use Rattle.std.proofs.Common.{◌≡◌, ℕ, ◌≤◌, ◌/◌, ◌==◌, ◌&&◌, ◌||◌, not, nat_lt, if◌then◌else◌, Option, option_map, Bool, true, false, cond, List, [], ◌∷◌, length, refl, sym, ap, ◌∙◌, arith}
 use Rattle.std.specs.List.{AllByRecursion, filter, list_any}
-use Rattle.std.specs.FinMap.{get}
+use Rattle.std.specs.FinMap.{contains_key}
 use Rattle.std.proofs.lemmas.Bool.{both_ways, eqb-true}
 use Rattle.std.proofs.lemmas.List.Sums.{count_by-le-length, length-filter}
-use Rattle.game_tables.specs.Actions.{action_number}
+use Rattle.game_tables.specs.Actions.{action_number, drops}
 use Rattle.game_tables.specs.declared.action.Action.{Action}
 use Rattle.game_tables.specs.declared.action.Action.TheVariants as actions
 use Rattle.intent_book.specs.declared.intent.Intent.{Intent}
-use Rattle.world_rules.specs.World.{World}
-use Rattle.world_rules.specs.Intents.{acts_for, has_actor, fits, same_entry, last_of_each, counting}
-use Rattle.world_rules.specs.Tick.{comes_before, put_in_order, in_order, entries_of}
+use Rattle.world_rules.specs.World.{Placed, World}
+use Rattle.world_rules.specs.Intents.{object_at, names_tile, acts_for, fits, same_entry, last_of_each, dominates, kept, comes_before, put_in_order, in_order, entries_of}
 use Rattle.ruled_tick.specs.declared.standing.Standing.{Standing}
-use Rattle.ruled_tick.specs.Standing.{is_drop, is_wanted, standing_at, StandAsIn}
-use Rattle.ruled_tick.proofs.Dropped.{and_left, and_right}
+use Rattle.ruled_tick.specs.Standing.{is_drop, is_wanted, object_in, StandAsIn}
+use Rattle.room_rules.proofs.Falls.{and_left, and_right}
 use Rattle.ruled_tick.proofs.Actions.{dropping, order_all}
 
 filter_both : (one other : Intent → Bool) (list : List Intent) → filter one (filter other list) ≡ filter (λ intent. one intent && other intent) list
@@ -69,21 +68,57 @@ last_among (intent ∷ later) =
 
 wanted_fits : (world : World) (all : List Standing) → StandAsIn world all → (intent : Intent) → is_wanted all intent ≡ (is_drop intent && fits world intent)
 wanted_fits world all same intent =
-    elim (is_drop intent) as (λ b. is_drop intent ≡ b → (b && nat_lt 0 intent.player && acts_for intent.player intent.action (standing_at intent.actor all)) ≡ (b && fits world intent)) [
-      | true ↦ λ is.
-          let actor : acts_for intent.player intent.action (standing_at intent.actor all) ≡ has_actor world intent.player intent.action intent.actor =
-          ap (acts_for intent.player intent.action) (same intent.actor) ∙ as_drop intent.action (dropping intent.action is) in
-          ap (λ (b : Bool). nat_lt 0 intent.player && b) actor
+    elim (is_drop intent) as (λ b. is_drop intent ≡ b → (b && nat_lt 0 intent.player && acts_for intent (object_in intent.actor all)) ≡ (b && fits world intent)) [
+      | true ↦ λ is. ap (λ (b : Bool). nat_lt 0 intent.player && b) (
+          ap (λ (found : Option Placed). acts_for intent (option_map (λ (placed : Placed). placed.object) found)) (same intent.actor)
+          ∙ sym (ap (λ (a : Action). if names_tile a then contains_key world.rooms (intent.actor / 2500) else acts_for intent (object_at world intent.actor)) (dropping intent.action is)))
       | false ↦ λ other. refl
     ] refl
-  where
-    as_drop : (a : Action) → a ≡ actions.DropLoad → acts_for intent.player a (get world.objects intent.actor) ≡ has_actor world intent.player a intent.actor
-    as_drop a is = subst (λ (b : Action). acts_for intent.player b (get world.objects intent.actor) ≡ has_actor world intent.player b intent.actor) (sym is) refl
 
-pub wanted_is : (world : World) (all : List Standing) → StandAsIn world all → (intents : List Intent) → in_order (last_of_each (filter (is_wanted all) intents)) ≡ entries_of actions.DropLoad (counting world intents)
+-- ---- none drops an entry of dropping
+
+drop_stays : (by : Action) → drops by actions.DropLoad ≡ false
+drop_stays actions.Heal = refl
+drop_stays actions.RangedHeal = refl
+drop_stays actions.Attack = refl
+drop_stays actions.Build = refl
+drop_stays actions.Repair = refl
+drop_stays actions.RangedMassAttack = refl
+drop_stays by = refl
+
+never_dropped : (by over : Action) → (action_number over == action_number actions.DropLoad) ≡ true → drops by over ≡ false
+never_dropped by over is = ap (drops by) (dropping over is) ∙ drop_stays by
+
+none_dominates : (entry : Intent) (list : List Intent) → is_drop entry ≡ true → list_any (λ one. dominates one entry) list ≡ false
+none_dominates entry [] is = refl
+none_dominates entry (one ∷ later) is =
+    ap (λ (b : Bool). ((one.player == entry.player) && (one.actor == entry.actor) && b) || list_any (λ first. dominates first entry) later) (never_dropped one.action entry.action is)
+    ∙ ap (λ (b : Bool). b || list_any (λ first. dominates first entry) later) (and_false ((one.player == entry.player) && (one.actor == entry.actor)))
+    ∙ none_dominates entry later is
+  where
+    and_false : (b : Bool) → (b && false) ≡ false
+    and_false true = refl
+    and_false false = refl
+
+drops_stay : (list among : List Intent) → filter is_drop (filter (λ entry. not (list_any (λ one. dominates one entry) among)) list) ≡ filter is_drop list
+drops_stay list among =
+    filter_both is_drop (λ entry. not (list_any (λ one. dominates one entry) among)) list
+    ∙ filter_alike (λ entry. is_drop entry && not (list_any (λ one. dominates one entry) among)) is_drop (λ entry.
+    elim (is_drop entry) as (λ b. is_drop entry ≡ b → (b && not (list_any (λ one. dominates one entry) among)) ≡ b) [
+      | true ↦ λ is. ap (λ (b : Bool). not b) (none_dominates entry among is)
+      | false ↦ λ is. refl
+    ] refl) list
+
+-- the entries of dropping that count are the last of each that fit
+pub drops_kept : (world : World) (intents : List Intent) → filter is_drop (kept world intents) ≡ last_of_each (filter is_drop (filter (fits world) intents))
+drops_kept world intents =
+    let standing : List Intent = last_of_each (filter (fits world) intents) in
+    drops_stay standing standing ∙ last_among (filter (fits world) intents)
+
+pub wanted_is : (world : World) (all : List Standing) → StandAsIn world all → (intents : List Intent) → in_order (last_of_each (filter (is_wanted all) intents)) ≡ entries_of actions.DropLoad (kept world intents)
 wanted_is world all same intents = ap in_order (
     ap last_of_each (filter_alike (is_wanted all) (λ intent. is_drop intent && fits world intent) (wanted_fits world all same) intents ∙ sym (filter_both is_drop (fits world) intents))
-    ∙ sym (last_among (filter (fits world) intents))
+    ∙ sym (drops_kept world intents)
     )
 
 -- ---- what holds of each, and how many there are
@@ -99,7 +134,7 @@ wanted_drops all [] = tt
 wanted_drops all (intent ∷ later) =
     let rest = wanted_drops all later in
     elim (is_wanted all intent) as (λ b. is_wanted all intent ≡ b → AllByRecursion (λ i. is_drop i ≡ true) (cond b (intent ∷ filter (is_wanted all) later) (filter (is_wanted all) later))) [
-      | true ↦ λ is. (and_left (is_drop intent) (nat_lt 0 intent.player) (and_left (is_drop intent && nat_lt 0 intent.player) (acts_for intent.player intent.action (standing_at intent.actor all)) is), rest)
+      | true ↦ λ is. (and_left (is_drop intent) (nat_lt 0 intent.player) (and_left (is_drop intent && nat_lt 0 intent.player) (acts_for intent (object_in intent.actor all)) is), rest)
       | false ↦ λ is. rest
     ] refl
 
@@ -146,7 +181,7 @@ any_filtered test kept (intent ∷ later) none =
           )
     ] refl none
 
-pub none_counts : (world : World) (intents : List Intent) → list_any is_drop intents ≡ false → entries_of actions.DropLoad (counting world intents) ≡ []
+pub none_counts : (world : World) (intents : List Intent) → list_any is_drop intents ≡ false → entries_of actions.DropLoad (kept world intents) ≡ []
 none_counts world intents none = ap in_order (
-    last_among (filter (fits world) intents) ∙ ap last_of_each (filter_none is_drop (filter (fits world) intents) (any_filtered is_drop (fits world) intents none))
+    drops_kept world intents ∙ ap last_of_each (filter_none is_drop (filter (fits world) intents) (any_filtered is_drop (fits world) intents none))
     )

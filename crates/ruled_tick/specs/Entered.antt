@@ -9,16 +9,15 @@ use Rattle.game_tables.specs.declared.action.Action.TheVariants.{DropLoad}
 use Rattle.intent_book.specs.declared.intent.Intent.{Intent}
 use Rattle.world_rules.specs.World.{World, world_of}
 use Rattle.world_rules.specs.RoomParts.{table_part}
-use Rattle.world_rules.specs.Drops.{dropped}
-use Rattle.world_rules.specs.Intents.{counting}
-use Rattle.world_rules.specs.Tick.{begun, after_entry, entries_of}
+use Rattle.world_rules.specs.Intents.{room_of, kept, entries_of}
+use Rattle.world_rules.specs.Tick.{book, begun, after_rule}
 use Rattle.world_rules.specs.Sound.{IsSound, serials_bound}
 
 -- ---- worlds
 
 -- a world after an entry
 abbrev pub entered : World → World → Intent → World
-entered before world intent = (after_entry before (begun world) intent).world
+entered before world intent = (after_rule book before (begun world) intent (room_of before intent)).world
 
 -- a world after entries, one after the other
 abbrev pub entered_all : World → World → List Intent → World
@@ -41,30 +40,28 @@ table_or room (Some table) = table
 abbrev pub tables_in : Stored → List Table → Stored
 tables_in stored tables = record stored { rooms = with_tables stored.rooms tables }
 
--- No object of the next new id stands in the room, there are serials left, and its objects stand on its tiles.
-pub record IsReady (table : Table) : Type 0 where
-  pub tiles : AllByRecursion IsOnTile table.objects
+-- The table has a serial for an object more, which no object has, and its objects stand on tiles.
+pub record HasSerial (table : Table) : Type 0 where
   pub serial : table.next < 2 ^ 32 - 1
   pub fresh : HasNoId (table.index * 2 ^ 32 + table.next) table.objects
+  pub tiles : AllByRecursion IsOnTile table.objects
 
--- The room was asked for its objects, which rise, and an entry to drop was ruled there.
-pub record IsDropped (intent : Intent) (old new : Table) : Type 0 where
-  pub rule : (grounds : List Ground) → table_part grounds new ≡ dropped intent (table_part grounds old)
+-- The rule of an entry was called on a table, whose objects rise.
+pub record IsRuled (entry : Intent) (old new : Table) : Type 0 where
+  pub rule : (grounds : List Ground) → table_part grounds new ≡ (book.effect entry (table_part grounds old)).part
   pub made : new.next ≤ old.next + 1
-  pub later : old.next ≤ new.next
-  pub tiles : AllByRecursion IsOnTile new.objects
   pub rising : IsRising new.objects
 
-abbrev pub IsDroppedIn : Option Table → ℕ → Intent → List Table → List Table → Type 0
-IsDroppedIn None index intent old new = new ≡ old
-IsDroppedIn (Some table) index intent old new = (after : Table) × (new ≡ slice_set old index after) × IsDropped intent table after
+abbrev pub IsRuledIn : Option Table → ℕ → Intent → List Table → List Table → Type 0
+IsRuledIn None index entry old new = new ≡ old
+IsRuledIn (Some table) index entry old new = (after : Table) × (new ≡ slice_set old index after) × IsRuled entry table after
 
--- An entry to drop was ruled in the room of this index, if there is one.
-abbrev pub IsDroppedAt : Option ℕ → Intent → List Table → List Table → Type 0
-IsDroppedAt None intent old new = new ≡ old
-IsDroppedAt (Some index) intent old new = IsDroppedIn (slice_get old index) index intent old new
+-- An entry was ruled in the room of this index, if there is one.
+abbrev pub IsRuledAt : Option ℕ → Intent → List Table → List Table → Type 0
+IsRuledAt None entry old new = new ≡ old
+IsRuledAt (Some index) entry old new = IsRuledIn (slice_get old index) index entry old new
 
--- These entries to drop were ruled so far.
+-- These entries were ruled so far.
 pub record IsActed (stored : Stored) (done : List Intent) (tables : List Table) : Type 0 where
   pub many : length tables ≡ length stored.rooms
   pub sound : IsSound (tables_in stored tables)
@@ -74,4 +71,4 @@ pub record IsActed (stored : Stored) (done : List Intent) (tables : List Table) 
 -- These are the tables of the rooms after the entries, or none where there are no entries.
 pub record AreEntered (stored : Stored) (intents : List Intent) (tables : List Table) : Type 0 where
   pub sound : IsSound (tables_in stored tables)
-  pub same : world_of (tables_in stored tables) ≡ entered_all (world_of stored) (world_of stored) (entries_of DropLoad (counting (world_of stored) intents))
+  pub same : world_of (tables_in stored tables) ≡ entered_all (world_of stored) (world_of stored) (entries_of DropLoad (kept (world_of stored) intents))

@@ -12,8 +12,8 @@ use Rattle.intent_book.specs.declared.player_run.PlayerRun.{PlayerRun}
 use Rattle.game_tables.specs.declared.action.Action.TheVariants.{DropLoad}
 use Rattle.world_rules.specs.Kinds.{is_controller}
 use Rattle.world_rules.specs.World.{world_of}
-use Rattle.world_rules.specs.Intents.{counting}
-use Rattle.world_rules.specs.Tick.{account_after, entries_of, run_of}
+use Rattle.world_rules.specs.Intents.{kept, entries_of}
+use Rattle.world_rules.specs.Tick.{account_after, run_of}
 use Rattle.world_rules.specs.Sound.{IsSound}
 use Rattle.ruled_tick.specs.Entered.{entered_all}
 use Rattle.world_rules.specs.Upkeep.{is_taken, renewed_as, decayed_as}
@@ -63,5 +63,5 @@ pub record IsRuledRooms (stored : Stored) (intents : List Intent) (after : Store
   pub accounts : acted.accounts ≡ stored.accounts
   pub rooms : length acted.rooms ≡ length stored.rooms
   pub sound : IsSound acted
-  pub same : world_of acted ≡ entered_all (world_of stored) (world_of stored) (entries_of DropLoad (counting (world_of stored) intents))
+  pub same : world_of acted ≡ entered_all (world_of stored) (world_of stored) (entries_of DropLoad (kept (world_of stored) intents))
   pub next : after ≡ record (ticked acted) { accounts = [] }

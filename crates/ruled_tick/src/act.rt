@@ -5,15 +5,20 @@ ghost use Rattle.object_store.specs.Tables.{IsOnTile};
 ghost use Rattle.object_store.proofs.Rising.{Rises};
 ghost use Rattle.game_tables.specs.declared.action.Action.TheVariants as actions;
 ghost use Rattle.world_rules.specs.World.{world_of};
-ghost use Rattle.world_rules.specs.Intents.{counting};
-ghost use Rattle.world_rules.specs.Tick.{entries_of};
+ghost use Rattle.world_rules.specs.Intents.{kept, entries_of};
 ghost use Rattle.world_rules.specs.Sound.{IsSound, HaveSerials};
 ghost use Rattle.ruled_tick.specs.Standing.{id_in, room_at};
-ghost use Rattle.ruled_tick.specs.Entered.{AreEntered, IsActed, IsDropped, IsDroppedAt, IsReady};
+ghost use Rattle.std.specs.Prelude.{List};
+ghost use Rattle.room_terrain.specs.declared.terrain.Ground.{Ground};
+ghost use Rattle.world_rules.specs.RoomParts.{table_part};
+ghost use Rattle.world_rules.specs.Tick.{book};
+ghost use Rattle.room_rules.specs.Calls.{IsReady, Keeps};
+ghost use Rattle.ruled_tick.specs.Entered.{AreEntered, IsActed, IsRuled, IsRuledAt, HasSerial};
 
 use crate::entries::{have_drop, ruled_entries};
 use crate::standing::{Standing, all_standing, room_of};
 use creep_logistics::drop_load;
+use game_tables::Action;
 use intent_book::Intent;
 use object_store::{Object, Room, RoomTable, World};
 use std::alloc::{AllocError, Global};
@@ -45,7 +50,7 @@ fn acted_tables(
     requires sound { IsSound world.now }
     requires few { length intents.now ≤ 2 ^ 18 }
     requires serials { HaveSerials world.now.rooms }
-    ensures { IfOk result (λ tables. IsActed world.now (entries_of actions.DropLoad (counting (world_of world.now) intents.now)) tables.items) }
+    ensures { IfOk result (λ tables. IsActed world.now (entries_of actions.DropLoad (kept (world_of world.now) intents.now)) tables.items) }
 {
     let all = all_standing(alloc, world)?;
     let entries = ruled_entries(alloc, &all, intents)?;
@@ -59,8 +64,8 @@ fn acted_tables(
 // Rules an entry in the room of its actor.
 fn enter(all: &[Standing], tables: &mut Vec<RoomTable>, intent: &Intent) -> Result<(), AllocError>
     requires rising { Rises id_in all.now }
-    requires ready { All IsReady tables.old.items }
-    ensures { OnOk result (IsDroppedAt (room_at intent.now.actor all.now) intent.now tables.old.items tables.new.items) }
+    requires ready { All HasSerial tables.old.items }
+    ensures { OnOk result (IsRuledAt (room_at intent.now.actor all.now) intent.now tables.old.items tables.new.items) }
 {
     match room_of(all, intent.actor) {
         Some(room) => enter_at(tables, room as usize, intent),
@@ -69,24 +74,36 @@ fn enter(all: &[Standing], tables: &mut Vec<RoomTable>, intent: &Intent) -> Resu
 }
 
 fn enter_at(tables: &mut Vec<RoomTable>, index: usize, intent: &Intent) -> Result<(), AllocError>
-    requires ready { All IsReady tables.old.items }
-    ensures { OnOk result (IsDroppedAt (Some index) intent.now tables.old.items tables.new.items) }
+    requires ready { All HasSerial tables.old.items }
+    ensures { OnOk result (IsRuledAt (Some index) intent.now tables.old.items tables.new.items) }
 {
     if index < tables.len() {
-        drop_in(&mut tables[index], intent)?;
+        rule_in(&mut tables[index], intent)?;
     }
     Ok(())
 }
 
-// Rules an entry to drop in a room, with memory for a pile more.
-fn drop_in(table: &mut RoomTable, intent: &Intent) -> Result<(), AllocError>
-    requires ready { IsReady table.old }
-    ensures { OnOk result (IsDropped intent.now table.old table.new) }
+// Rules an entry in a room, with memory for an object more.
+fn rule_in(table: &mut RoomTable, intent: &Intent) -> Result<(), AllocError>
+    requires ready { HasSerial table.old }
+    ensures { OnOk result (IsRuled intent.now table.old table.new) }
 {
     make_room(table)?;
-    drop_load(table, intent);
+    rule(table, intent);
     let _rising = table.objects();
     Ok(())
+}
+
+// The rule of each action. One that is not in force yet does nothing.
+fn rule(table: &mut RoomTable, intent: &Intent)
+    requires ready { IsReady table.old }
+    ensures rule { (grounds : List Ground) → table_part grounds table.new ≡ (book.effect intent.now (table_part grounds table.old)).part }
+    ensures keeps { Keeps table.old table.new }
+{
+    match intent.action {
+        Action::DropLoad => drop_load(table, intent),
+        _ => {}
+    }
 }
 
 // Takes memory for an object more, unless there are too many.
@@ -145,7 +162,7 @@ mod tests {
 
     // What is asked of rooms before an entry.
     fn are_ready(tables: &[RoomTable]) -> bool
-        ensures { IsTrue result → All IsReady tables.now }
+        ensures { IsTrue result → All HasSerial tables.now }
     {
         for table in tables {
             if !is_ready(table) {
@@ -167,7 +184,7 @@ mod tests {
     }
 
     fn is_ready(table: &RoomTable) -> bool
-        ensures { IsTrue result → IsReady table.now }
+        ensures { IsTrue result → HasSerial table.now }
     {
         let fresh = u64::from(table.index()) * (1 << 32) + u64::from(table.next());
         are_on_tiles(table.objects()) && table.next() < u32::MAX && table.get(fresh).is_none()

@@ -2,10 +2,9 @@
 ghost use Rattle.std.specs.Prelude.{◌≡◌, ◌≤◌, All, true, IsTrue, OnOk, IfOk};
 ghost use Rattle.std.specs.List.{filter, list_any};
 ghost use Rattle.object_store.proofs.Rising.{Rises};
-ghost use Rattle.world_rules.specs.Tick.{in_order};
 ghost use Rattle.world_rules.specs.Kinds.{is_creep as is_creep_kind};
-ghost use Rattle.world_rules.specs.Intents.{last_of_each, acts_for as acting};
-ghost use Rattle.ruled_tick.specs.Standing.{id_in, standing_at, is_drop as drops, is_wanted as wanted};
+ghost use Rattle.world_rules.specs.Intents.{last_of_each, in_order, acts_for as acting};
+ghost use Rattle.ruled_tick.specs.Standing.{id_in, object_in, is_drop as drops, is_wanted as wanted};
 
 use crate::standing::{Standing, standing_of};
 use game_tables::{Action, Kind};
@@ -67,7 +66,7 @@ fn is_drop(intent: &Intent) -> bool
 fn acts_for(all: &[Standing], intent: &Intent) -> bool
     requires rising { Rises id_in all.now }
     requires drops { IsTrue (drops intent.now) }
-    ensures { result ≡ acting intent.now.player intent.now.action (standing_at intent.now.actor all.now) }
+    ensures { result ≡ acting intent.now (object_in intent.now.actor all.now) }
 {
     match standing_of(all, intent.actor) {
         Some(standing) => is_creep(standing.object) && standing.object.owner == intent.player,

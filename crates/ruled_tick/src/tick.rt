@@ -1,7 +1,7 @@
 // One tick of the whole world.
 ghost use Rattle.std.specs.Prelude.{◌≡◌, ◌<◌, ◌≤◌, ◌-◌, ◌+◌, ◌^◌, [], map, length, slice_get, option_map, IfOk, OnOk};
 ghost use Rattle.world_rules.specs.World.{world_of};
-ghost use Rattle.world_rules.specs.Tick.{ruled, next_world, intents_of, gained, sum_for, account_after, run_of, bucket_after, points_after};
+ghost use Rattle.world_rules.specs.Tick.{book, plain_world, next_world, intents_of, gained, account_raised, account_after, run_of, bucket_after, points_after};
 ghost use Rattle.world_rules.specs.Sound.{IsSound, HaveSerials};
 ghost use Rattle.ruled_tick.specs.Entered.{with_tables, tables_in, table_or};
 ghost use Rattle.ruled_tick.specs.Ticked.{accounted, ticked, IsRuledRooms, AreInPlace};
@@ -13,7 +13,8 @@ use intent_book::{Intent, PlayerRun};
 use object_store::{Account, Bytes, Room, RoomTable, World};
 use std::alloc::{AllocError as NoMemory, Global};
 
-/// The world after one tick with these entries, with the accounts as they were.
+/// The world after one tick with these entries: each account has the points that its player gained, up
+/// to 2^53, with the bucket and the memory text as they were.
 ///
 /// Of the entries that fit the world the last of each player, action and actor counts. They go by
 /// action, then player, then actor; then upkeep goes through all rooms. An entry in a room that holds
@@ -23,11 +24,11 @@ pub fn tick_plain(alloc: Global, world: &World, intents: &[Intent]) -> Result<Wo
     requires sound { IsSound world.now }
     requires few { length intents.now ≤ 2 ^ 18 }
     requires serials { HaveSerials world.now.rooms }
-    ensures ruled { IfOk result (λ next. world_of next ≡ ruled (world_of world.now) intents.now) }
+    ensures ruled { IfOk result (λ next. world_of next ≡ plain_world (world_of world.now) intents.now) }
     ensures sound { IfOk result IsSound }
 {
     let mut next = ruled_rooms(alloc, world, intents)?;
-    push_accounts(alloc, world, &mut next)?;
+    push_raised(alloc, world, &mut next)?;
     Ok(next)
 }
 
@@ -42,7 +43,7 @@ pub fn next_world(alloc: Global, world: &World, runs: &[PlayerRun]) -> Result<Wo
     requires serials { HaveSerials world.now.rooms }
     ensures next { IfOk result (λ next. world_of next ≡ next_world (world_of world.now) runs.now) }
     ensures sound { IfOk result IsSound }
-    ensures accounts { IfOk result (λ next. next.accounts ≡ map (λ account. account_after (sum_for (gained (world_of world.now) (intents_of runs.now)) account.player) account (run_of account.player runs.now)) world.now.accounts) }
+    ensures accounts { IfOk result (λ next. next.accounts ≡ map (λ account. account_after (gained book (world_of world.now) (intents_of runs.now) account.player) account (run_of account.player runs.now)) world.now.accounts) }
     ensures rooms { IfOk result (λ next. length next.rooms ≡ length world.now.rooms) }
 {
     let intents = all_intents(alloc, runs)?;
@@ -100,15 +101,28 @@ fn table_of<'a>(room: &'a Room, tables: &'a [RoomTable], index: usize) -> &'a Ro
     }
 }
 
-// The accounts as they were.
-fn push_accounts(alloc: Global, world: &World, next: &mut World) -> Result<(), NoMemory>
+// The accounts with the points that their players gained, which are none: no action that gains some is in
+// force.
+fn push_raised(alloc: Global, world: &World, next: &mut World) -> Result<(), NoMemory>
     requires none { next.old.accounts ≡ [] }
-    ensures { OnOk result (next.new ≡ record next.old { accounts = world.now.accounts }) }
+    ensures { OnOk result (next.new ≡ record next.old { accounts = map (account_raised 0) world.now.accounts }) }
 {
     for account in world.account_list() {
-        next.push_account(account.copy(alloc)?)?;
+        next.push_account(raised(alloc, account)?)?;
     }
     Ok(())
+}
+
+fn raised(alloc: Global, account: &Account) -> Result<Account, NoMemory>
+    ensures { IfOk result (λ next. next ≡ account_raised 0 account.now) }
+{
+    Ok(Account {
+        player: account.player,
+        limit: account.limit,
+        bucket: account.bucket,
+        points: account.points.min(most_points()),
+        memory: Bytes::of(alloc, account.memory.as_slice())?,
+    })
 }
 
 // The accounts after the runs.
@@ -311,9 +325,30 @@ mod tests {
         assert_eq!(rt; (accounts[0].player, accounts[0].bucket), (1, 10_000));
         assert_eq!(rt; (accounts[1].player, accounts[1].bucket), (2, 498));
         let mut plain = World::empty(rt.alloc(), 8);
-        push_accounts(rt.alloc(), &world, &mut plain)?;
+        push_raised(rt.alloc(), &world, &mut plain)?;
         assert_eq!(rt; plain.accounts(), 2);
         assert_eq!(rt; plain.account_list()[0].bucket, 9_990);
+        Ok(())
+    }
+
+    #[test]
+    fn points_are_raised_to_their_most(rt: HostRuntime) -> Result<(), Fail> {
+        for (points, raised_to) in [
+            (0, 0),
+            (40, 40),
+            (9_007_199_254_740_992, 9_007_199_254_740_992),
+            (9_007_199_254_740_993, 9_007_199_254_740_992),
+            (18_446_744_073_709_551_615, 9_007_199_254_740_992),
+        ] {
+            let before = Account {
+                points,
+                ..account(rt.alloc(), 3, 20, 30)?
+            };
+            let after = raised(rt.alloc(), &before)?;
+            assert_eq!(rt; (after.player, after.limit, after.bucket), (3, 20, 30));
+            assert_eq!(rt; after.points, raised_to);
+            assert_eq!(rt; after.memory.as_slice(), b"memory".as_slice());
+        }
         Ok(())
     }
 

@@ -24,7 +24,7 @@ use Rattle.world_rules.specs.World.{Placed, World, placed, placed_from, listed_r
 use Rattle.world_rules.proofs.Entries.{Entries}
 use Rattle.visible_view.specs.Gathered.{is_seen, from_each, room_if_seen, sites_at}
 use Rattle.visible_view.specs.Sights.{SeenRoom}
-use Rattle.visible_view.proofs.Moved.{all_from_within}
+use Rattle.object_store.proofs.Moved.{all_from_within}
 use Rattle.visible_view.proofs.Seen.{rises_from_sorted, entry_at, moved, stands, sites_stored, is_site_entry}
 
 -- ---- what may share a tile

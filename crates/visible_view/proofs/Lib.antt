@@ -1,5 +1,4 @@
 pub mod Gathering
-pub mod Moved
 pub mod Seen
 pub mod Told
 pub mod Few

@@ -20,18 +20,19 @@ use Rattle.object_store.specs.declared.object.Object.{Object}
 use Rattle.object_store.specs.declared.world.Room.{Room}
 use Rattle.object_store.specs.Stored.{Stored}
 use Rattle.object_store.proofs.Rising.{Rises, rises-filter}
-use Rattle.world_rules.specs.World.{Placed, ListedRoom, World, placed, placed_from, listed_room, listing_of, world_of}
+use Rattle.world_rules.specs.World.{Placed, World, placed, placed_from, listed_room, listing_of, world_of, framed_from}
+use Rattle.world_rules.proofs.Lifting.{frames_stored}
 use Rattle.world_rules.specs.declared.rule.Rule.TheVariants.{Controllers}
 use Rattle.world_rules.specs.Kinds.{is_controller}
 use Rattle.world_rules.specs.Rules.{Stands}
 use Rattle.world_rules.specs.Sound.{IsSound}
 use Rattle.world_rules.proofs.Entries.{Entries, times, times_cons, no_times}
 use Rattle.world_rules.proofs.Same.{once}
-use Rattle.visible_view.specs.Sights.{SeenRoom, Sight, sight_of, gives_sight, sees_room, seen_rooms_from, seen_objects, site_count}
+use Rattle.visible_view.specs.Sights.{SeenRoom, Sight, sight_of, gives_sight, sees_room, seen_rooms, seen_objects, site_count}
 use Rattle.visible_view.specs.Gathered.{shown_object, shown_room, id_in, is_seen, is_site_of, placed_at, from_each, objects_if_seen, room_if_seen, sites_at, is_controller_at, HaveControllers}
 use Rattle.visible_view.specs.declared.gather.RoomInView.{RoomInView}
 use Rattle.visible_view.specs.declared.gather.ObjectInView.{ObjectInView}
-use Rattle.visible_view.proofs.Moved.{Contains-filter, Contains-from_filter, all_from_within, count_head, passed, failed, find_only, find_moved, same_rising, strictly}
+use Rattle.object_store.proofs.Moved.{Contains-filter, Contains-from_filter, all_from_within, count_head, passed, failed, find_only, find_moved, same_rising, strictly}
 
 -- ---- the entries of a map that is made of entries whose keys stand once
 
@@ -109,12 +110,12 @@ first_told seen player index room rooms tells = ap seen (let place : index ≡ i
 later_told : (seen : ℕ → Bool) (player index : ℕ) (room : Room) (rooms : List Room) → Tells seen player index (room ∷ rooms) → Tells seen player (suc index) rooms
 later_told seen player index room rooms tells k r is = ap seen (let place : suc index + k ≡ index + suc k = omega arith in place) ∙ tells (suc k) r is
 
-rooms_stored : (world : World) (player index : ℕ) (rooms : List Room) → Tells (sees_room world player) player index rooms → seen_rooms_from world player index (map (λ (r : ListedRoom). r.frame) (map listed_room rooms)) ≡ from_each (room_if_seen player) index rooms
+rooms_stored : (world : World) (player index : ℕ) (rooms : List Room) → Tells (sees_room world player) player index rooms → seen_rooms world player (framed_from index (map listed_room rooms)) ≡ from_each (room_if_seen player) index rooms
 rooms_stored world player index [] tells = refl
 rooms_stored world player index (room ∷ rooms) tells =
     let rest = rooms_stored world player (suc index) rooms (later_told (sees_room world player) player index room rooms tells) in
     let shown : SeenRoom = record { index = index; name = room.name; grounds = room.terrain } in
-    ap (λ (b : Bool). if b then shown ∷ seen_rooms_from world player (suc index) (map (λ (r : ListedRoom). r.frame) (map listed_room rooms)) else seen_rooms_from world player (suc index) (map (λ (r : ListedRoom). r.frame) (map listed_room rooms))) (first_told (sees_room world player) player index room rooms tells)
+    ap (λ (b : Bool). if b then shown ∷ seen_rooms world player (framed_from (suc index) (map listed_room rooms)) else seen_rooms world player (framed_from (suc index) (map listed_room rooms))) (first_told (sees_room world player) player index room rooms tells)
     ∙ ap (λ (more : List SeenRoom). if is_seen player room then shown ∷ more else more) rest
     ∙ elim (is_seen player room) as (λ b. (if b then shown ∷ from_each (room_if_seen player) (suc index) rooms else from_each (room_if_seen player) (suc index) rooms) ≡ (if b then shown ∷ [] else []) ++ from_each (room_if_seen player) (suc index) rooms) [ true ↦ refl | false ↦ refl ]
 
@@ -285,8 +286,8 @@ module _ (stored : Stored) (sound : IsSound stored) where
         ∙ sym (list_any-IsPermutation (sees player k) all (entries world.objects) moved)
         ∙ sees_stored player k 0 k stored.rooms room place is
 
-    pub rooms_seen : seen_rooms_from world player 0 world.rooms ≡ from_each (room_if_seen player) 0 stored.rooms
-    rooms_seen = rooms_stored world player 0 stored.rooms told
+    pub rooms_seen : seen_rooms world player (entries world.rooms) ≡ from_each (room_if_seen player) 0 stored.rooms
+    rooms_seen = ap (seen_rooms world player) (frames_stored stored) ∙ rooms_stored world player 0 stored.rooms told
 
     pub sites_seen : site_count world player ≡ sum_by (sites_at player) stored.rooms
     sites_seen = sum_by-IsPermutation (λ e. cond {A = ℕ} (is_site_entry player e) 1 0) all (entries world.objects) moved ∙ sites_stored player 0 stored.rooms
@@ -337,7 +338,7 @@ module _ (stored : Stored) (sound : IsSound stored) where
           → ◌≡◌ {A = Sight} (record { tick = stored.tick; account = account; sites = sites; rooms = map shown_room rooms; objects = map shown_object sorted }) (sight_of world account)
       sight_seen account mine rooms sites rooms_are sites_are =
           let sites_told = sites_are ∙ sym sites_seen ∙ ap (site_count world) (sym mine) in
-          let rooms_told = rooms_are ∙ sym rooms_seen ∙ ap (λ (n : ℕ). seen_rooms_from world n 0 world.rooms) (sym mine) in
+          let rooms_told = rooms_are ∙ sym rooms_seen ∙ ap (λ (n : ℕ). seen_rooms world n (entries world.rooms)) (sym mine) in
           let objects_told = objects_seen ∙ ap (seen_objects world) (sym mine) in
           λ i. record { tick = stored.tick; account = account; sites = sites_told i; rooms = rooms_told i; objects = objects_told i }
 

@@ -14,7 +14,7 @@ use Rattle.visible_view.specs.Fields.{place_of, room_at}
 use Rattle.visible_view.specs.Gathered.{shown_object, shown_room, id_in, index_in}
 use Rattle.visible_view.specs.declared.gather.RoomInView.{RoomInView}
 use Rattle.visible_view.specs.declared.gather.ObjectInView.{ObjectInView}
-use Rattle.visible_view.proofs.Moved.{found_within}
+use Rattle.object_store.proofs.Moved.{found_within}
 
 -- a level past 8 is as one below 7
 extension_capped : (level : ℕ) → extension_room (min level 255) ≡ extension_room level

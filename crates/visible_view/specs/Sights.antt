@@ -1,5 +1,5 @@
 -- What a player sees of the world: the rooms in which a creep, a building or a controller of his stands, with all that is in them.
-use Rattle.std.specs.Prelude.{ℕ, suc, ◌==◌, ◌&&◌, ◌||◌, Bool, if◌then◌else◌, List, [], ◌∷◌, map}
+use Rattle.std.specs.Prelude.{ℕ, ◌==◌, ◌&&◌, ◌||◌, Bool, if◌then◌else◌, List, [], ◌∷◌, map}
 use Rattle.std.specs.List.{count_by, filter, list_any}
 use Rattle.std.specs.FinMap.{entries}
 use Rattle.game_tables.specs.Kinds.{building}
@@ -24,12 +24,12 @@ pub record SeenRoom : Type 0 where
   pub name : RoomName
   pub grounds : List Ground
 
--- the rooms that are seen, of those from an index on
-abbrev pub seen_rooms_from : World → ℕ → ℕ → List Frame → List SeenRoom
-seen_rooms_from world player index [] = []
-seen_rooms_from world player index (frame ∷ frames) =
-    if sees_room world player index then record { index = index; name = frame.name; grounds = frame.grounds } ∷ seen_rooms_from world player (suc index) frames
-    else seen_rooms_from world player (suc index) frames
+-- the rooms that are seen, of these by their index
+abbrev pub seen_rooms : World → ℕ → List (ℕ × Frame) → List SeenRoom
+seen_rooms world player [] = []
+seen_rooms world player (entry ∷ later) =
+    if sees_room world player entry.0 then record { index = entry.0; name = entry.1.name; grounds = entry.1.grounds } ∷ seen_rooms world player later
+    else seen_rooms world player later
 
 -- all objects of the rooms that are seen, in rising id
 abbrev pub seen_objects : World → ℕ → List Placed
@@ -53,6 +53,6 @@ sight_of world account = record {
   tick = world.tick;
   account = account;
   sites = site_count world account.player;
-  rooms = seen_rooms_from world account.player 0 world.rooms;
+  rooms = seen_rooms world account.player (entries world.rooms);
   objects = seen_objects world account.player;
 }

@@ -1,5 +1,5 @@
 -- The rules keep the fields of each object in a file's ranges.
-use Rattle.std.proofs.Common.{◌≡◌, ℕ, ◌-◌, ◌/◌, ◌%◌, ◌^◌, ◌<◌, ◌≤◌, Bool, true, false, cond, List, [], ◌∷◌, length, map, Some, None, refl, ap, ◌∙◌, arith, inl, inr, slice_get}
+use Rattle.std.proofs.Common.{◌≡◌, ℕ, ◌-◌, ◌/◌, ◌%◌, ◌^◌, ◌<◌, ◌≤◌, Bool, true, false, cond, List, [], ◌∷◌, length, map, Some, None, refl, ap, ◌∙◌, arith, inl, inr, slice_get, sym}
 use Rattle.std.specs.List.{AllByRecursion}
 use Rattle.std.specs.Ordering.{nat_cmp}
 use Rattle.std.specs.Cmp.{unsigned_tied, nat_cmp_total}
@@ -13,6 +13,7 @@ use Rattle.game_tables.specs.Limits.{rooms_bound, objects_bound, players_bound}
 use Rattle.object_store.specs.declared.object.Object.{Object}
 use Rattle.object_store.specs.declared.account.Account.{Account}
 use Rattle.object_store.specs.Stored.{Stored}
+use Rattle.world_rules.proofs.Rooms.{frame_listed}
 use Rattle.world_rules.specs.declared.rule.Rule.TheVariants as rules
 use Rattle.world_rules.specs.World.{Frame, ListedRoom, Listing, placed, world_listed, listing_of}
 use Rattle.world_rules.specs.Rules.{KeepsRules, HasNoBirth, IsPlayer}
@@ -74,7 +75,7 @@ id_high listing id few born =
           let frames : List Frame = map (λ (room : ListedRoom). room.frame) listing.rooms in
           let short : length frames ≡ length listing.rooms = length-map listing.rooms (λ (room : ListedRoom). room.frame) in
           let past : slice_get frames (id / 2 ^ 32) ≡ None = slice_get_past frames (id / 2 ^ 32) (omega arith) in
-          absurd (born (inl (λ frame is. absurd (some_none _ frame is past))))
+          absurd (born (inl (λ frame is. absurd (some_none _ frame (sym (frame_listed listing (id / 2 ^ 32)) ∙ is) past))))
     ]
 
 -- ---- players

@@ -97,7 +97,7 @@ accounts_same [] = refl
 accounts_same (account ∷ accounts) = ap (λ (rest : List Account). account ∷ rest) (accounts_same accounts)
 
 abbrev with_accounts : Stored → List Account → Listing
-with_accounts world accounts = record { tick = world.tick; rooms = map listed_room world.rooms; accounts = accounts }
+with_accounts world accounts = record { rules = 1; tick = world.tick; rooms = map listed_room world.rooms; accounts = accounts }
 
 -- what is written for a world that keeps the rules is an accepted file of that world
 pub written-Lists : (world : Stored) → IsWritable world → IsOfTypes world → Lists (written world) (filed_of world)

@@ -146,4 +146,4 @@ pub record SaysWorld (part : Data) (filed : Filed) : Type 0 where
 
 -- the world that it lists
 abbrev pub filed_listing : Filed → Listing
-filed_listing filed = record { tick = filed.tick; rooms = filed.rooms; accounts = map (λ player. player.account) filed.players }
+filed_listing filed = record { rules = 1; tick = filed.tick; rooms = filed.rooms; accounts = map (λ player. player.account) filed.players }

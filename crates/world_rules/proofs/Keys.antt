@@ -18,7 +18,7 @@ use Rattle.object_store.specs.Stored.{AreRising}
 abbrev pub keyed : {X : Type 0} → (X → ℕ) → List X → List (ℕ × X)
 keyed key xs = map (λ x. (key x, x)) xs
 
-joined : (a b : Bool) → T a → T b → T (a && b)
+pub joined : (a b : Bool) → T a → T b → T (a && b)
 joined true b one other = other
 joined false b one other = absurd one
 

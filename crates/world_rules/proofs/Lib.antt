@@ -1,7 +1,13 @@
 pub mod Entries
 pub mod Keys
+pub mod Parts
 pub mod Rooms
 pub mod Lifting
+pub mod Unchanged
 pub mod Each
 pub mod Same
 pub mod Ticks
+pub mod Follows
+pub mod Orderly
+pub mod Listed
+pub mod Roomless

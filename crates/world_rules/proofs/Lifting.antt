@@ -1,11 +1,12 @@
--- What a change of a room's part makes of the world, and of the world as it is stored.
-use Rattle.std.proofs.Common.{◌≡◌, ℕ, zero, suc, ◌+◌, ◌≤◌, ◌==◌, not, if◌then◌else◌, Bool, true, false, cond, List, [], ◌∷◌, ◌++◌, map, length, Option, Some, None, option_map, option_and_then, refl, sym, ap, subst, ◌∙◌, arith, append_assoc}
+-- What a change of a room's part makes of the world as it is stored.
+use Rattle.std.proofs.Common.{◌≡◌, ℕ, zero, suc, ◌+◌, ◌≤◌, ◌==◌, not, if◌then◌else◌, Bool, true, false, cond, T, Less, List, [], ◌∷◌, ◌++◌, map, length, Option, Some, None, option_map, option_and_then, refl, sym, ap, subst, ◌∙◌, arith, append_assoc}
 use Rattle.std.specs.Prelude.{slice_get}
-use Rattle.std.specs.List.{count_by, sum_by, filter, filter_map}
+use Rattle.std.specs.List.{count_by, sum_by}
 use Rattle.std.specs.Option.{option_or}
-use Rattle.std.specs.Ordering.{nat_cmp}
-use Rattle.std.specs.Cmp.{nat_cmp_total}
-use Rattle.std.specs.FinMap.{find, get, from_entries, entries, entries_sorted, get-entries, get-from_entries, same_map, nat_cmp-IsAntisymmetric}
+use Rattle.std.specs.Ordering.{nat_cmp, is_lt}
+use Rattle.std.specs.Cmp.{nat_cmp_is, nat_cmp_total}
+use Rattle.std.specs.FinMap.{find, get, entries, keys, from_entries, get-from_entries, same_map, nat_cmp-IsAntisymmetric, is_sorted}
+use Rattle.std.specs.FinMap.Entries.{below_all}
 use Rattle.std.proofs.lemmas.Bool.{eq-eqb, eqb-true, eqb-false}
 use Rattle.std.proofs.lemmas.Option.{slice_get-map}
 use Rattle.std.proofs.lemmas.List.Sums.{sum_by-cons, sum_by-append}
@@ -14,45 +15,12 @@ use Rattle.object_store.specs.declared.account.Account.{Account}
 use Rattle.object_store.specs.declared.world.Room.{Room}
 use Rattle.object_store.specs.Tables.{Table, IsRising}
 use Rattle.object_store.specs.Stored.{Stored, HaveRisingTables}
-use Rattle.world_rules.specs.World.{Placed, ListedRoom, Frame, World, placed_from, listed_room, world_of}
-use Rattle.world_rules.specs.RoomParts.{RoomPart, standing_in, part_of, placed_in, with_next, with_part, in_frame, in_room, in_rooms_from, in_every_room}
-use Rattle.world_rules.specs.Upkeep.{unchanged}
+use Rattle.world_rules.specs.World.{Placed, Frame, World, placed_from, framed_from, listed_room, world_of, listing_of, ListedRoom}
+use Rattle.world_rules.specs.RoomParts.{RoomPart, objects_in, part_of, with_part, in_frame, in_room, in_rooms, in_every_room}
+use Rattle.world_rules.proofs.Parts.{put_in, only, except, get_objects_in, get_with_room, room_with}
 use Rattle.world_rules.proofs.Entries.{times, times_cons, times_append}
-use Rattle.world_rules.proofs.Keys.{keyed, once_of_sorted, find_append, find_mapped, find_left, left_of, filter_map_alike, filter_as_map}
-use Rattle.world_rules.proofs.Rooms.{tagged, put_in, only, room_find, past_rooms}
-
--- ---- what stands in a part, and in the world with a part
-
--- the object, where it stands in another room
-abbrev pub except : ℕ → Placed → Option Placed
-except index p = cond (not (p.room == index)) (Some p) None
-
-standing_left : (index : ℕ) (e : ℕ × Placed) → standing_in index e ≡ left_of (only index) e
-standing_left index e = elim (e.1.room == index) as (λ b. ◌≡◌ {A = Option (ℕ × Object)} (if b then Some (e.0, e.1.object) else None) (option_map (λ (o : Object). (e.0, o)) (if b then Some e.1.object else None))) [ true ↦ refl | false ↦ refl ]
-
-pub get_part : (world : World) (index : ℕ) (frame : Frame) (id : ℕ) → get (part_of world index frame).objects id ≡ option_and_then (only index) (get world.objects id)
-get_part world index frame id =
-    get-from_entries nat_cmp_total (filter_map (standing_in index) (entries world.objects)) id
-    ∙ ap (find nat_cmp id) (filter_map_alike (standing_in index) (left_of (only index)) (standing_left index) (entries world.objects))
-    ∙ find_left (only index) id (entries world.objects) (once_of_sorted _ (entries_sorted world.objects))
-    ∙ ap (option_and_then (only index)) (sym (get-entries world.objects id))
-
-find_except : (index id : ℕ) (world : World) → find nat_cmp id (filter (λ entry. not (entry.1.room == index)) (entries world.objects)) ≡ option_and_then (except index) (get world.objects id)
-find_except index id world =
-    let test : ℕ × Placed → Bool = λ entry. not (entry.1.room == index) in
-    let alike : (e : ℕ × Placed) → cond (test e) (Some e) None ≡ left_of (except index) e = λ e. elim (test e) as (λ b. cond b (Some e) None ≡ option_map (λ (p : Placed). (e.0, p)) (cond b (Some e.1) None)) [ true ↦ refl | false ↦ refl ] in
-    ap (find nat_cmp id) (filter_as_map test (entries world.objects) ∙ filter_map_alike _ (left_of (except index)) alike (entries world.objects))
-    ∙ find_left (except index) id (entries world.objects) (once_of_sorted _ (entries_sorted world.objects))
-    ∙ ap (option_and_then (except index)) (sym (get-entries world.objects id))
-
-pub get_with_part : (world : World) (index : ℕ) (part : RoomPart) (id : ℕ) → get (with_part world index part).objects id ≡ option_or (put_in index (get part.objects id)) (option_and_then (except index) (get world.objects id))
-get_with_part world index part id =
-    let rest : List (ℕ × Placed) = filter (λ entry. not (entry.1.room == index)) (entries world.objects) in
-    let place : Object → Placed = λ object. record { room = index; object = object } in
-    get-from_entries nat_cmp_total (placed_in index (entries part.objects) ++ rest) id
-    ∙ find_append id (placed_in index (entries part.objects)) rest
-    ∙ ap (λ (found : Option Placed). option_or found (find nat_cmp id rest)) (find_mapped place id (entries part.objects) ∙ ap (put_in index) (sym (get-entries part.objects id)))
-    ∙ ap (option_or (put_in index (get part.objects id))) (find_except index id world)
+use Rattle.world_rules.proofs.Keys.{keyed, joined, entries_of_sorted}
+use Rattle.world_rules.proofs.Rooms.{tagged, room_find, past_rooms, frame_listed}
 
 -- what stands in a room, and what stands elsewhere, is what stands
 pub here_and_elsewhere : (index : ℕ) (found : Option Placed) → option_or (put_in index (option_and_then (only index) found)) (option_and_then (except index) found) ≡ found
@@ -62,30 +30,6 @@ here_and_elsewhere index (Some p) =
       | true ↦ λ is. let same = eqb-true p.room index is in λ i. Some (record { room = sym same i; object = p.object })
       | false ↦ λ is. refl
     ] refl
-
--- ---- a change that changes nothing
-
-next_kept : (index : ℕ) (frames : List Frame) (frame : Frame) → slice_get frames index ≡ Some frame → with_next index frame.next frames ≡ frames
-next_kept index [] frame is = refl
-next_kept zero (first ∷ frames) frame is = let same : first ≡ frame = cc in λ i. record first { next = (sym same i).next } ∷ frames
-next_kept (suc index) (first ∷ frames) frame is = ap (λ rest. first ∷ rest) (next_kept index frames frame is)
-
-unchanged_in : (world : World) (index : ℕ) (found : Option Frame) → slice_get world.rooms index ≡ found → in_frame unchanged world index found ≡ world
-unchanged_in world index None is = refl
-unchanged_in world index (Some frame) is =
-    let rooms = next_kept index world.rooms frame is in
-    let objects = same_map nat_cmp_total nat_cmp-IsAntisymmetric (with_part world index (part_of world index frame)).objects world.objects (λ id.
-    get_with_part world index (part_of world index frame) id
-    ∙ ap (λ (found : Option Object). option_or (put_in index found) (option_and_then (except index) (get world.objects id))) (get_part world index frame id)
-    ∙ here_and_elsewhere index (get world.objects id)) in
-    λ i. record { tick = world.tick; rooms = rooms i; objects = objects i; accounts = world.accounts }
-
-unchanged_from : (index count : ℕ) (world : World) → in_rooms_from unchanged index count world ≡ world
-unchanged_from index zero world = refl
-unchanged_from index (suc count) world = ap (in_rooms_from unchanged (suc index) count) (unchanged_in world index (slice_get world.rooms index) refl) ∙ unchanged_from (suc index) count world
-
-pub unchanged-in_every_room : (world : World) → in_every_room unchanged world ≡ world
-unchanged-in_every_room world = unchanged_from 0 (length world.rooms) world
 
 -- ---- ids in stored rooms
 
@@ -104,10 +48,10 @@ times_tagged id index (object ∷ objects) =
     ∙ ap (λ n. cond (object.id == id) 1 0 + n) (times_tagged id index objects)
     ∙ sym (sum_by-cons (λ (o : Object). cond (o.id == id) 1 0) object objects)
 
-abbrev times_room : ℕ → Room → ℕ
+abbrev pub times_room : ℕ → Room → ℕ
 times_room id room = times_in id room.table.objects
 
-times_rooms : (id index : ℕ) (rooms : List Room) → times id (placed_from index (map listed_room rooms)) ≡ sum_by (times_room id) rooms
+pub times_rooms : (id index : ℕ) (rooms : List Room) → times id (placed_from index (map listed_room rooms)) ≡ sum_by (times_room id) rooms
 times_rooms id index [] = refl
 times_rooms id index (room ∷ rooms) =
     times_append id (map (tagged index) room.table.objects) (placed_from (suc index) (map listed_room rooms))
@@ -206,34 +150,34 @@ same_elsewhere index one other same =
 -- the part of a stored room with this index
 abbrev pub stored_part : ℕ → Room → RoomPart
 stored_part index room = record {
+  rules = 1;
   index = index;
   grounds = room.terrain;
   next = room.table.next;
   objects = from_entries (keyed (λ object. object.id) room.table.objects);
 }
 
-get_stored_part : (index : ℕ) (room : Room) (id : ℕ) → get (stored_part index room).objects id ≡ found_in_table id room
+pub get_stored_part : (index : ℕ) (room : Room) (id : ℕ) → get (stored_part index room).objects id ≡ found_in_table id room
 get_stored_part index room id = get-from_entries nat_cmp_total (keyed (λ (object : Object). object.id) room.table.objects) id
-
-abbrev frames_of : List Room → List Frame
-frames_of rooms = map (λ (room : ListedRoom). room.frame) (map listed_room rooms)
 
 abbrev stored_with : ℕ → List Account → List Room → Stored
 stored_with tick accounts rooms = record { tick = tick; rooms = rooms; accounts = accounts }
 
-room_at : (before : List Room) (room : Room) (after : List Room) → slice_get (before ++ room ∷ after) (length before) ≡ Some room
+pub room_at : (before : List Room) (room : Room) (after : List Room) → slice_get (before ++ room ∷ after) (length before) ≡ Some room
 room_at [] room after = refl
 room_at (first ∷ before) room after = room_at before room after
 
-frame_at : (before : List Room) (room : Room) (after : List Room) → slice_get (frames_of (before ++ room ∷ after)) (length before) ≡ Some (listed_room room).frame
-frame_at [] room after = refl
-frame_at (first ∷ before) room after = frame_at before room after
+abbrev frame_in : Option Room → Option Frame
+frame_in found = option_map (λ (room : Room). (listed_room room).frame) found
 
-next_at : (before : List Room) (room : Room) (table : Table) (after : List Room) → with_next (length before) table.next (frames_of (before ++ room ∷ after)) ≡ frames_of (before ++ record room { table = table } ∷ after)
-next_at [] room table after = refl
-next_at (first ∷ before) room table after = ap (λ rest. (listed_room first).frame ∷ rest) (next_at before room table after)
+framed : (found : Option Room) → option_map (λ (room : ListedRoom). room.frame) (option_map listed_room found) ≡ frame_in found
+framed None = refl
+framed (Some room) = refl
 
-other_rooms : (before : List Room) (room other : Room) (after : List Room) (j : ℕ) → (j ≡ length before → ⊥) → slice_get (before ++ room ∷ after) j ≡ slice_get (before ++ other ∷ after) j
+pub frame_stored : (stored : Stored) (k : ℕ) → get (world_of stored).rooms k ≡ frame_in (slice_get stored.rooms k)
+frame_stored stored k = frame_listed (listing_of stored) k ∙ slice_get-map (λ (room : ListedRoom). room.frame) (map listed_room stored.rooms) k ∙ ap (option_map (λ (room : ListedRoom). room.frame)) (slice_get-map listed_room stored.rooms k) ∙ framed (slice_get stored.rooms k)
+
+pub other_rooms : (before : List Room) (room other : Room) (after : List Room) (j : ℕ) → (j ≡ length before → ⊥) → slice_get (before ++ room ∷ after) j ≡ slice_get (before ++ other ∷ after) j
 other_rooms [] room other after zero apart = absurd (apart refl)
 other_rooms [] room other after (suc j) apart = refl
 other_rooms (first ∷ before) room other after zero apart = refl
@@ -250,15 +194,15 @@ module _ (tick : ℕ) (accounts : List Account) (before : List Room) (room : Roo
   all_found id = get-from_entries nat_cmp_total (placed_from 0 (map listed_room (before ++ room ∷ after))) id
 
   -- a stored room's part
-  pub part_of_stored : part_of world (length before) (listed_room room).frame ≡ stored_part (length before) room
+  pub part_of_stored : part_of (world_of (stored_with tick accounts (before ++ room ∷ after))) (length before) (listed_room room).frame ≡ stored_part (length before) room
   part_of_stored =
-      let objects = same_map nat_cmp_total nat_cmp-IsAntisymmetric (part_of world index (listed_room room).frame).objects (stored_part index room).objects (λ id.
-      get_part world index (listed_room room).frame id
+      let objects = same_map nat_cmp_total nat_cmp-IsAntisymmetric (objects_in world index) (stored_part index room).objects (λ id.
+      get_objects_in world index id
       ∙ ap (option_and_then (only index)) (all_found id)
       ∙ sym (found_in_room (before ++ room ∷ after) index id once)
       ∙ ap (option_and_then (found_in_table id)) (room_at before room after)
       ∙ sym (get_stored_part index room id)) in
-      λ i. record { index = index; grounds = room.terrain; next = room.table.next; objects = objects i }
+      λ i. record { rules = 1; index = index; grounds = room.terrain; next = room.table.next; objects = objects i }
 
   module _ (table : Table) (once_then : AreIdsOnce (before ++ record room { table = table } ∷ after)) where
     abbrev other : Room
@@ -278,20 +222,34 @@ module _ (tick : ℕ) (accounts : List Account) (before : List Room) (room : Roo
         ∙ ap (option_and_then (found_in_table id)) (other_rooms before room other after j apart)
         ∙ found_in_room (before ++ other ∷ after) j id once_then)
 
-    put_back : with_part world index (stored_part index other) ≡ world_of (stored_with tick accounts (before ++ other ∷ after))
+    room_then : (k : ℕ) → get (with_part world index (listed_room room).frame (stored_part index other)).rooms k ≡ get (world_of (stored_with tick accounts (before ++ other ∷ after))).rooms k
+    room_then k =
+        room_with world index (listed_room other).frame (stored_part index other).objects k
+        ∙ elim (k == index) as (λ b. (k == index) ≡ b → cond b (Some (listed_room other).frame) (get world.rooms k) ≡ frame_in (slice_get (before ++ other ∷ after) k)) [
+          | true ↦ λ at. sym (ap (λ n. frame_in (slice_get (before ++ other ∷ after) n)) (eqb-true k index at) ∙ ap frame_in (room_at before other after))
+          | false ↦ λ at. frame_stored (stored_with tick accounts (before ++ room ∷ after)) k ∙ ap frame_in (other_rooms before room other after k (eqb-false k index at))
+        ] refl
+        ∙ sym (frame_stored (stored_with tick accounts (before ++ other ∷ after)) k)
+
+    put_back : with_part world index (listed_room room).frame (stored_part index other) ≡ world_of (stored_with tick accounts (before ++ other ∷ after))
     put_back =
-        let rooms = next_at before room table after in
-        let objects = same_map nat_cmp_total nat_cmp-IsAntisymmetric (with_part world index (stored_part index other)).objects (world_of (stored_with tick accounts (before ++ other ∷ after))).objects (λ id.
-        get_with_part world index (stored_part index other) id
+        let after_change : World = with_part world index (listed_room room).frame (stored_part index other) in
+        let rooms = same_map nat_cmp_total nat_cmp-IsAntisymmetric after_change.rooms (world_of (stored_with tick accounts (before ++ other ∷ after))).rooms room_then in
+        let objects = same_map nat_cmp_total nat_cmp-IsAntisymmetric after_change.objects (world_of (stored_with tick accounts (before ++ other ∷ after))).objects (λ id.
+        get_with_room world index (listed_room other).frame (stored_part index other).objects id
         ∙ (λ i. option_or (put_in index (here_then id i)) (elsewhere_then id i))
         ∙ here_and_elsewhere index (found_then id)
         ∙ sym (get-from_entries nat_cmp_total (placed_from 0 (map listed_room (before ++ other ∷ after))) id)) in
-        λ i. record { tick = tick; rooms = rooms i; objects = objects i; accounts = world.accounts }
+        λ i. record { rules = 1; tick = tick; rooms = rooms i; objects = objects i; accounts = world.accounts }
 
     -- A change of a room's part is a change of its table, where they say the same of this room, and each id stands once before and after.
     pub in_room-stored : (change : RoomPart → RoomPart) → change (stored_part (length before) room) ≡ stored_part (length before) (record room { table = table })
         → in_room change (length before) (world_of (stored_with tick accounts (before ++ room ∷ after))) ≡ world_of (stored_with tick accounts (before ++ record room { table = table } ∷ after))
-    in_room-stored change is = ap (in_frame change world index) (frame_at before room after) ∙ ap (λ (part : RoomPart). with_part world index (change part)) part_of_stored ∙ ap (with_part world index) is ∙ put_back
+    in_room-stored change is =
+        ap (in_frame change index world) (frame_stored (stored_with tick accounts (before ++ room ∷ after)) index ∙ ap frame_in (room_at before room after))
+        ∙ ap (λ (part : RoomPart). with_part world index (listed_room room).frame (change part)) part_of_stored
+        ∙ ap (with_part world index (listed_room room).frame) is
+        ∙ put_back
 
 -- ---- a change of every stored room
 
@@ -307,34 +265,54 @@ length_push : (before : List Room) (room : Room) → length (before ++ room ∷ 
 length_push [] room = refl
 length_push (first ∷ before) room = ap suc (length_push before room)
 
-module _ (change : RoomPart → RoomPart) (f : Table → Table) (tick : ℕ) (accounts : List Account) where
+-- the indices of so many rooms from one on
+abbrev indices_from : ℕ → List Room → List ℕ
+indices_from first [] = []
+indices_from first (room ∷ rooms) = first ∷ indices_from (suc first) rooms
+
+below_framed : (least index : ℕ) (rooms : List Room) → suc least ≤ index → T (below_all nat_cmp least (framed_from index (map listed_room rooms)))
+below_framed least index [] less = tt
+below_framed least index (room ∷ rooms) less = joined _ _ (subst (λ r. T (is_lt r)) (nat_cmp_is least index Less less) tt) (below_framed least (suc index) rooms (omega arith))
+
+framed_sorted : (index : ℕ) (rooms : List Room) → T (is_sorted nat_cmp (framed_from index (map listed_room rooms)))
+framed_sorted index [] = tt
+framed_sorted index (room ∷ rooms) = joined _ _ (below_framed index (suc index) rooms (omega arith)) (framed_sorted (suc index) rooms)
+
+framed_indices : (index : ℕ) (rooms : List Room) → map (λ (e : ℕ × Frame). e.0) (framed_from index (map listed_room rooms)) ≡ indices_from index rooms
+framed_indices first [] = refl
+framed_indices first (room ∷ rooms) = ap (λ rest. first ∷ rest) (framed_indices (suc first) rooms)
+
+-- the frames of a stored world, by their index
+pub frames_stored : (stored : Stored) → entries (world_of stored).rooms ≡ framed_from 0 (map listed_room stored.rooms)
+frames_stored stored = entries_of_sorted (framed_from 0 (map listed_room stored.rooms)) (framed_sorted 0 stored.rooms)
+
+keys_stored : (stored : Stored) → keys (world_of stored).rooms ≡ indices_from 0 stored.rooms
+keys_stored stored = ap (map (λ (e : ℕ × Frame). e.0)) (entries_of_sorted (framed_from 0 (map listed_room stored.rooms)) (framed_sorted 0 stored.rooms)) ∙ framed_indices 0 stored.rooms
+
+module _ (change : ℕ → RoomPart → RoomPart) (f : Table → Table) (tick : ℕ) (accounts : List Account) where
   abbrev world_with : List Room → World
   world_with rooms = world_of (stored_with tick accounts rooms)
 
-  changed_from : (before rest : List Room) → AreIdsOnce (before ++ rest) → ((j : ℕ) (room : Room) → slice_get rest j ≡ Some room → SaysSame change f (length before + j) room)
-      → in_rooms_from change (length before) (length rest) (world_with (before ++ rest)) ≡ world_with (before ++ map (with_table f) rest)
+  changed_from : (before rest : List Room) → AreIdsOnce (before ++ rest) → ((j : ℕ) (room : Room) → slice_get rest j ≡ Some room → SaysSame (change (length before + j)) f (length before + j) room)
+      → in_rooms change (indices_from (length before) rest) (world_with (before ++ rest)) ≡ world_with (before ++ map (with_table f) rest)
   changed_from before [] once says = refl
   changed_from before (room ∷ rest) once says =
-      let here : SaysSame change f (length before) room = subst (λ (k : ℕ). SaysSame change f k room) (omega arith) (says 0 room refl) in
+      let here : SaysSame (change (length before)) f (length before) room = subst (λ (k : ℕ). SaysSame (change k) f k room) (omega arith) (says 0 room refl) in
       let after : AreIdsOnce (before ++ with_table f room ∷ rest) = once_after before room (with_table f room) rest once here.ids in
       let push : before ++ with_table f room ∷ rest ≡ (before ++ with_table f room ∷ []) ++ rest = sym (append_assoc before (with_table f room ∷ []) rest) in
       let count = length_push before (with_table f room) in
-      ap (in_rooms_from change (suc (length before)) (length rest)) (in_room-stored tick accounts before room rest once (f room.table) after change here.part)
-      ∙ (λ i. in_rooms_from change (sym count i) (length rest) (world_with (push i)))
-      ∙ changed_from (before ++ with_table f room ∷ []) rest (subst AreIdsOnce push after) (λ j one is. subst (λ (k : ℕ). SaysSame change f k one) (omega (arith, count)) (says (suc j) one is))
+      ap (in_rooms change (indices_from (suc (length before)) rest)) (in_room-stored tick accounts before room rest once (f room.table) after (change (length before)) here.part)
+      ∙ (λ i. in_rooms change (indices_from (sym count i) rest) (world_with (push i)))
+      ∙ changed_from (before ++ with_table f room ∷ []) rest (subst AreIdsOnce push after) (λ j one is. subst (λ (k : ℕ). SaysSame (change k) f k one) (omega (arith, count)) (says (suc j) one is))
       ∙ ap world_with (append_assoc before (with_table f room ∷ []) (map (with_table f) rest))
 
-length_frames : (rooms : List Room) → length (frames_of rooms) ≡ length rooms
-length_frames [] = refl
-length_frames (room ∷ rooms) = ap suc (length_frames rooms)
-
 -- A change of every room's part is a change of every table.
-pub in_every_room-stored : (change : RoomPart → RoomPart) (f : Table → Table) (stored : Stored) → AreIdsOnce stored.rooms
-    → ((index : ℕ) (room : Room) → slice_get stored.rooms index ≡ Some room → SaysSame change f index room)
+pub in_every_room-stored : (change : ℕ → RoomPart → RoomPart) (f : Table → Table) (stored : Stored) → AreIdsOnce stored.rooms
+    → ((index : ℕ) (room : Room) → slice_get stored.rooms index ≡ Some room → SaysSame (change index) f index room)
     → in_every_room change (world_of stored) ≡ world_of (record stored { rooms = map (with_table f) stored.rooms })
 in_every_room-stored change f stored once says =
-    ap (λ (count : ℕ). in_rooms_from change 0 count (world_of stored)) (length_frames stored.rooms)
-    ∙ changed_from change f stored.tick stored.accounts [] stored.rooms once (λ j room is. subst (λ (k : ℕ). SaysSame change f k room) (omega arith) (says j room is))
+    ap (λ (ks : List ℕ). in_rooms change ks (world_of stored)) (keys_stored stored)
+    ∙ changed_from change f stored.tick stored.accounts [] stored.rooms once (λ j room is. subst (λ (k : ℕ). SaysSame (change k) f k room) (omega arith) (says j room is))
 
 module _ (f : Table → Table) (rooms : List Room) (fewer : (id : ℕ) (room : Room) → times_in id (f room.table).objects ≤ times_in id room.table.objects) where
   -- where no id is new in any table, none stands more often

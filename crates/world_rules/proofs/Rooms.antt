@@ -1,24 +1,19 @@
 -- The objects of one room among those of all.
-use Rattle.std.proofs.Common.{◌≡◌, ℕ, zero, suc, ◌+◌, ◌<◌, ◌≤◌, ◌==◌, if◌then◌else◌, Bool, true, false, cond, List, [], ◌∷◌, ◌++◌, map, Option, Some, None, option_map, option_and_then, refl, sym, ap, subst, ◌∙◌, arith}
+use Rattle.std.proofs.Common.{◌≡◌, ℕ, zero, suc, ◌+◌, ◌<◌, ◌≤◌, if◌then◌else◌, Bool, true, false, cond, List, [], ◌∷◌, ◌++◌, map, Option, Some, None, option_and_then, refl, sym, ap, subst, ◌∙◌, arith}
 use Rattle.std.specs.Prelude.{slice_get}
 use Rattle.std.specs.Option.{option_or}
 use Rattle.std.specs.Ordering.{nat_cmp, eq_by_cmp}
-use Rattle.std.specs.FinMap.{find}
+use Rattle.std.specs.Cmp.{nat_cmp_total, unsigned_tied}
+use Rattle.std.specs.FinMap.{find, get, get-from_entries}
 use Rattle.std.proofs.lemmas.Bool.{eq-eqb, ne_eqb}
 use Rattle.object_store.specs.declared.object.Object.{Object}
-use Rattle.world_rules.specs.World.{Placed, ListedRoom, placed_from}
+use Rattle.world_rules.specs.World.{Placed, ListedRoom, Listing, placed_from, framed_from, world_listed}
+use Rattle.world_rules.proofs.Parts.{put_in, only}
 use Rattle.world_rules.proofs.Keys.{keyed, find_append}
 use Rattle.world_rules.proofs.Entries.{times, times_append, some_times, no_times}
 
 abbrev pub tagged : ℕ → Object → ℕ × Placed
 tagged index object = (object.id, record { room = index; object = object })
-
-abbrev pub put_in : ℕ → Option Object → Option Placed
-put_in index found = option_map (λ object. record { room = index; object = object }) found
-
--- the object, where it stands in the room
-abbrev pub only : ℕ → Placed → Option Object
-only index p = if p.room == index then Some p.object else None
 
 find_tagged : (q index : ℕ) (objects : List Object) → find nat_cmp q (map (tagged index) objects) ≡ put_in index (find nat_cmp q (keyed (λ object. object.id) objects))
 find_tagged q index [] = refl
@@ -72,3 +67,16 @@ past_rooms k index zero (room ∷ rooms) q at is = absurd (cc)
 past_rooms k index (suc j) (room ∷ rooms) q at is =
     ap (option_and_then (only k)) (found_in q index room rooms)
     ∙ other_room k index (find nat_cmp q (keyed (λ object. object.id) room.objects)) _ (λ same. omega arith) (past_rooms k (suc index) j rooms q (omega arith) is)
+
+-- ---- the frames of listed rooms
+
+frame_from : (q index k : ℕ) (rooms : List ListedRoom) → q ≡ index + k → find nat_cmp q (framed_from index rooms) ≡ slice_get (map (λ (room : ListedRoom). room.frame) rooms) k
+frame_from q index k [] at = refl
+frame_from q index zero (room ∷ rooms) at = ap (λ (b : Bool). cond b (Some room.frame) (find nat_cmp q (framed_from (suc index) rooms))) (unsigned_tied q index ∙ eq-eqb q index (omega arith))
+frame_from q index (suc k) (room ∷ rooms) at =
+    ap (λ (b : Bool). cond b (Some room.frame) (find nat_cmp q (framed_from (suc index) rooms))) (unsigned_tied q index ∙ ne_eqb q index (λ same. omega arith))
+    ∙ frame_from q (suc index) k rooms (omega arith)
+
+-- a listed world has the frame of each listed room under its place
+pub frame_listed : (listing : Listing) (k : ℕ) → get (world_listed listing).rooms k ≡ slice_get (map (λ (room : ListedRoom). room.frame) listing.rooms) k
+frame_listed listing k = get-from_entries nat_cmp_total (framed_from 0 listing.rooms) k ∙ frame_from k 0 k listing.rooms (omega arith)

@@ -1,6 +1,7 @@
 -- Two sound stored worlds that store the same world are equal.
 use Rattle.std.proofs.Common.{◌≡◌, ℕ, zero, suc, ◌≤◌, List, [], ◌∷◌, map, Option, Some, None, option_map, option_and_then, refl, sym, ap, subst, ◌∙◌, arith}
 use Rattle.std.specs.Prelude.{slice_get}
+use Rattle.std.specs.FinMap.{get}
 use Rattle.std.proofs.lemmas.Option.{slice_get-map}
 use Rattle.object_store.specs.declared.object.Object.{Object}
 use Rattle.object_store.specs.declared.account.Account.{Account}
@@ -8,11 +9,13 @@ use Rattle.object_store.specs.declared.world.Room.{Room}
 use Rattle.object_store.specs.Tables.{IsRising}
 use Rattle.object_store.specs.Stored.{Stored, HaveRisingTables}
 use Rattle.world_rules.specs.declared.rule.Rule.TheVariants.{IdTwice}
-use Rattle.world_rules.specs.World.{ListedRoom, World, placed, listed_room, listing_of, world_of}
+use Rattle.world_rules.specs.World.{World, placed, listed_room, listing_of, world_of}
 use Rattle.world_rules.specs.Sound.{IsSound, without_spare, bare}
 use Rattle.world_rules.proofs.Entries.{times}
 use Rattle.world_rules.proofs.Keys.{table_sorted, accounts_sorted, same_list, same_find}
-use Rattle.world_rules.proofs.Rooms.{only, room_find}
+use Rattle.world_rules.proofs.Parts.{only}
+use Rattle.world_rules.proofs.Rooms.{room_find}
+use Rattle.world_rules.proofs.Lifting.{frame_stored}
 
 -- by the rules, an id stands once
 pub once : (w : Stored) → IsSound w → (q : ℕ) → times q (placed (listing_of w)) ≤ 1
@@ -34,11 +37,6 @@ same_lists (x ∷ xs) (y ∷ ys) same = let first : Some x ≡ Some y = same 0 i
 same_room : (room other : Room) → (listed_room room).frame ≡ (listed_room other).frame → room.table.index ≡ other.table.index → room.table.objects ≡ other.table.objects → without_spare room ≡ without_spare other
 same_room room other frame index objects = λ i. record { name = (frame i).name; terrain = (frame i).grounds; table = record { index = index i; next = (frame i).next; objects = objects i; spare = 0 } }
 
-frame_at : (rooms : List Room) (k : ℕ) → slice_get (map (λ (room : ListedRoom). room.frame) (map listed_room rooms)) k ≡ option_map (λ (room : Room). (listed_room room).frame) (slice_get rooms k)
-frame_at [] k = refl
-frame_at (room ∷ rooms) zero = refl
-frame_at (room ∷ rooms) (suc k) = frame_at rooms k
-
 module _ (one other : Stored) (s : IsSound one) (t : IsSound other) (same : world_of one ≡ world_of other) where
   objects_at : (k : ℕ) (room mate : Room) → slice_get one.rooms k ≡ Some room → slice_get other.rooms k ≡ Some mate → room.table.objects ≡ mate.table.objects
   objects_at k room mate is at =
@@ -57,7 +55,7 @@ module _ (one other : Stored) (s : IsSound one) (t : IsSound other) (same : worl
       ap Some (same_room room mate frame (s.places k room is ∙ sym (t.places k mate at)) (objects_at k room mate is at))
 
   rooms_same : (bare one).rooms ≡ (bare other).rooms
-  rooms_same = same_lists (map without_spare one.rooms) (map without_spare other.rooms) (λ k. slice_get-map without_spare one.rooms k ∙ rooms_as k (slice_get one.rooms k) (slice_get other.rooms k) refl refl (sym (frame_at one.rooms k) ∙ ap (λ (w : World). slice_get w.rooms k) same ∙ frame_at other.rooms k) ∙ sym (slice_get-map without_spare other.rooms k))
+  rooms_same = same_lists (map without_spare one.rooms) (map without_spare other.rooms) (λ k. slice_get-map without_spare one.rooms k ∙ rooms_as k (slice_get one.rooms k) (slice_get other.rooms k) refl refl (sym (frame_stored one k) ∙ ap (λ (w : World). get w.rooms k) same ∙ frame_stored other k) ∙ sym (slice_get-map without_spare other.rooms k))
 
   accounts_same : one.accounts ≡ other.accounts
   accounts_same = same_list (λ (account : Account). account.player) one.accounts other.accounts (accounts_sorted _ s.accounts) (accounts_sorted _ t.accounts) (same_find _ _ (ap (λ (w : World). w.accounts) same))

@@ -1,48 +1,49 @@
 -- The tick's number, which no rule and no change of a room's part touches.
-use Rattle.std.proofs.Common.{◌≡◌, ℕ, zero, suc, ◌+◌, List, [], ◌∷◌, length, Option, Some, None, slice_get, refl, ap, ◌∙◌}
+use Rattle.std.proofs.Common.{◌≡◌, ℕ, ◌+◌, ◌++◌, List, [], ◌∷◌, Option, Some, None, refl, ap, ◌∙◌}
+use Rattle.std.specs.List.{filter_map}
+use Rattle.std.specs.FinMap.{get, keys}
 use Rattle.game_tables.specs.declared.action.Action.{Action}
 use Rattle.intent_book.specs.declared.intent.Intent.{Intent}
 use Rattle.intent_book.specs.declared.player_run.PlayerRun.{PlayerRun}
 use Rattle.world_rules.specs.World.{Frame, World}
-use Rattle.world_rules.specs.RoomParts.{RoomPart, in_frame, in_room, in_rooms_from}
-use Rattle.world_rules.specs.Intents.{all_actions, counting, room_of}
-use Rattle.world_rules.specs.Upkeep.{in_turn, steps}
-use Rattle.world_rules.specs.Tick.{Course, next_world, intents_of, begun, sums_of, moved, after_rule, after_rule_in, after_entry, after_entries, after_actions, entries_of}
+use Rattle.world_rules.specs.RoomParts.{RoomPart, in_frame, in_room, in_rooms, in_every_room}
+use Rattle.world_rules.specs.RuleBook.{Sums, Step, RuleBook}
+use Rattle.world_rules.specs.Intents.{all_actions, kept, room_of, entries_of}
+use Rattle.world_rules.specs.Tick.{Course, book, next_world, intents_of, begun, acted, movement, inner, sums_in, harm_of, after_rule, after_rules, after_kind, after_actions, after_steps}
 
-frame_tick : (change : RoomPart → RoomPart) (world : World) (index : ℕ) (frame : Option Frame) → (in_frame change world index frame).tick ≡ world.tick
-frame_tick change world index None = refl
-frame_tick change world index (Some frame) = refl
+frame_tick : (change : RoomPart → RoomPart) (room : ℕ) (world : World) (frame : Option Frame) → (in_frame change room world frame).tick ≡ world.tick
+frame_tick change room world None = refl
+frame_tick change room world (Some frame) = refl
 
-rooms_tick : (change : RoomPart → RoomPart) (index count : ℕ) (world : World) → (in_rooms_from change index count world).tick ≡ world.tick
-rooms_tick change index zero world = refl
-rooms_tick change index (suc count) world = rooms_tick change (suc index) count (in_room change index world) ∙ frame_tick change world index (slice_get world.rooms index)
+rooms_tick : (change : ℕ → RoomPart → RoomPart) (rooms : List ℕ) (world : World) → (in_rooms change rooms world).tick ≡ world.tick
+rooms_tick change [] world = refl
+rooms_tick change (room ∷ later) world = rooms_tick change later (in_room (change room) room world) ∙ frame_tick (change room) room world (get world.rooms room)
 
-steps_tick : (list : List (RoomPart → RoomPart)) (world : World) → (in_turn list world).tick ≡ world.tick
-steps_tick [] world = refl
-steps_tick (step ∷ later) world = steps_tick later (in_rooms_from step 0 (length world.rooms) world) ∙ rooms_tick step 0 (length world.rooms) world
+steps_tick : (sums : ℕ → Sums) (list : List Step) (world : World) → (after_steps sums list world).tick ≡ world.tick
+steps_tick sums [] world = refl
+steps_tick sums (step ∷ later) world = steps_tick sums later (in_every_room (λ room. step (sums room)) world) ∙ rooms_tick (λ room. step (sums room)) (keys world.rooms) world
 
-rule_tick : (course : Course) (intent : Intent) (index : ℕ) (frame : Option Frame) → (after_rule course intent index frame).world.tick ≡ course.world.tick
-rule_tick course intent index None = refl
-rule_tick course intent index (Some frame) = refl
+module _ (rules : RuleBook) (before : World) where
+  rule_tick : (course : Course) (entry : Intent) (room : Option ℕ) → (after_rule rules before course entry room).world.tick ≡ course.world.tick
+  rule_tick course entry None = refl
+  rule_tick course entry (Some room) = frame_tick (λ part. (rules.effect entry part).part) room course.world (get course.world.rooms room)
 
-rule_in_tick : (course : Course) (intent : Intent) (home : Option ℕ) → (after_rule_in course intent home).world.tick ≡ course.world.tick
-rule_in_tick course intent None = refl
-rule_in_tick course intent (Some index) = rule_tick course intent index (slice_get course.world.rooms index)
+  entries_tick : (list : List Intent) (course : Course) → (after_rules rules before list course).world.tick ≡ course.world.tick
+  entries_tick [] course = refl
+  entries_tick (entry ∷ later) course = entries_tick later (after_rule rules before course entry (room_of before entry)) ∙ rule_tick course entry (room_of before entry)
 
-entries_tick : (before : World) (course : Course) (list : List Intent) → (after_entries before course list).world.tick ≡ course.world.tick
-entries_tick before course [] = refl
-entries_tick before course (intent ∷ later) = entries_tick before (after_entry before course intent) later ∙ rule_in_tick course intent (room_of before intent.action intent.actor)
+  actions_tick : (actions : List Action) (list : List Intent) (course : Course) → (after_actions rules before actions list course).world.tick ≡ course.world.tick
+  actions_tick [] list course = refl
+  actions_tick (action ∷ later) list course =
+      actions_tick later list (after_kind rules before (entries_of action list) course)
+      ∙ entries_tick (entries_of action list) (record course { harms = course.harms ++ filter_map (harm_of rules before course.world) (entries_of action list) })
 
-actions_tick : (before : World) (actions : List Action) (intents : List Intent) (course : Course) → (after_actions before actions intents course).world.tick ≡ course.world.tick
-actions_tick before [] intents course = refl
-actions_tick before (action ∷ later) intents course = actions_tick before later intents (after_entries before course (entries_of action intents)) ∙ entries_tick before course (entries_of action intents)
+  inner_tick : (list : List Intent) → (inner rules before list).world.tick ≡ before.tick
+  inner_tick list =
+      let after : Course = acted rules before list in
+      steps_tick (sums_in after) rules.steps (in_every_room (movement rules before list) after.world)
+      ∙ rooms_tick (movement rules before list) (keys after.world.rooms) after.world
+      ∙ actions_tick all_actions (kept before list) (begun before)
 
 pub next_world-tick : (world : World) (runs : List PlayerRun) → (next_world world runs).tick ≡ world.tick + 1
-next_world-tick world runs =
-    let entries : List Intent = counting world (intents_of runs) in
-    let acted : Course = after_actions world all_actions entries (begun world) in
-    ap (λ (n : ℕ). n + 1) (
-    steps_tick (steps (sums_of acted)) (in_rooms_from (moved entries) 0 (length acted.world.rooms) acted.world)
-    ∙ rooms_tick (moved entries) 0 (length acted.world.rooms) acted.world
-    ∙ actions_tick world all_actions entries (begun world)
-    )
+next_world-tick world runs = ap (λ (n : ℕ). n + 1) (inner_tick book world (intents_of runs))

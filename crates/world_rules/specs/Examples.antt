@@ -12,7 +12,7 @@ use Rattle.object_store.specs.declared.object.Object.{Object}
 use Rattle.world_rules.specs.World.{Frame, World}
 use Rattle.world_rules.specs.RoomParts.{RoomPart}
 use Rattle.world_rules.specs.Drops.{dropped, pile_of}
-use Rattle.world_rules.specs.Intents.{counting}
+use Rattle.world_rules.specs.Intents.{kept}
 use Rattle.world_rules.specs.Tick.{bucket_after}
 use Rattle.world_rules.specs.Upkeep.{source_renewed, pile_decayed}
 
@@ -48,7 +48,7 @@ creep_with load = record {
 
 -- A room in which these objects stand and nothing else, and whose next serial is 4.
 abbrev pub room_with : List Object → RoomPart
-room_with objects = record { index = 0; grounds = []; next = 4; objects = from_entries (map (λ object. (object.id, object)) objects) }
+room_with objects = record { rules = 1; index = 0; grounds = []; next = 4; objects = from_entries (map (λ object. (object.id, object)) objects) }
 
 -- An entry of this player that creep 3 drops this amount.
 abbrev pub drop_of : ℕ → ℕ → Intent
@@ -82,15 +82,16 @@ object_of id kind owner = record (creep_with 20) { id = id; kind = kind; owner =
 -- A world of one room, in which creep 3, site 6 and spawn 7 of player 1, creep 5 of player 2 and source 8 stand.
 abbrev pub one_room : Frame → World
 one_room frame = record {
+  rules = 1;
   tick = 0;
-  rooms = frame ∷ [];
+  rooms = from_entries ((0, frame) ∷ []);
   objects = from_entries (map (λ object. (object.id, record { room = 0; object = object })) (object_of 3 kinds.Creep 1 ∷ object_of 5 kinds.Creep 2 ∷ object_of 6 kinds.Site 1 ∷ object_of 7 kinds.Spawn 1 ∷ object_of 8 kinds.Source 0 ∷ []));
   accounts = from_entries [];
 }
 
 -- Of these entries those count in that world.
 abbrev pub CountOf : List Intent → List Intent → Type 0
-CountOf intents those = (frame : Frame) → counting (one_room frame) intents ≡ those
+CountOf intents those = (frame : Frame) → kept (one_room frame) intents ≡ those
 
 -- An account with this limit and bucket has that bucket after a tick in which so many instructions were used.
 abbrev pub Saves : ℕ → ℕ → ℕ → ℕ → Type 0

@@ -1,15 +1,17 @@
 -- What a room has of the world, and how a change of it is lifted to the world: in this one place.
-use Rattle.std.specs.Prelude.{ℕ, zero, suc, ◌==◌, not, if◌then◌else◌, List, [], ◌∷◌, ◌++◌, length, map, Option, Some, None, slice_get}
+use Rattle.std.specs.Prelude.{ℕ, ◌==◌, not, if◌then◌else◌, List, [], ◌∷◌, ◌++◌, map, Option, Some, None, option_map}
 use Rattle.std.specs.List.{filter, filter_map}
 use Rattle.std.specs.Ordering.{nat_cmp}
-use Rattle.std.specs.FinMap.{FinMap, from_entries, entries}
+use Rattle.std.specs.FinMap.{FinMap, get, insert, keys, from_entries, entries}
 use Rattle.room_terrain.specs.declared.terrain.Ground.{Ground}
 use Rattle.object_store.specs.declared.object.Object.{Object}
 use Rattle.object_store.specs.Tables.{Table}
-use Rattle.world_rules.specs.World.{Placed, Frame, World}
+use Rattle.world_rules.specs.World.{Placed, Frame, World, stands_in}
 
--- a room's part of the world: its index, its grounds, the serial of its next new object, and its objects by id
+-- a room's part of the world: the rules number, its index, its grounds, the serial of its next new object,
+-- and its objects by id
 pub record RoomPart : Type 0 where
+  pub rules : ℕ
   pub index : ℕ
   pub grounds : List Ground
   pub next : ℕ
@@ -18,6 +20,7 @@ pub record RoomPart : Type 0 where
 -- the part of a room with these grounds and this table
 abbrev pub table_part : List Ground → Table → RoomPart
 table_part grounds table = record {
+  rules = 1;
   index = table.index;
   grounds = grounds;
   next = table.next;
@@ -26,48 +29,61 @@ table_part grounds table = record {
 
 -- the object of an entry, where it stands in this room
 abbrev pub standing_in : ℕ → ℕ × Placed → Option (ℕ × Object)
-standing_in index entry = if entry.1.room == index then Some (entry.0, entry.1.object) else None
+standing_in room entry = if entry.1.room == room then Some (entry.0, entry.1.object) else None
 
--- the part of the room that has this index and this frame
+-- the objects that stand in a room
+abbrev pub objects_in : World → ℕ → FinMap nat_cmp Object
+objects_in world room = from_entries (filter_map (standing_in room) (entries world.objects))
+
+-- the part of the room that has this frame
 abbrev pub part_of : World → ℕ → Frame → RoomPart
-part_of world index frame = record {
-  index = index;
+part_of world room frame = record {
+  rules = world.rules;
+  index = room;
   grounds = frame.grounds;
   next = frame.next;
-  objects = from_entries (filter_map (standing_in index) (entries world.objects));
+  objects = objects_in world room;
 }
 
--- the entries of a part's objects in the world
+-- the part of a room, where there is one
+abbrev pub part_at : World → ℕ → Option RoomPart
+part_at world room = option_map (part_of world room) (get world.rooms room)
+
+-- the entries of a room's objects in the world
 abbrev pub placed_in : ℕ → List (ℕ × Object) → List (ℕ × Placed)
-placed_in index es = map (λ entry. (entry.0, record { room = index; object = entry.1 })) es
+placed_in room es = map (λ entry. (entry.0, record { room = room; object = entry.1 })) es
 
--- the frames with another serial at one index
-abbrev pub with_next : ℕ → ℕ → List Frame → List Frame
-with_next index next [] = []
-with_next zero next (frame ∷ frames) = record frame { next = next } ∷ frames
-with_next (suc index) next (frame ∷ frames) = frame ∷ with_next index next frames
+-- the entries of the objects that stand in other rooms
+abbrev pub entries_elsewhere : World → ℕ → List (ℕ × Placed)
+entries_elsewhere world room = filter (λ entry. not (stands_in room entry)) (entries world.objects)
 
--- the world with this in the place of a room's part: its objects and its serial, for a room's name and grounds never change
-abbrev pub with_part : World → ℕ → RoomPart → World
-with_part world index part = record world {
-  rooms = with_next index part.next world.rooms;
-  objects = from_entries (placed_in index (entries part.objects) ++ filter (λ entry. not (entry.1.room == index)) (entries world.objects));
+-- the world with this frame and these objects in a room
+abbrev pub with_room : World → ℕ → Frame → FinMap nat_cmp Object → World
+with_room world room frame objects = record world {
+  rooms = insert world.rooms room frame;
+  objects =
+      from_entries (placed_in room (entries objects) ++ entries_elsewhere world room);
 }
 
--- a change of a room's part, in the room of this index and frame
-abbrev pub in_frame : (RoomPart → RoomPart) → World → ℕ → Option Frame → World
-in_frame change world index (Some frame) = with_part world index (change (part_of world index frame))
-in_frame change world index None = world
+-- the world with this in the place of a room's part: its objects and its serial, for a room's name and
+-- grounds never change
+abbrev pub with_part : World → ℕ → Frame → RoomPart → World
+with_part world room frame part = with_room world room (record frame { next = part.next }) part.objects
+
+-- a change of a room's part, in the room that has this frame
+abbrev pub in_frame : (RoomPart → RoomPart) → ℕ → World → Option Frame → World
+in_frame change room world None = world
+in_frame change room world (Some frame) = with_part world room frame (change (part_of world room frame))
 
 -- a change of a room's part, in one room of the world
 abbrev pub in_room : (RoomPart → RoomPart) → ℕ → World → World
-in_room change index world = in_frame change world index (slice_get world.rooms index)
+in_room change room world = in_frame change room world (get world.rooms room)
 
--- a change of a room's part, in so many rooms from an index on
-abbrev pub in_rooms_from : (RoomPart → RoomPart) → ℕ → ℕ → World → World
-in_rooms_from change index zero world = world
-in_rooms_from change index (suc count) world = in_rooms_from change (suc index) count (in_room change index world)
+-- a change for each room, in these rooms
+abbrev pub in_rooms : (ℕ → RoomPart → RoomPart) → List ℕ → World → World
+in_rooms change [] world = world
+in_rooms change (room ∷ later) world = in_rooms change later (in_room (change room) room world)
 
--- a change of a room's part, in every room of the world
-abbrev pub in_every_room : (RoomPart → RoomPart) → World → World
-in_every_room change world = in_rooms_from change 0 (length world.rooms) world
+-- a change for each room, in every room of the world
+abbrev pub in_every_room : (ℕ → RoomPart → RoomPart) → World → World
+in_every_room change world = in_rooms change (keys world.rooms) world

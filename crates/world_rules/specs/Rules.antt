@@ -26,7 +26,7 @@ Stands world id placed = get world.objects id ≡ Some placed
 
 -- The room has this index.
 abbrev pub IsRoom : World → ℕ → Frame → Type 0
-IsRoom world index frame = slice_get world.rooms index ≡ Some frame
+IsRoom world index frame = get world.rooms index ≡ Some frame
 
 abbrev pub IsWall : List Ground → ℕ → ℕ → Type 0
 IsWall grounds x y = slice_get grounds (tile x y) ≡ Some Wall

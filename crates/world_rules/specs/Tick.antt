@@ -1,122 +1,200 @@
--- The tick of the game.
-use Rattle.std.specs.Prelude.{ℕ, ◌+◌, ◌-◌, ◌/◌, ◌==◌, ◌&&◌, ◌||◌, min, nat_lt, Bool, if◌then◌else◌, List, [], ◌∷◌, ◌++◌, map, Option, Some, None, slice_get}
-use Rattle.std.specs.List.{filter, find, flat_map, sum_by}
+-- The tick of the game, by a book of rules.
+use Rattle.std.specs.Prelude.{ℕ, ◌+◌, ◌-◌, ◌/◌, ◌^◌, ◌==◌, min, if◌then◌else◌, List, [], ◌∷◌, ◌++◌, map, Option, Some, None, option_map, option_and_then}
+use Rattle.std.specs.List.{filter, find, filter_map, flat_map, sum_by}
 use Rattle.std.specs.FinMap.{from_entries, entries}
-use Rattle.game_tables.specs.Actions.{action_number}
-use Rattle.game_tables.specs.Limits.{bucket_bound, points_bound, unit_size}
+use Rattle.std.specs.Option.{option_to_list}
 use Rattle.game_tables.specs.declared.action.Action.{Action}
+use Rattle.game_tables.specs.declared.action.Action.TheVariants.{DropLoad, Move}
+use Rattle.game_tables.specs.Limits.{bucket_bound, points_bound, unit_size}
 use Rattle.object_store.specs.declared.account.Account.{Account}
 use Rattle.intent_book.specs.declared.intent.Intent.{Intent}
 use Rattle.intent_book.specs.declared.player_run.PlayerRun.{PlayerRun}
-use Rattle.world_rules.specs.World.{Frame, World}
-use Rattle.world_rules.specs.RoomParts.{RoomPart, part_of, with_part, in_every_room}
-use Rattle.world_rules.specs.Intents.{Effect, all_actions, counting, room_of, rule_of}
-use Rattle.world_rules.specs.Upkeep.{Sums, upkeep}
+use Rattle.world_rules.specs.Drops.{dropped}
+use Rattle.world_rules.specs.Upkeep.{steps}
+use Rattle.world_rules.specs.World.{World}
+use Rattle.world_rules.specs.RoomParts.{RoomPart, part_at, in_room, in_every_room}
+use Rattle.world_rules.specs.RuleBook.{Effect, Harm, Sums, Step, RuleBook, changes_to, no_harm}
+use Rattle.world_rules.specs.Intents.{all_actions, room_of, those_in, kept, entries_of}
 
--- ---- the entries of a tick
+-- the points that a player gained by an entry in a room
+pub record Gain : Type 0 where
+  pub room : ℕ
+  pub player : ℕ
+  pub points : ℕ
 
--- the world in the course of a tick, the points that players gained so far, and the damage and healing that was done to objects so far
+-- the world in the course of a tick, what was done to the objects of each room so far, and the points that
+-- were gained
 pub record Course : Type 0 where
   pub world : World
-  pub gains : List (ℕ × ℕ)
-  pub damage : List (ℕ × ℕ)
-  pub healing : List (ℕ × ℕ)
+  pub harms : List (ℕ × Harm)
+  pub gains : List Gain
 
 abbrev pub begun : World → Course
-begun world = record { world = world; gains = []; damage = []; healing = [] }
+begun world = record { world = world; harms = []; gains = [] }
 
--- the course after an effect in the room of this index
-abbrev pub after_effect : Course → ℕ → ℕ → Effect → Course
-after_effect course player index effect = record {
-  world = with_part course.world index effect.part;
-  gains = course.gains ++ (player, effect.points) ∷ [];
-  damage = course.damage ++ effect.damage;
-  healing = course.healing ++ effect.healing;
+-- ---- the entries
+
+-- The room of an entry is that in which its actor stands in the world before the tick.
+module _ (book : RuleBook) (before : World) where
+  -- what an entry does to the objects of its room; one of another room counts as absent
+  abbrev pub harm_of : World → Intent → Option (ℕ × Harm)
+  harm_of world entry =
+      let read_in : ℕ → Option (ℕ × Harm) = λ room.
+      option_map (λ part. (room, book.harm entry part)) (part_at world room) in
+      option_and_then read_in (room_of before entry)
+
+  -- what the rule of an entry gives its player
+  abbrev pub gain_in : World → Intent → ℕ → List Gain
+  gain_in world entry room =
+      let gain : RoomPart → Gain = λ part. record {
+        room = room;
+        player = entry.player;
+        points = (book.effect entry part).points;
+      } in
+      option_to_list (option_map gain (part_at world room))
+
+  -- the course after the rule of an entry, which changes the part of its room alone
+  abbrev pub after_rule : Course → Intent → Option ℕ → Course
+  after_rule course entry None = course
+  after_rule course entry (Some room) = record course {
+    world = in_room (λ part. (book.effect entry part).part) room course.world;
+    gains = course.gains ++ gain_in course.world entry room;
+  }
+
+  abbrev pub after_rules : List Intent → Course → Course
+  after_rules [] course = course
+  after_rules (entry ∷ later) course = after_rules later (after_rule course entry (room_of before entry))
+
+  -- The entries of a kind: what they do to objects is read in the world before the kind, then their rules
+  -- follow one after the other.
+  abbrev pub after_kind : List Intent → Course → Course
+  after_kind list course =
+      after_rules list (record course { harms = course.harms ++ filter_map (harm_of course.world) list })
+
+  abbrev pub after_actions : List Action → List Intent → Course → Course
+  after_actions [] list course = course
+  after_actions (action ∷ later) list course =
+      after_actions later list (after_kind (entries_of action list) course)
+
+-- ---- the sums
+
+-- the most that damage or healing sums to
+abbrev pub sum_bound : ℕ
+sum_bound = 2 ^ 32 - 1
+
+-- what a list of ids and numbers has for an id
+abbrev pub total_for : List (ℕ × ℕ) → ℕ → ℕ
+total_for list id = sum_by (λ entry. if entry.0 == id then entry.1 else 0) list
+
+-- what was done to the objects of a room
+abbrev pub harms_in : ℕ → List (ℕ × Harm) → List (ℕ × Harm)
+harms_in room harms = filter (λ harm. harm.0 == room) harms
+
+abbrev pub sums_of : List Harm → Sums
+sums_of harms = record {
+  damage = λ id. min sum_bound (total_for (flat_map (λ harm. harm.damage) harms) id);
+  healing = λ id. min sum_bound (total_for (flat_map (λ harm. harm.healing) harms) id);
 }
 
--- the course after the rule of an entry, in the room of this index and frame
-abbrev pub after_rule : Course → Intent → ℕ → Option Frame → Course
-after_rule course intent index (Some frame) = after_effect course intent.player index (rule_of intent.action intent (part_of course.world index frame))
-after_rule course intent index None = course
-
-abbrev pub after_rule_in : Course → Intent → Option ℕ → Course
-after_rule_in course intent (Some index) = after_rule course intent index (slice_get course.world.rooms index)
-after_rule_in course intent None = course
-
--- the course after an entry, whose rule changes the part of its actor's room alone: the room in which the actor stands in the world before the tick
-abbrev pub after_entry : World → Course → Intent → Course
-after_entry before course intent = after_rule_in course intent (room_of before intent.action intent.actor)
-
-abbrev pub after_entries : World → Course → List Intent → Course
-after_entries before course [] = course
-after_entries before course (intent ∷ later) = after_entries before (after_entry before course intent) later
-
--- by player, then by actor
-abbrev pub comes_before : Intent → Intent → Bool
-comes_before one other = nat_lt one.player other.player || ((one.player == other.player) && nat_lt one.actor other.actor)
-
-abbrev pub put_in_order : Intent → List Intent → List Intent
-put_in_order intent [] = intent ∷ []
-put_in_order intent (first ∷ later) = if comes_before intent first then intent ∷ first ∷ later else first ∷ put_in_order intent later
-
-abbrev pub in_order : List Intent → List Intent
-in_order [] = []
-in_order (intent ∷ later) = put_in_order intent (in_order later)
-
--- the entries of an action, in their order
-abbrev pub entries_of : Action → List Intent → List Intent
-entries_of action intents = in_order (filter (λ intent. action_number intent.action == action_number action) intents)
-
--- the course after all entries, action by action
-abbrev pub after_actions : World → List Action → List Intent → Course → Course
-after_actions before [] intents course = course
-after_actions before (action ∷ later) intents course = after_actions before later intents (after_entries before course (entries_of action intents))
+abbrev pub sums_in : Course → ℕ → Sums
+sums_in course room = sums_of (map (λ harm. harm.1) (harms_in room course.harms))
 
 -- ---- the tick
 
--- The movers of a room move all at once. Movement is not in force yet.
-abbrev pub moved : List Intent → RoomPart → RoomPart
-moved intents part = part
+-- steps one after the other, each in every room by its sums
+abbrev pub after_steps : (ℕ → Sums) → List Step → World → World
+after_steps sums [] world = world
+after_steps sums (step ∷ later) world =
+    after_steps sums later (in_every_room (λ room. step (sums room)) world)
 
--- the sum that a list of ids and numbers has for an id
-abbrev pub sum_for : List (ℕ × ℕ) → ℕ → ℕ
-sum_for list id = sum_by (λ entry. if entry.0 == id then entry.1 else 0) list
+-- the course after all entries
+abbrev pub acted : RuleBook → World → List Intent → Course
+acted book world list = after_actions book world all_actions (kept world list) (begun world)
 
-abbrev pub sums_of : Course → Sums
-sums_of course = record { damage = sum_for course.damage; healing = sum_for course.healing }
+-- the change that the kept moves of a room make
+abbrev pub movement : RuleBook → World → List Intent → ℕ → RoomPart → RoomPart
+movement book world list room = book.moved (those_in world room (entries_of Move (kept world list)))
 
--- what happens inside the rooms: the entries, then movement, then upkeep
-abbrev pub inner : World → List Intent → Course
-inner world intents =
-    let acted : Course = after_actions world all_actions (counting world intents) (begun world) in
-    record acted { world = upkeep (sums_of acted) (in_every_room (moved (counting world intents)) acted.world) }
+-- what happens inside the rooms: the entries, then movement all at once, then upkeep
+abbrev pub inner : RuleBook → World → List Intent → Course
+inner book world list =
+    let after : Course = acted book world list in
+    let moved : World = in_every_room (movement book world list) after.world in
+    record after { world = after_steps (sums_in after) book.steps moved }
+
+-- the world after a tick: the inside of the rooms, then crossings
+abbrev pub ruled : RuleBook → (World → World) → World → List Intent → World
+ruled book crossed world list =
+    let after : World = crossed (inner book world list).world in record after { tick = after.tick + 1 }
+
+-- the gains in a room
+abbrev pub gains_in : ℕ → List Gain → List Gain
+gains_in room gains = filter (λ gain. gain.room == room) gains
+
+-- the points of a player among gains
+abbrev pub points_of : ℕ → List Gain → ℕ
+points_of player gains = sum_by (λ gain. if gain.player == player then gain.points else 0) gains
+
+-- the points that a player gains in a tick
+abbrev pub gained : RuleBook → World → List Intent → ℕ → ℕ
+gained book world list player = points_of player (inner book world list).gains
+
+-- ---- the rules in force
+
+-- the rule of each action
+abbrev pub rule_of : Action → Intent → RoomPart → Effect
+rule_of DropLoad entry part = changes_to (dropped entry part)
+rule_of action entry part = changes_to part
+
+abbrev pub book : RuleBook
+book =
+    record {
+      harm = λ entry part. no_harm;
+      effect = λ entry. rule_of entry.action entry;
+      moved = λ list part. part;
+      steps = steps;
+    }
 
 -- Creeps that moved onto a border tile cross to the next room. Crossings are not in force yet.
 abbrev pub crossed : World → World
 crossed world = world
 
--- the world after a tick with these entries, with the accounts as they were
-abbrev pub ruled : World → List Intent → World
-ruled world intents = let after : World = crossed (inner world intents).world in record after { tick = after.tick + 1 }
-
--- the points that players gain in it
-abbrev pub gained : World → List Intent → List (ℕ × ℕ)
-gained world intents = (inner world intents).gains
-
 -- ---- accounts
 
--- the CPU units in a bucket after a tick in which so many instructions were used: a unit that was begun counts whole
+-- the CPU units in a bucket after a tick in which so many instructions were used: a unit that was begun
+-- counts whole
 abbrev pub bucket_after : Account → ℕ → ℕ
-bucket_after account used = min bucket_bound (account.limit + account.bucket - (used + (unit_size - 1)) / unit_size)
+bucket_after account used =
+    min bucket_bound (account.limit + account.bucket - (used + (unit_size - 1)) / unit_size)
 
 -- the points of an account after it gained some
 abbrev pub points_after : Account → ℕ → ℕ
 points_after account gain = min points_bound (account.points + gain)
 
--- an account after a tick in which its player gained points, without a run of his and with one, which leaves his memory text
+-- the same account with the points that its player gained
+abbrev pub account_raised : ℕ → Account → Account
+account_raised gain account = record account { points = points_after account gain }
+
+-- the world after a tick with these entries, with the points that players gained, and with their buckets and
+-- memory texts as before
+abbrev pub plain_world : World → List Intent → World
+plain_world world list =
+    let after : World = ruled book crossed world list in
+    let next : ℕ × Account → ℕ × Account = λ entry.
+    (entry.0, account_raised (gained book world list entry.0) entry.1) in
+    record after { accounts = from_entries (map next (entries after.accounts)) }
+
+-- an account after a tick in which its player gained points, without a run of his and with one, which leaves
+-- his memory text
 abbrev pub account_after : ℕ → Account → Option PlayerRun → Account
-account_after gain account None = record account { bucket = bucket_after account 0; points = points_after account gain }
-account_after gain account (Some run) = record account { bucket = bucket_after account run.used; points = points_after account gain; memory = run.memory }
+account_after gain account None =
+    record account { bucket = bucket_after account 0; points = points_after account gain }
+account_after gain account (Some run) =
+    record account {
+      bucket = bucket_after account run.used;
+      points = points_after account gain;
+      memory = run.memory;
+    }
 
 -- the run of a player
 abbrev pub run_of : ℕ → List PlayerRun → Option PlayerRun
@@ -129,5 +207,8 @@ intents_of runs = flat_map (λ run. run.intents) runs
 -- the world after a tick in which these are the runs
 abbrev pub next_world : World → List PlayerRun → World
 next_world world runs =
-    let after : World = ruled world (intents_of runs) in
-    record after { accounts = from_entries (map (λ entry. (entry.0, account_after (sum_for (gained world (intents_of runs)) entry.0) entry.1 (run_of entry.0 runs))) (entries after.accounts)) }
+    let list : List Intent = intents_of runs in
+    let after : World = ruled book crossed world list in
+    let next : ℕ × Account → ℕ × Account = λ entry.
+    (entry.0, account_after (gained book world list entry.0) entry.1 (run_of entry.0 runs)) in
+    record after { accounts = from_entries (map next (entries after.accounts)) }

@@ -1,22 +1,15 @@
 -- The steps of upkeep at the end of a tick. Each is a change of a room's part, over its objects in rising id.
-use Rattle.std.specs.Prelude.{ℕ, ◌-◌, ◌==◌, ◌||◌, not, max, Bool, false, nat_lt, if◌then◌else◌, List, [], ◌∷◌, map, Option, Some, None, option_map}
-use Rattle.std.specs.List.{find, filter_map}
-use Rattle.std.specs.FinMap.{from_entries, entries}
+use Rattle.std.specs.Prelude.{ℕ, ◌-◌, ◌==◌, ◌||◌, not, max, Bool, false, nat_lt, if◌then◌else◌, List, [], ◌∷◌, Option, Some, None}
+use Rattle.std.specs.List.{find}
+use Rattle.std.specs.FinMap.{values}
 use Rattle.game_tables.specs.Kinds.{source_room, renewal_timer, pile_loss}
 use Rattle.game_tables.specs.declared.kind.Kind.{Kind}
 use Rattle.game_tables.specs.declared.kind.Kind.TheVariants.{Source, Pile}
 use Rattle.object_store.specs.declared.object.Object.{Object}
 use Rattle.world_rules.specs.Kinds.{is_controller}
-use Rattle.world_rules.specs.World.{World}
-use Rattle.world_rules.specs.RoomParts.{RoomPart, in_every_room}
-
--- the entries whose objects a change leaves, as it leaves them
-abbrev pub kept : (Object → Option Object) → List (ℕ × Object) → List (ℕ × Object)
-kept change es = filter_map (λ entry. option_map (λ object. (entry.0, object)) (change entry.1)) es
-
--- a step in which each object changes by itself, or goes
-abbrev pub each : (Object → Option Object) → RoomPart → RoomPart
-each change part = record part { objects = from_entries (kept change (entries part.objects)) }
+use Rattle.world_rules.specs.RoomParts.{RoomPart}
+use Rattle.world_rules.specs.RuleBook.{Step}
+use Rattle.world_rules.specs.Steps.{each}
 
 -- ---- sources
 
@@ -27,9 +20,10 @@ is_taken (Some controller) = not (controller.owner == 0) || not (controller.othe
 
 -- the controller of a room
 abbrev pub controller_of : RoomPart → Option Object
-controller_of part = find (λ object. is_controller object.kind) (map (λ entry. entry.1) (entries part.objects))
+controller_of part = find (λ object. is_controller object.kind) (values part.objects)
 
--- A timer above 0 falls by 1, and at 0 the energy becomes at least the capacity. A source with timer 0 and less than its capacity gets the timer to its renewal.
+-- A timer above 0 falls by 1, and at 0 the energy becomes at least the capacity. A source with timer 0 and
+-- less than its capacity gets the timer to its renewal.
 abbrev pub source_renewed : ℕ → Object → Object
 source_renewed capacity source =
     if nat_lt 1 source.timer then record source { timer = source.timer - 1 }
@@ -41,15 +35,19 @@ abbrev pub renewed_as : Kind → ℕ → Object → Option Object
 renewed_as Source capacity object = Some (source_renewed capacity object)
 renewed_as _ capacity object = Some object
 
--- Sources are renewed, up to the capacity in a room whose controller somebody owns or reserves, or in another.
+-- Sources are renewed, up to the capacity in a room whose controller somebody owns or reserves, or in
+-- another.
 abbrev pub renewed : RoomPart → RoomPart
-renewed part = each (λ object. renewed_as object.kind (source_room (is_taken (controller_of part))) object) part
+renewed part =
+    each (λ object. renewed_as object.kind (source_room (is_taken (controller_of part))) object) part
 
 -- ---- piles
 
 -- A pile loses a part of its energy; at 0 it is removed.
 abbrev pub pile_decayed : Object → Option Object
-pile_decayed pile = if pile.energy - pile_loss pile.energy == 0 then None else Some (record pile { energy = pile.energy - pile_loss pile.energy })
+pile_decayed pile =
+    let left : ℕ = pile.energy - pile_loss pile.energy in
+    if left == 0 then None else Some (record pile { energy = left })
 
 abbrev pub decayed_as : Kind → Object → Option Object
 decayed_as Pile object = pile_decayed object
@@ -61,18 +59,13 @@ decayed part = each (λ object. decayed_as object.kind object) part
 
 -- ---- all steps
 
--- what the actions of a tick did to an object, by its id
-pub record Sums : Type 0 where
-  pub damage : ℕ → ℕ
-  pub healing : ℕ → ℕ
-
 -- a step that is not in force yet
-abbrev pub unchanged : RoomPart → RoomPart
-unchanged part = part
+abbrev pub unchanged : Step
+unchanged sums part = part
 
 -- the ten steps, in their order
-abbrev pub steps : Sums → List (RoomPart → RoomPart)
-steps sums =
+abbrev pub steps : List Step
+steps =
     unchanged  -- hits change by healing and damage, and what has none left is gone
     ∷ unchanged  -- loads above the capacity fall
     ∷ unchanged  -- creeps age and die
@@ -80,15 +73,7 @@ steps sums =
     ∷ unchanged  -- spawns gain energy
     ∷ unchanged  -- spawns make creeps
     ∷ unchanged  -- controllers lose time
-    ∷ renewed
+    ∷ (λ sums. renewed)
     ∷ unchanged  -- containers and roads decay
-    ∷ decayed
+    ∷ (λ sums. decayed)
     ∷ []
-
--- steps one after the other, each in every room
-abbrev pub in_turn : List (RoomPart → RoomPart) → World → World
-in_turn [] world = world
-in_turn (step ∷ later) world = in_turn later (in_every_room step world)
-
-abbrev pub upkeep : Sums → World → World
-upkeep sums world = in_turn (steps sums) world

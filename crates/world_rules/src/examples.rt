@@ -2,8 +2,7 @@
 ghost use Rattle.std.specs.Prelude.{◌≡◌, [], ◌∷◌, map};
 ghost use Rattle.game_tables.specs.Actions.{action_number};
 ghost use Rattle.game_tables.specs.declared.action.Action.TheVariants.{DropLoad, Harvest, CreateSite, RemoveSite, SpawnCreep};
-ghost use Rattle.world_rules.specs.Intents.{all_actions, last_of_each};
-ghost use Rattle.world_rules.specs.Tick.{in_order};
+ghost use Rattle.world_rules.specs.Intents.{all_actions, last_of_each, in_order};
 ghost use Rattle.world_rules.specs.Examples.{Renews, Decays, Vanishes, Drops, Grows, DropsNothing, CountOf, Saves, entry_of};
 
 /// Says what the definitions of upkeep give in worked examples. It does nothing when it runs: its

@@ -3,9 +3,14 @@
 #![tactic(auto)]
 
 mod examples;
+mod framed;
 mod rule;
 mod sound;
 
 pub use examples::{bucket_examples, drop_examples, entry_examples, upkeep_examples};
+pub use framed::{
+    change_examples, crossing_examples, dropping_examples, harm_examples, movement_examples,
+    mover_examples, step_examples,
+};
 pub use rule::Rule;
 pub use sound::stored_in_one_way;

@@ -71,7 +71,7 @@ module _ (bytes : List ℕ) (filed : Filed) (draft : Draft) (says : Says bytes f
   lists = (says, kept)
 
   listing_is : (stored : Stored) → IsBuilt draft stored → listing_of stored ≡ drafted draft
-  listing_is stored b = λ i. record { tick = b.tick i; rooms = b.rooms i; accounts = b.accounts i }
+  listing_is stored b = λ i. record { rules = 1; tick = b.tick i; rooms = b.rooms i; accounts = b.accounts i }
 
   pub world_is : (stored : Stored) → IsBuilt draft stored → world_of stored ≡ world_listed (filed_listing filed)
   world_is stored b = ap world_listed (listing_is stored b) ∙ sym (world_moved (filed_listing filed) (drafted draft) (draft_reordered filed draft d) kept)

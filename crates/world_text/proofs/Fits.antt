@@ -137,6 +137,7 @@ objects_moved index (room ∷ rooms) (draft ∷ drafts) d =
 -- A draft lists what the file lists, in another order.
 pub draft_reordered : (filed : Filed) (draft : Draft) → IsDraft filed draft → IsReordered (filed_listing filed) (drafted draft)
 draft_reordered filed draft d = record {
+  rules = refl;
   tick = sym d.tick;
   frames = frames_same filed.rooms draft.rooms.items d.rooms;
   objects = objects_moved 0 filed.rooms draft.rooms.items d.rooms;

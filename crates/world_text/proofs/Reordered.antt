@@ -5,7 +5,7 @@ use Rattle.std.specs.List.{Contains, count_by}
 use Rattle.std.specs.List.Sorted.{IsPermutation}
 use Rattle.std.specs.Ordering.{nat_cmp}
 use Rattle.std.specs.Cmp.{nat_cmp_total}
-use Rattle.std.specs.FinMap.{find, from_entries, get-from_entries, same_map, nat_cmp-IsAntisymmetric}
+use Rattle.std.specs.FinMap.{FinMap, find, get, from_entries, get-from_entries, same_map, nat_cmp-IsAntisymmetric}
 use Rattle.std.proofs.lemmas.Bool.{cases_lt}
 use Rattle.std.proofs.lemmas.List.{length-map}
 use Rattle.std.proofs.lemmas.List.Sums.{sum_by-cons}
@@ -16,6 +16,7 @@ use Rattle.world_rules.specs.declared.rule.Rule.{Rule}
 use Rattle.world_rules.specs.declared.rule.Rule.TheVariants as rules
 use Rattle.world_rules.specs.Kinds.{is_controller, is_site}
 use Rattle.world_rules.specs.World.{Placed, Frame, ListedRoom, World, Listing, placed, world_listed}
+use Rattle.world_rules.proofs.Rooms.{frame_listed}
 use Rattle.world_rules.specs.Rules.{Broken, KeepsRules, IsFirstBroken, rule_place, IsWithinCounts, Stands, IsRoom, IsPlayer, HasEarlierName, HasOpenCorner, HasNoBirth, IsOnWrongTile, IsInTheWay, HasWrongOwner, IsInRangeAs}
 use Rattle.rule_check.proofs.Found.{times, found_at, at_found, once_found}
 
@@ -61,6 +62,7 @@ same_entries es fs moved once =
 
 -- The rooms are the same, and the objects and accounts are the same in other orders.
 pub record IsReordered (one other : Listing) : Type 0 where
+  pub rules : one.rules ≡ other.rules
   pub tick : one.tick ≡ other.tick
   pub frames : map (λ room. room.frame) one.rooms ≡ map (λ room. room.frame) other.rooms
   pub objects : IsPermutation (placed one) (placed other)
@@ -68,6 +70,7 @@ pub record IsReordered (one other : Listing) : Type 0 where
 
 pub turned : (one other : Listing) → IsReordered one other → IsReordered other one
 turned one other r = record {
+  rules = sym r.rules;
   tick = sym r.tick;
   frames = sym r.frames;
   objects = IsPermutation-sym (placed one) (placed other) r.objects;
@@ -106,16 +109,28 @@ within_moved one other r w =
     let accounts : length other.accounts ≡ length one.accounts = length_permutation one.accounts other.accounts r.accounts in
     record { some = rw (← rooms) w.some; rooms = rw (← rooms) w.rooms; objects = rw objects w.objects; players = rw accounts w.players }
 
+-- the rooms of the worlds that they list
+rooms_same : (one other : Listing) → IsReordered one other → (world_listed one).rooms ≡ (world_listed other).rooms
+rooms_same one other r =
+    same_map nat_cmp_total nat_cmp-IsAntisymmetric _ _
+    (λ k. frame_listed one k ∙ ap (λ (frames : List Frame). slice_get frames k) r.frames ∙ sym (frame_listed other k))
+
 -- what is true of the rooms alone
-rooms_moved : (one other : Listing) → IsReordered one other → (P : List Frame → Type 0) → P (world_listed one).rooms → P (world_listed other).rooms
-rooms_moved one other r P p = subst P r.frames p
+rooms_moved : (one other : Listing) → IsReordered one other → (P : FinMap nat_cmp Frame → Type 0) → P (world_listed one).rooms → P (world_listed other).rooms
+rooms_moved one other r P p = subst P (rooms_same one other r) p
 
 -- what is true of the rooms and the objects, where each id is there once
 objects_moved : (one other : Listing) → IsReordered one other → IsOnce one → (P : World → Type 0) → P (record (world_listed one) { accounts = (world_listed other).accounts }) → P (world_listed other)
 objects_moved one other r once P p =
     let objects = same_entries (placed one) (placed other) r.objects once in
     let worlds : record (world_listed one) { accounts = (world_listed other).accounts } ≡ world_listed other =
-    λ i. record { tick = r.tick i; rooms = r.frames i; objects = objects i; accounts = (world_listed other).accounts } in
+    λ i. record {
+      rules = r.rules i;
+      tick = r.tick i;
+      rooms = rooms_same one other r i;
+      objects = objects i;
+      accounts = (world_listed other).accounts;
+    } in
     subst P worlds p
 
 wrong_moved : (one other : World) → ((n : ℕ) → IsPlayer other n → IsPlayer one n) → (object : Object) → HasWrongOwner one object → HasWrongOwner other object
@@ -126,11 +141,11 @@ wrong_moved one other back object (inr (some, inr may)) = inr (some, inr may)
 
 broken_moved : (one other : Listing) → IsReordered one other → (rule : Rule) (n : ℕ) → (5 < rule_place rule → IsOnce one) → Broken rule n one → Broken rule n other
 broken_moved one other r rules.Counts n once broken = (broken.0, λ fits. broken.1 (within_moved other one (turned one other r) fits))
-broken_moved one other r rules.RoomTwice n once broken = subst (λ (frames : List Frame). HasEarlierName (record (world_listed one) { rooms = frames }) n) r.frames broken
-broken_moved one other r rules.Corner n once broken = subst (λ (frames : List Frame). (frame : Frame) × (slice_get frames n ≡ Some frame) × HasOpenCorner frame.grounds) r.frames broken
+broken_moved one other r rules.RoomTwice n once broken = rooms_moved one other r (λ rooms. HasEarlierName (record (world_listed one) { rooms = rooms }) n) broken
+broken_moved one other r rules.Corner n once broken = rooms_moved one other r (λ rooms. (frame : Frame) × (get rooms n ≡ Some frame) × HasOpenCorner frame.grounds) broken
 broken_moved one other r rules.Serial n once broken =
     let stands = stands_moved one other r n broken.0 broken.1 in
-    (stands.0, stands.1, subst (λ (frames : List Frame). HasNoBirth (record (world_listed one) { rooms = frames }) n) r.frames broken.2)
+    (stands.0, stands.1, rooms_moved one other r (λ rooms. HasNoBirth (record (world_listed one) { rooms = rooms }) n) broken.2)
 broken_moved one other r rules.IdTwice n once broken = rw (sum_by-IsPermutation (λ (e : ℕ × Placed). cond (e.0 == n) 1 0) (placed one) (placed other) r.objects) broken
 broken_moved one other r rules.Tile n once broken =
     objects_moved one other r (once (omega arith)) (λ w. (object : Placed) × (frame : Frame) × Stands w n object × IsRoom w object.room frame × IsOnWrongTile frame.grounds object.object) broken
@@ -186,4 +201,10 @@ world_moved one other r keeps =
       | inr le ↦ absurd (keeps rules.PlayerTwice q (rw entry_times at le))
     ] in
     let accounts = same_entries (map entry_of one.accounts) (map entry_of other.accounts) (IsPermutation-map entry_of one.accounts other.accounts r.accounts) few in
-    λ i. record { tick = r.tick i; rooms = r.frames i; objects = objects i; accounts = accounts i }
+    λ i. record {
+      rules = r.rules i;
+      tick = r.tick i;
+      rooms = rooms_same one other r i;
+      objects = objects i;
+      accounts = accounts i;
+    }

@@ -66,7 +66,12 @@ pub record IsDraft (filed : Filed) (draft : Draft) : Type 0 where
 
 -- what a draft lists
 abbrev pub drafted : Draft → Listing
-drafted draft = record { tick = draft.tick; rooms = map drafted_room draft.rooms.items; accounts = draft.players.accounts.items }
+drafted draft = record {
+  rules = 1;
+  tick = draft.tick;
+  rooms = map drafted_room draft.rooms.items;
+  accounts = draft.players.accounts.items;
+}
 
 -- ---- what the building of a world is given
 

@@ -5,8 +5,7 @@ use Rattle.std.proofs.lemmas.List.Elements.{All-from_recursion}
 use Rattle.intent_book.specs.declared.intent.Intent.{Intent}
 use Rattle.object_store.specs.declared.world.Room.{Room}
 use Rattle.world_rules.specs.World.{world_of}
-use Rattle.world_rules.specs.Intents.{last_of_each}
-use Rattle.world_rules.specs.Tick.{in_order}
+use Rattle.world_rules.specs.Intents.{last_of_each, in_order}
 use Rattle.ruled_tick.specs.declared.standing.Standing.{Standing}
 use Rattle.ruled_tick.specs.Standing.{is_drop, is_wanted, room_at, StandAsIn}
 use Rattle.ruled_tick.specs.Entered.{IsActed}
@@ -49,7 +48,7 @@ loop-intent-preserved c =
     let stand : StandAsIn (world_of world) all = subst (StandAsIn (world_of world)) (sym c.deref-in-loop-intent.ensures.value) c.in_ok-all.ensures.same in
     let more : take (i + 1) list ≡ take i list ++ intent ∷ [] = take_more list i intent c.loop-intent-test.true ∙ ap (λ (entry : Intent). take i list ++ entry ∷ []) (sym c.intent-item.is) in
     subst (λ (done : List Intent). IsActed world done tables) (sym more)
-    (acted_more world (take i list) c.loop-intent.tables.items c.loop-intent.invariant few intent drops (room_at intent.actor all) tables c.in_ok-enter.ensures (drop_room (world_of world) all stand intent drops))
+    (acted_more world (take i list) c.loop-intent.tables.items c.loop-intent.invariant few intent (room_at intent.actor all) tables c.in_ok-enter.ensures (drop_room (world_of world) all stand intent drops))
 
 pub returns : goal.returns
 returns c =

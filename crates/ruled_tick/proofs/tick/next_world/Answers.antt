@@ -2,8 +2,7 @@ use Rattle.std.proofs.Common.{◌≡◌, ℕ, List, map, ap, subst, sym, ◌∙�
 use Rattle.intent_book.specs.declared.intent.Intent.{Intent}
 use Rattle.object_store.specs.declared.account.Account.{Account}
 use Rattle.object_store.specs.Stored.{Stored}
-use Rattle.world_rules.specs.Intents.{counting}
-use Rattle.world_rules.specs.Tick.{account_after, gained, intents_of, run_of, sum_for}
+use Rattle.world_rules.specs.Tick.{account_after, book, gained, intents_of, run_of}
 use Rattle.world_rules.specs.World.{World, world_of}
 use Rattle.ruled_tick.specs.Ticked.{IsRuledRooms}
 use Rattle.ruled_tick.proofs.Actions.{none_gained}
@@ -31,6 +30,6 @@ returns-clause-accounts c =
     let world = c.args.world.now in
     let runs = c.args.runs.now in
     let game : World = world_of world in
-    let none : (player : ℕ) → sum_for (gained game (intents_of runs)) player ≡ 0 = none_gained game (counting game (intents_of runs)) in
+    let none : (player : ℕ) → gained book game (intents_of runs) player ≡ 0 = none_gained game (intents_of runs) in
     ap (λ (s : Stored). s.accounts) c.in_ok-push_accounted.ensures
     ∙ (λ i. map (λ (account : Account). account_after (sym (none account.player) i) account (run_of account.player runs)) world.accounts)

@@ -3,10 +3,11 @@ use Rattle.std.proofs.Common.{◌≡◌, ℕ, ◌+◌, ◌-◌, ◌==◌, min, B
 use Rattle.std.specs.List.{find}
 use Rattle.std.specs.Ordering.{nat_cmp}
 use Rattle.std.specs.Cmp.{nat_cmp_total}
-use Rattle.std.specs.FinMap.{get, put, entries, get-insert, get-from_entries, entries-insert}
+use Rattle.std.specs.FinMap.{get, put, insert, entries, get-insert, get-from_entries, entries-insert}
 use Rattle.object_store.specs.declared.object.Object.{Object}
 use Rattle.world_rules.specs.RoomParts.{RoomPart}
-use Rattle.world_rules.specs.Drops.{can_drop, dropped, dropped_by, dropped_of, fallen_on, is_pile_on, pile_bound, pile_of, pile_on, wanted_of, with_object}
+use Rattle.world_rules.specs.Drops.{can_drop, dropped, dropped_by, dropped_of, fallen, fallen_on, is_pile_on, pile_bound, pile_of, pile_on, wanted_of}
+use Rattle.world_rules.specs.Changes.{put as put_object, with_object}
 use Rattle.world_rules.specs.Examples.{Drops, DropsNothing, Grows, creep_with, drop_of, room_with}
 use Rattle.world_rules.proofs.Keys.{entries_of_sorted}
 use Rattle.world_rules.proofs.examples.drop_examples.Goals as goal
@@ -24,12 +25,19 @@ creep_alone load = get-from_entries nat_cmp_total ((3, creep_with load) ∷ []) 
 creep_with_pile : (energy : ℕ) → get (with_pile energy).objects 3 ≡ Some (creep_with 20)
 creep_with_pile energy = get-from_entries nat_cmp_total ((2, pile_of 2 30 30 energy) ∷ (3, creep_with 20) ∷ []) 3
 
+-- the part with an object under its id
+abbrev holding : Object → RoomPart → RoomPart
+holding object part = record part { objects = insert part.objects object.id object }
+
+held : (object old : Object) (part : RoomPart) → get part.objects object.id ≡ Some old → with_object object part ≡ holding object part
+held object old part is = ap (put_object object part) is
+
 -- the room once so much was taken of the creep
 abbrev taken : ℕ → ℕ → RoomPart → RoomPart
-taken load amount part = with_object (creep_with (load - amount)) part
+taken load amount part = holding (creep_with (load - amount)) part
 
 -- the pile of the tile, in a room of these objects from which so much was taken
-pile_then : (part : RoomPart) (es : List (ℕ × Object)) (load : ℕ) → entries part.objects ≡ es → pile_on 30 30 (with_object (creep_with load) part) ≡ find (is_pile_on 30 30) (map (λ entry. entry.1) (put nat_cmp 3 (creep_with load) es))
+pile_then : (part : RoomPart) (es : List (ℕ × Object)) (load : ℕ) → entries part.objects ≡ es → pile_on 30 30 (holding (creep_with load) part) ≡ find (is_pile_on 30 30) (map (λ entry. entry.1) (put nat_cmp 3 (creep_with load) es))
 pile_then part es load are =
     ap (λ (list : List (ℕ × Object)). find (is_pile_on 30 30) (map (λ entry. entry.1) list)) (entries-insert nat_cmp_total part.objects 3 (creep_with load) ∙ ap (put nat_cmp 3 (creep_with load)) are)
 
@@ -40,6 +48,7 @@ falls_so part load amount all found there some wanted falls lies =
     ap (λ (o : Option Object). dropped_of (drop_of 1 amount) o part) there
     ∙ ap (λ (b : Bool). if b then dropped_by (creep_with load) (wanted_of amount load) part else part) some
     ∙ ap (λ (n : ℕ). dropped_by (creep_with load) n part) wanted
+    ∙ ap (λ (p : RoomPart). fallen 30 30 all p) (held (creep_with (load - all)) (creep_with load) part there)
     ∙ ap (λ (b : Bool). if b then taken load all part else fallen_on (pile_on 30 30 (taken load all part)) 30 30 all (taken load all part)) falls
     ∙ ap (λ (o : Option Object). fallen_on o 30 30 all (taken load all part)) lies
 
@@ -61,7 +70,9 @@ grows energy amount all wanted falls =
     let pile : Object = pile_of 2 30 30 (min pile_bound (energy + all)) in
     let es : List (ℕ × Object) = (2, pile_of 2 30 30 energy) ∷ (3, creep_with 20) ∷ [] in
     let lies = pile_then (with_pile energy) es (20 - all) (entries_of_sorted es tt) in
-    let is = falls_so (with_pile energy) 20 amount all (Some (pile_of 2 30 30 energy)) (creep_with_pile energy) refl wanted falls lies in (
+    let after : RoomPart = taken 20 all (with_pile energy) in
+    let lying : get after.objects 2 ≡ Some (pile_of 2 30 30 energy) = get-insert nat_cmp_total (with_pile energy).objects 3 (creep_with (20 - all)) 2 ∙ get-from_entries nat_cmp_total es 2 in
+    let is = falls_so (with_pile energy) 20 amount all (Some (pile_of 2 30 30 energy)) (creep_with_pile energy) refl wanted falls lies ∙ held pile (pile_of 2 30 30 energy) after lying in (
       ap (λ (part : RoomPart). get part.objects 2) is ∙ get-insert nat_cmp_total (taken 20 all (with_pile energy)).objects 2 pile 2,
       ap (λ (part : RoomPart). part.next) is,
     )

@@ -10,5 +10,5 @@ returns-in-Some-clause-broken c =
     let draft = c.args.draft.now in
     let found = rw c.in-Some.is at c.in_ok-rule.ensures.broken in
     let rooms = ap (map viewed_room) c.deref-2.ensures.value ∙ c.in_ok-views.ensures.same ∙ ap (map drafted_room) c.deref.ensures.value in
-    let same : viewed c.deref-2.result.now c.deref-3.result.now draft.tick ≡ drafted draft = λ i. record { tick = draft.tick; rooms = rooms i; accounts = c.deref-3.ensures.value i } in
+    let same : viewed c.deref-2.result.now c.deref-3.result.now draft.tick ≡ drafted draft = λ i. record { rules = 1; tick = draft.tick; rooms = rooms i; accounts = c.deref-3.ensures.value i } in
     subst (λ (listing : Listing). IsFirstBroken c.in-Some.rule c.in-Some.number listing) same (found draft.tick)

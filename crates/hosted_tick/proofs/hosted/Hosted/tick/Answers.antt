@@ -2,7 +2,7 @@ use Rattle.std.proofs.Common.{◌≤◌, List, map, length, sym, ap, subst, ◌�
 use Rattle.std.specs.List.{AllByRecursion}
 use Rattle.game_tables.specs.Limits.{memory_bound}
 use Rattle.intent_book.specs.declared.player_run.PlayerRun.{PlayerRun}
-use Rattle.world_rules.specs.Tick.{gained, intents_of, next_world, sum_for}
+use Rattle.world_rules.specs.Tick.{book, gained, intents_of, next_world}
 use Rattle.world_rules.specs.World.{world_of}
 use Rattle.upload_stream.specs.Entries.{upload_of}
 use Rattle.hosted_tick.specs.Hosting.{Held, IsHosted}
@@ -24,4 +24,4 @@ returns-clause-hosted c =
     let hosted = subst (λ (h : Held). IsHosted h.world) (sym c.self.view_is) c.requires.hosted in
     let short = subst (AllByRecursion (λ (run : PlayerRun). length run.memory ≤ memory_bound)) (sym c.deref.ensures.value) c.in_ok-runs.ensures.short in
     let ensured = c.in_ok-after.ensures in
-    hosted_after world c.in_ok-after.after (sum_for (gained (world_of world) (intents_of runs))) runs hosted short ensured.sound ensured.rooms ensured.accounts
+    hosted_after world c.in_ok-after.after (gained book (world_of world) (intents_of runs)) runs hosted short ensured.sound ensured.rooms ensured.accounts

@@ -1,10 +1,11 @@
 // Energy that falls on a tile.
-ghost use Rattle.std.specs.Prelude.{◌≡◌, ℕ, ◌⊎◌, ◌≤◌, ◌<◌, ◌+◌, ◌-◌, ◌*◌, ◌^◌, min, List};
-ghost use Rattle.std.specs.List.{AllByRecursion, find};
+ghost use Rattle.std.specs.Prelude.{◌≡◌, ◌≤◌, ◌+◌, min, List};
+ghost use Rattle.std.specs.List.{find};
 ghost use Rattle.room_terrain.specs.declared.terrain.Ground.{Ground};
-ghost use Rattle.object_store.specs.Tables.{HasNoId, IsOnTile, IsRising};
+ghost use Rattle.object_store.specs.Tables.{IsRising};
 ghost use Rattle.world_rules.specs.RoomParts.{table_part};
 ghost use Rattle.world_rules.specs.Drops.{fallen, is_pile_on, pile_bound, pile_of};
+ghost use Rattle.room_rules.specs.Calls.{IsReady, Keeps};
 
 use game_tables::{Body, Kind, most_energy};
 use object_store::{Object, RoomTable};
@@ -15,17 +16,9 @@ use object_store::{Object, RoomTable};
 pub fn fall(room: &mut RoomTable, x: u8, y: u8, amount: u64)
     requires column { x ≤ 49 }
     requires row { y ≤ 49 }
-    requires tiles { AllByRecursion IsOnTile room.old.objects }
-    requires serial { room.old.next < 2 ^ 32 - 1 }
-    requires fresh { HasNoId (room.old.index * 2 ^ 32 + room.old.next) room.old.objects }
-    requires spare { 1 ≤ room.old.spare }
+    requires ready { IsReady room.old }
     ensures rule { (grounds : List Ground) → table_part grounds room.new ≡ fallen x y amount (table_part grounds room.old) }
-    ensures used { room.new.next + room.new.spare ≡ room.old.next + room.old.spare }
-    ensures made { room.new.next ≤ room.old.next + 1 }
-    ensures later { room.old.next ≤ room.new.next }
-    ensures tiles { AllByRecursion IsOnTile room.new.objects }
-    ensures index { room.new.index ≡ room.old.index }
-    ensures ids { (id : ℕ) → HasNoId id room.old.objects → HasNoId id room.new.objects ⊎ ((id ≡ room.old.index * 2 ^ 32 + room.old.next) × (room.new.next ≡ room.old.next + 1)) }
+    ensures keeps { Keeps room.old room.new }
 {
     if amount == 0 {
         return;

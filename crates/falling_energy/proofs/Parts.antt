@@ -1,20 +1,20 @@
 -- What changes of a room's table make of the room's part.
-use Rattle.std.proofs.Common.{◌≡◌, ℕ, ◌⊎◌, ◌+◌, ◌*◌, ◌^◌, ◌==◌, min, Bool, true, false, cond, if◌then◌else◌, nat_lt, List, [], ◌∷◌, ◌++◌, map, Option, Some, None, option_map, refl, sym, ap, ◌∙◌, inl, inr, arith}
+use Rattle.std.proofs.Common.{◌≡◌, ℕ, ◌⊎◌, ◌+◌, ◌*◌, ◌^◌, ◌<◌, ◌==◌, min, Bool, true, false, cond, if◌then◌else◌, nat_lt, List, [], ◌∷◌, ◌++◌, map, Option, Some, None, option_map, refl, sym, ap, ◌∙◌, inl, inr, arith}
 use Rattle.std.specs.List.{AllByRecursion, filter, find}
 use Rattle.std.specs.Option.{option_or}
 use Rattle.std.specs.Ordering.{nat_cmp, eq_by_cmp}
 use Rattle.std.specs.Cmp.{nat_cmp_total, unsigned_tied}
 use Rattle.std.specs.FinMap.{FinMap, get, insert, from_entries, get-insert, get-from_entries, same_map, nat_cmp-IsAntisymmetric}
 use Rattle.std.specs.FinMap.{find as find_key}
-use Rattle.std.proofs.lemmas.Bool.{eq-eqb, ne_eqb, cases_eq, le-ltb}
+use Rattle.std.proofs.lemmas.Bool.{eq-eqb, ne_eqb, cases_eq, lt-ltb, le-ltb}
 use Rattle.room_terrain.specs.declared.terrain.Ground.{Ground}
 use Rattle.object_store.specs.declared.object.Object.{Object}
 use Rattle.object_store.specs.Tables.{Table, IsRising, IsOnTile, HasId, HasNoId, find_object, with_object, with_new}
 use Rattle.world_rules.specs.RoomParts.{RoomPart, table_part}
 use Rattle.world_rules.specs.Drops.{is_pile_on, pile_on, pile_of, pile_bound, fallen, fallen_on}
-use Rattle.world_rules.specs.Drops.{with_object as with_in_part}
+use Rattle.world_rules.specs.Changes.{put, with_object as with_in_part}
 use Rattle.world_rules.proofs.Keys.{keyed, table_sorted, entries_of_sorted, values_of}
-use Rattle.creep_logistics.proofs.Piles.{found_by_id}
+use Rattle.falling_energy.proofs.Piles.{found_by_id}
 
 abbrev id_of : Object → ℕ
 id_of object = object.id
@@ -121,25 +121,31 @@ finds_new object objects q =
 
 -- ---- a room's part
 
+-- the part with an object under its id
+abbrev pub put_in_part : Object → RoomPart → RoomPart
+put_in_part object part = record part { objects = insert part.objects object.id object }
+
 -- the table with these objects
 abbrev holding : Table → List Object → Table
 holding table objects = record table { objects = objects }
 
-part_finds : (grounds : List Ground) (table : Table) (object : Object) (objects : List Object) → Finds objects object table.objects → table_part grounds (holding table objects) ≡ with_in_part object (table_part grounds table)
+part_finds : (grounds : List Ground) (table : Table) (object : Object) (objects : List Object) → Finds objects object table.objects → table_part grounds (holding table objects) ≡ put_in_part object (table_part grounds table)
 part_finds grounds table object objects finds =
     let before : FinMap nat_cmp Object = from_entries (keyed id_of table.objects) in
     let same = same_map nat_cmp_total nat_cmp-IsAntisymmetric (from_entries (keyed id_of objects)) (insert before object.id object) (λ q.
     get_keyed q objects
     ∙ finds q
     ∙ sym (get-insert nat_cmp_total before object.id object q ∙ (λ i. cond (tied q object.id i) (Some object) (get_keyed q table.objects i)))) in
-    λ i. record { index = table.index; grounds = grounds; next = table.next; objects = same i }
+    λ i. record { rules = 1; index = table.index; grounds = grounds; next = table.next; objects = same i }
 
 -- To put an object in the place of that of its id is to put it into the part.
 pub part_replaced : (grounds : List Ground) (table : Table) (object : Object) → HasId object.id table.objects → table_part grounds (record table { objects = with_object object table.objects }) ≡ with_in_part object (table_part grounds table)
-part_replaced grounds table object has = part_finds grounds table object (with_object object table.objects) (finds_replaced object table.objects has)
+part_replaced grounds table object has =
+    part_finds grounds table object (with_object object table.objects) (finds_replaced object table.objects has)
+    ∙ sym (ap (put object (table_part grounds table)) (get_table_part grounds table object.id ∙ has.1))
 
 -- To add an object is to put it into the part.
-pub part_new : (grounds : List Ground) (table : Table) (object : Object) → table_part grounds (record table { objects = with_new object table.objects }) ≡ with_in_part object (table_part grounds table)
+pub part_new : (grounds : List Ground) (table : Table) (object : Object) → table_part grounds (record table { objects = with_new object table.objects }) ≡ put_in_part object (table_part grounds table)
 part_new grounds table object = part_finds grounds table object (with_new object table.objects) (finds_new object table.objects)
 
 -- the pile of a tile, in a room's part
@@ -207,8 +213,10 @@ module _ (grounds : List Ground) (table : Table) (x y amount : ℕ) (rise : IsRi
       ∙ sym (falls_on (Some pile) is)
 
   -- A pile is made.
-  pub fallen_made : (spare : ℕ) → find (is_pile_on x y) table.objects ≡ None
+  pub fallen_made : (spare : ℕ) → table.next < 2 ^ 32 → find (is_pile_on x y) table.objects ≡ None
       → table_part grounds (record table { next = table.next + 1; objects = with_new (pile_of (table.index * 2 ^ 32 + table.next) x y (min pile_bound amount)) table.objects; spare = spare }) ≡ fallen x y amount (table_part grounds table)
-  fallen_made spare is =
+  fallen_made spare room is =
+      let more : RoomPart = put_in_part (pile_of (table.index * 2 ^ 32 + table.next) x y (min pile_bound amount)) (record (table_part grounds table) { next = table.next + 1 }) in
       ap (λ (part : RoomPart). record part { next = table.next + 1 }) (part_new grounds table (pile_of (table.index * 2 ^ 32 + table.next) x y (min pile_bound amount)))
+      ∙ sym (ap (λ (b : Bool). if b then more else table_part grounds table) (lt-ltb table.next (2 ^ 32) room))
       ∙ sym (falls_on None is)

@@ -1,7 +1,7 @@
 use Rattle.std.proofs.Common.{sym, subst, ◌∙◌}
 use Rattle.object_store.specs.Tables.{IsRising}
-use Rattle.creep_logistics.proofs.Piles.{pile_by_id}
-use Rattle.creep_logistics.proofs.falls.pile_on.Goals as goal
+use Rattle.falling_energy.proofs.Piles.{pile_by_id}
+use Rattle.falling_energy.proofs.falls.pile_on.Goals as goal
 
 pub returns-clause-found : goal.returns-clause-found
 returns-clause-found c =

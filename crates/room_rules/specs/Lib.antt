@@ -1,0 +1,4 @@
+pub mod Within
+pub mod RoomRules
+pub mod Followed
+pub mod Calls

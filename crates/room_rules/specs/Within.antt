@@ -1,0 +1,46 @@
+-- The ranges of fields within a tick, where they are wider than between ticks.
+use Rattle.std.specs.Prelude.{◌≡◌, ◌≢◌, ◌≤◌, Bool, true, false, [], length}
+use Rattle.game_tables.specs.Bodies.{parts_bound}
+use Rattle.game_tables.specs.Fields.{energy_bound, timer_bound, extra_bound, other_ticks_bound}
+use Rattle.game_tables.specs.Kinds.{most_hits}
+use Rattle.game_tables.specs.Levels.{downgrade_at, total_at}
+use Rattle.game_tables.specs.declared.kind.Kind.{Kind}
+use Rattle.game_tables.specs.declared.kind.Kind.TheVariants.{Creep, Controller}
+use Rattle.object_store.specs.declared.object.Object.{Object}
+use Rattle.world_rules.specs.Rules.{IsFrom1To, IsProgress, IsDowngradeTimer, IsCreep, IsController, IsInRangeAs}
+
+-- A creep may have lost all its hits, its load may be above what its live parts carry but not above what all
+-- do, and it keeps whether it moved.
+pub record IsCreepWithin (object : Object) : Type 0 where
+  pub owner : 1 ≤ object.owner
+  pub hits : object.hits ≤ most_hits Creep object.body
+  pub energy : object.energy ≤ energy_bound Creep (most_hits Creep object.body) object.body
+  pub timer : IsFrom1To (timer_bound Creep object.extra object.body) object.timer
+  pub extra : object.extra ≤ extra_bound Creep
+  pub progress : object.progress ≡ 0
+  pub other : object.other ≡ 0
+  pub other_ticks : object.other_ticks ≤ 1
+  pub some_parts : 1 ≤ length object.body
+  pub parts : length object.body ≤ parts_bound
+
+-- A controller with an owner keeps what it was upgraded by.
+pub record IsControllerWithin (object : Object) : Type 0 where
+  pub unowned : object.owner ≡ 0 → object.extra ≡ 0
+  pub owned : object.owner ≢ 0 → 1 ≤ object.extra
+  pub hits : object.hits ≡ 0
+  pub energy : object.energy ≡ 0
+  pub timer : IsDowngradeTimer (downgrade_at object.extra) object.timer
+  pub extra : object.extra ≤ extra_bound Controller
+  pub progress : IsProgress (total_at object.extra) object.progress
+  pub other : object.other ≢ 0 → object.extra ≡ 0
+  pub free : object.owner ≡ 0 → object.other ≡ 0 → object.other_ticks ≡ 0
+  pub reserved : object.other ≢ 0 → IsFrom1To (other_ticks_bound Controller) object.other_ticks
+  pub body : object.body ≡ []
+
+-- The fields are in the kind's ranges: of those within a tick, or of those between ticks.
+abbrev pub IsInRangeIn : Kind → Bool → Object → Type 0
+IsInRangeIn Creep true object = IsCreepWithin object
+IsInRangeIn Creep false object = IsCreep object
+IsInRangeIn Controller true object = IsControllerWithin object
+IsInRangeIn Controller false object = IsController object
+IsInRangeIn kind within object = IsInRangeAs kind object
