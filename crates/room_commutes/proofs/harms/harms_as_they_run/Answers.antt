@@ -1,0 +1,10 @@
+use Rattle.world_rules.specs.Intents.{all_actions, kept}
+use Rattle.world_rules.specs.Tick.{begun}
+use Rattle.room_commutes.proofs.Harmed.{running_is, running_all}
+use Rattle.room_commutes.proofs.harms.harms_as_they_run.Goals as goal
+
+pub returns : goal.returns
+returns c = record {
+  kind = λ book before list course orderly used leave. running_is book orderly before list course used leave;
+  all = λ book world list orderly used leave. running_all book orderly world all_actions (kept world list) (begun world) used leave;
+}
