@@ -3,7 +3,7 @@ use Rattle.std.proofs.Common.{◌≡◌, ℕ, ◌+◌, ◌-◌, ◌≤◌, ℤ, 
 use Rattle.std.proofs.lemmas.List.{append_cancel_left, take_rest, drop-drop, drop_at}
 use Rattle.byte_fields.specs.Front.{Begins, BeginsOnly, BeginsNone}
 use Rattle.byte_fields.specs.Leb.{SpellsUnsigned, SpellsSigned}
-use Rattle.byte_fields.specs.Texts.{LebText}
+use Rattle.byte_fields.specs.inner.Texts.{LebText}
 use Rattle.byte_fields.proofs.Texts.{text_one}
 use Rattle.byte_fields.proofs.Unsigned.{unsigned_text, unsigned_one, unsigned_most}
 use Rattle.byte_fields.proofs.Signed.{signed_text, signed_one, signed_most}

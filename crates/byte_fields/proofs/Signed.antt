@@ -5,7 +5,7 @@ use Rattle.std.proofs.lemmas.Int.{ints, to_z-of_z, to_z_pos}
 use Rattle.std.proofs.Math.Pow.{pow_mono}
 use Rattle.std.proofs.lemmas.List.{drop_more}
 use Rattle.byte_fields.specs.Leb.{SpellsSigned, signed_last, signed_negative, signed_more}
-use Rattle.byte_fields.specs.Texts.{LebText, text_last, text_more}
+use Rattle.byte_fields.specs.inner.Texts.{LebText, text_last, text_more}
 use Rattle.byte_fields.proofs.Texts.{text_some, text_before, text_one}
 
 -- what is spelled is a text

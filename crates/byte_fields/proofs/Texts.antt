@@ -1,7 +1,7 @@
 -- The texts of LEB128 numbers of any width.
 use Rattle.std.proofs.Common.{◌≡◌, ℕ, zero, suc, ◌+◌, ◌-◌, ◌<◌, ◌≤◌, List, [], ◌∷◌, ◌++◌, length, take, drop, ap, ◌∙◌, arith, get_or, add-one, min, length-append}
 use Rattle.std.proofs.lemmas.List.{drop_all, drop_more, get_or_append_left}
-use Rattle.byte_fields.specs.Texts.{LebText, text_last, text_more}
+use Rattle.byte_fields.specs.inner.Texts.{LebText, text_last, text_more}
 
 -- a text has a byte
 pub text_some : {text : List ℕ} → LebText text → 0 < length text

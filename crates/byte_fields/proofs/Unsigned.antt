@@ -4,7 +4,7 @@ use Rattle.std.proofs.lemmas.Nat.{pow-add}
 use Rattle.std.proofs.Math.Pow.{pow_mono}
 use Rattle.std.proofs.lemmas.List.{drop_more}
 use Rattle.byte_fields.specs.Leb.{SpellsUnsigned, unsigned_last, unsigned_more}
-use Rattle.byte_fields.specs.Texts.{LebText, text_last, text_more}
+use Rattle.byte_fields.specs.inner.Texts.{LebText, text_last, text_more}
 use Rattle.byte_fields.proofs.Texts.{text_some, text_end, text_before, text_one, drop_last}
 
 -- what is spelled is a text

@@ -1,3 +1,3 @@
 pub mod Front
 pub mod Leb
-pub mod Texts
+pub mod inner

@@ -1,7 +1,7 @@
 // The text of a LEB128 number, and the number that it spells.
 ghost use Rattle.std.specs.Prelude.{◌≡◌, ℕ, ◌+◌, ◌-◌, ◌*◌, ◌^◌, ◌<◌, ◌≤◌, List, [], ◌∷◌, ◌++◌, ℤ, length, IfSome, IfNone};
 ghost use Rattle.byte_fields.specs.Leb.{SpellsSigned, SpellsUnsigned};
-ghost use Rattle.byte_fields.specs.Texts.{LebText};
+ghost use Rattle.byte_fields.specs.inner.Texts.{LebText};
 
 // The bytes up to the first with its high bit clear, which ends a LEB128 number, if it is among the
 // first so many.
@@ -9,7 +9,8 @@ pub(crate) fn leb_text(bytes: &[u8], most: usize) -> Option<&[u8]>
     ensures whole { IfSome result (λ text. LebText text.now) }
     ensures front { IfSome result (λ text. (rest : List ℕ) × (bytes.entry.now ≡ text.now ++ rest)) }
     ensures most { IfSome result (λ text. length text.now ≤ most) }
-    ensures none { IfNone result ((text rest : List ℕ) → LebText text → length text ≤ most → bytes.entry.now ≡ text ++ rest → ⊥) }
+    ensures none { IfNone result ((text rest : List ℕ) → LebText text → length text ≤ most
+        → bytes.entry.now ≡ text ++ rest → ⊥) }
 {
     for last in 0..bytes.len().min(most) {
         if bytes[last] < 0x80 {

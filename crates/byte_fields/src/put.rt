@@ -32,8 +32,10 @@ pub fn put_u64(out: &mut Vec<u8>, value: u64) -> Result<(), NoMemory>
 /// Writes a number of 32 bits in unsigned LEB128, as few bytes as spell it: WebAssembly Core 1.0,
 /// chapter 5.2.2.
 pub fn put_leb_u32(out: &mut Vec<u8>, value: u32) -> Result<(), NoMemory>
-    ensures written { OnOk result ((text : List ℕ) × SpellsShortest (SpellsUnsigned 32) text value × (out.new.items ≡ out.old.items ++ text)) }
-    ensures only { OnOk result ((text : List ℕ) → SpellsShortest (SpellsUnsigned 32) text value → out.new.items ≡ out.old.items ++ text) }
+    ensures written { OnOk result ((text : List ℕ) × SpellsShortest (SpellsUnsigned 32) text value
+        × (out.new.items ≡ out.old.items ++ text)) }
+    ensures only { OnOk result ((text : List ℕ) → SpellsShortest (SpellsUnsigned 32) text value
+        → out.new.items ≡ out.old.items ++ text) }
     ensures unchanged { OnErr result (out.new.items ≡ out.old.items) }
     ensures full { OnErr result (vec_capacity out.old < vec_len out.old + 5) }
 {
@@ -45,8 +47,10 @@ pub fn put_leb_u32(out: &mut Vec<u8>, value: u32) -> Result<(), NoMemory>
 /// Writes a number of 64 bits in signed LEB128, as few bytes as spell it: WebAssembly Core 1.0,
 /// chapter 5.2.2.
 pub fn put_leb_s64(out: &mut Vec<u8>, value: i64) -> Result<(), NoMemory>
-    ensures written { OnOk result ((text : List ℕ) × SpellsShortest (SpellsSigned 64) text value × (out.new.items ≡ out.old.items ++ text)) }
-    ensures only { OnOk result ((text : List ℕ) → SpellsShortest (SpellsSigned 64) text value → out.new.items ≡ out.old.items ++ text) }
+    ensures written { OnOk result ((text : List ℕ) × SpellsShortest (SpellsSigned 64) text value
+        × (out.new.items ≡ out.old.items ++ text)) }
+    ensures only { OnOk result ((text : List ℕ) → SpellsShortest (SpellsSigned 64) text value
+        → out.new.items ≡ out.old.items ++ text) }
     ensures unchanged { OnErr result (out.new.items ≡ out.old.items) }
     ensures full { OnErr result (vec_capacity out.old < vec_len out.old + 10) }
 {
@@ -59,7 +63,8 @@ pub fn put_leb_s64(out: &mut Vec<u8>, value: i64) -> Result<(), NoMemory>
 fn shortest_unsigned(value: u32, text: &mut [u8]) -> usize
     requires { length text.old ≡ 5 }
     ensures shortest { SpellsShortest (SpellsUnsigned 32) (take result text.new) value }
-    ensures only { (other : List ℕ) → SpellsShortest (SpellsUnsigned 32) other value → other ≡ take result text.new }
+    ensures only { (other : List ℕ) → SpellsShortest (SpellsUnsigned 32) other value
+        → other ≡ take result text.new }
     ensures within { result ≤ 5 }
 {
     let mut last = 0;
@@ -77,7 +82,8 @@ fn shortest_unsigned(value: u32, text: &mut [u8]) -> usize
 fn shortest_signed(value: i64, text: &mut [u8]) -> usize
     requires { length text.old ≡ 10 }
     ensures shortest { SpellsShortest (SpellsSigned 64) (take result text.new) value }
-    ensures only { (other : List ℕ) → SpellsShortest (SpellsSigned 64) other value → other ≡ take result text.new }
+    ensures only { (other : List ℕ) → SpellsShortest (SpellsSigned 64) other value
+        → other ≡ take result text.new }
     ensures within { result ≤ 10 }
 {
     let mut last = 0;

@@ -2,7 +2,7 @@
 use Rattle.std.proofs.Common.{◌≡◌, ℕ, ◌+◌, ◌-◌, ◌<◌, ◌≤◌, List, [], ◌∷◌, ◌++◌, length, get_or, set, take, drop, reverse, replicate, inl, inr, refl, ap, sym, subst, ◌∙◌, arith}
 use Rattle.std.proofs.lemmas.Bool.{cases_lt}
 use Rattle.call_frames.specs.Stack.{pushed, entered, left, cut}
-use Rattle.call_frames.specs.View.{cells, slot_at, local_at, locals_of, operands_of, waiting_of, all_waiting, stack_of, IsSpan, Chain, IsSound}
+use Rattle.call_frames.specs.inner.View.{cells, slot_at, local_at, locals_of, operands_of, waiting_of, all_waiting, stack_of, IsSpan, Chain, IsSound}
 use Rattle.call_frames.specs.declared.values.Span.{Span}
 use Rattle.call_frames.proofs.Cells.{cells_same, cells_append, cells_all}
 use Rattle.call_frames.proofs.Slots.{Reached, slot_is, local_near, local_zero}

@@ -2,7 +2,7 @@
 use Rattle.std.proofs.Common.{◌≡◌, ℕ, ◌+◌, ◌-◌, ◌<◌, ◌≤◌, ◌≢◌, Bool, true, false, cond, List, [], ◌∷◌, ◌++◌, reverse, length, get_or, set, take, drop, refl, ap, sym, ◌∙◌, arith, get_or-set_other, get_or-set_same}
 use Rattle.std.proofs.lemmas.List.{length-set, get_or_push}
 use Rattle.call_frames.specs.Stack.{Stack, pushed, without, replaced, with_local}
-use Rattle.call_frames.specs.View.{cells, slot_at, local_at, locals_of, operands_of, stack_of, IsSpan, IsSound}
+use Rattle.call_frames.specs.inner.View.{cells, slot_at, local_at, locals_of, operands_of, stack_of, IsSpan, IsSound}
 use Rattle.call_frames.specs.declared.values.Span.{Span}
 use Rattle.call_frames.proofs.Cells.{cells_set, cells_at, cells_part, stack_same, stack_at, stack_drop, stack_take, stack_reverse}
 use Rattle.call_frames.proofs.Slots.{SameBelow, same_all, same_set, same_more, slot_same, slot_is, local_same}

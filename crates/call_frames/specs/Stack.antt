@@ -1,4 +1,5 @@
--- What contracts see: the locals and operands of the frame that runs, and of the frames that wait for it, the nearest first.
+-- What contracts see: the locals and operands of the frame that runs, and of the frames that wait for it, the
+-- nearest first.
 -- Locals stand by their index, operands with the top FIRST.
 use Rattle.std.specs.Prelude.{ℕ, ◌+◌, ◌-◌, List, [], ◌∷◌, ◌++◌, length, take, drop, reverse, replicate, slice_set}
 use Rattle.std.specs.List.{sum_by}
@@ -15,7 +16,9 @@ pub record Stack : Type 0 where
 
 -- how many locals and operands stand together
 abbrev pub size : Stack → ℕ
-size stack = length stack.locals + length stack.operands + sum_by (λ frame. length frame.locals + length frame.operands) stack.waiting
+size stack =
+    length stack.locals + length stack.operands
+    + sum_by (λ frame. length frame.locals + length frame.operands) stack.waiting
 
 -- one frame with nothing in it
 abbrev pub empty : Stack
@@ -46,7 +49,8 @@ entered params more stack = record {
 -- back in the frame that waits, with these on its operands
 abbrev pub onto : List ℕ → List Waiting → Stack → Stack
 onto results [] stack = stack
-onto results (frame ∷ frames) stack = record { locals = frame.locals; operands = results ++ frame.operands; waiting = frames }
+onto results (frame ∷ frames) stack =
+    record { locals = frame.locals; operands = results ++ frame.operands; waiting = frames }
 
 -- back in the frame that waits, with the top operands as results
 abbrev pub left : ℕ → Stack → Stack
@@ -54,4 +58,8 @@ left results stack = onto (take results stack.operands) stack.waiting stack
 
 -- the lowest operands, so many, with the top ones put on them
 abbrev pub cut : ℕ → ℕ → Stack → Stack
-cut height results stack = record stack { operands = take results stack.operands ++ drop (length stack.operands - height) stack.operands }
+cut height results stack =
+    record stack {
+      operands = take results stack.operands
+          ++ drop (length stack.operands - height) stack.operands;
+    }

@@ -31,7 +31,8 @@ fn lengthen(numbers: &mut Vec<u64>, count: usize)
 pub fn append(numbers: &mut Vec<u64>, value: u64, most: usize) -> bool
     requires { most ≤ vec_capacity numbers.old }
     ensures room { IsTrue result ↔ (length numbers.old.items < most) }
-    ensures items { numbers.new.items ≡ (if result then numbers.old.items ++ value ∷ [] else numbers.old.items) }
+    ensures items { numbers.new.items ≡ (if result then numbers.old.items ++ value ∷ []
+        else numbers.old.items) }
     ensures capacity { vec_capacity numbers.new ≡ vec_capacity numbers.old }
 {
     if numbers.len() >= most {
@@ -46,8 +47,10 @@ pub fn clear(numbers: &mut [u64], from: usize, to: usize)
     requires order { from ≤ to }
     requires within { to ≤ length numbers.old }
     ensures cleared { (place : ℕ) → from ≤ place → place < to → slice_index numbers.new place ≡ 0 }
-    ensures below { (place : ℕ) → place < from → slice_index numbers.new place ≡ slice_index numbers.old place }
-    ensures behind { (place : ℕ) → to ≤ place → slice_index numbers.new place ≡ slice_index numbers.old place }
+    ensures below { (place : ℕ) → place < from
+        → slice_index numbers.new place ≡ slice_index numbers.old place }
+    ensures behind { (place : ℕ) → to ≤ place
+        → slice_index numbers.new place ≡ slice_index numbers.old place }
 {
     for place in from..to {
         numbers[place] = 0;

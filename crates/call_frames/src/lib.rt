@@ -1,4 +1,5 @@
-// The locals and operands of all call frames of a stack machine, in one array. A call takes the same time whatever its locals.
+// The locals and operands of all call frames of a stack machine, in one array. A call takes the same time
+// whatever its locals.
 #![tactic(auto)]
 
 mod arrays;

@@ -38,7 +38,7 @@ pub struct Values {
 
 impl Model for Values {
     ghost use Rattle.call_frames.specs.Stack.{Stack};
-    ghost use Rattle.call_frames.specs.View.{stack_view, Invariant};
+    ghost use Rattle.call_frames.specs.inner.View.{stack_view, Invariant};
 
     ghost Value = { Stack };
 

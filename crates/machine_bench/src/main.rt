@@ -1,4 +1,5 @@
-// Runs a module of a file with a budget of instructions, where no host answers, and prints how it ended: for the benchmark of the machine.
+// Runs a module of a file with a budget of instructions, where no host answers, and prints how it ended: for
+// the benchmark of the machine.
 #![tactic(auto)]
 
 use std::alloc::Global;

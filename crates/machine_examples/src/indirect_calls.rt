@@ -4,45 +4,102 @@ use crate::rows::{EMPTY_ENTRY, FINISHED, TABLE_BOUNDS, UNREACHABLE, WRONG_TYPE, 
 use std::test::Fail;
 
 const INDIRECT_CALLS: [&[u8]; 20] = [
-    // each entry: (type $number (func (result i32))) (table 5 funcref) (elem (i32.const 0) $a $b $c) (func $a (result i32) (i32.const 10)) (func $b (result i32) (i32.const 20)) (func $c (result i32) (i32.const 30)) (func (export "loop") (call $see32 (call_indirect (type $number) (i32.const 0))) (call $see32 (call_indirect (type $number) (i32.const 1))) (call $see32 (call_indirect (type $number) (i32.const 2))))
+    // each entry: (type $number (func (result i32))) (table 5 funcref) (elem (i32.const 0) $a $b $c) (func $a
+    // (result i32) (i32.const 10)) (func $b (result i32) (i32.const 20)) (func $c (result i32) (i32.const
+    // 30)) (func (export "loop") (call $see32 (call_indirect (type $number) (i32.const 0))) (call $see32
+    // (call_indirect (type $number) (i32.const 1))) (call $see32 (call_indirect (type $number) (i32.const
+    // 2))))
     b"\x01\x0c\x03\x60\x00\x01\x7f\x60\x01\x7f\x00\x60\x00\x00\x02\x11\x01\x07\x73\x63\x72\x65\x65\x70\x73\x05\x73\x65\x65\x33\x32\x00\x01\x03\x05\x04\x00\x00\x00\x02\x04\x04\x01\x70\x00\x05\x07\x08\x01\x04\x6c\x6f\x6f\x70\x00\x04\x09\x09\x01\x00\x41\x00\x0b\x03\x01\x02\x03\x0a\x28\x04\x04\x00\x41\x0a\x0b\x04\x00\x41\x14\x0b\x04\x00\x41\x1e\x0b\x17\x00\x41\x00\x11\x00\x00\x10\x00\x41\x01\x11\x00\x00\x10\x00\x41\x02\x11\x00\x00\x10\x00\x0b",
-    // an empty entry: (type $number (func (result i32))) (table 5 funcref) (elem (i32.const 0) $a $b $c) (func $a (result i32) (i32.const 10)) (func $b (result i32) (i32.const 20)) (func $c (result i32) (i32.const 30)) (func (export "loop") (call $see32 (call_indirect (type $number) (i32.const 2))) (call $see32 (call_indirect (type $number) (i32.const 3))))
+    // an empty entry: (type $number (func (result i32))) (table 5 funcref) (elem (i32.const 0) $a $b $c)
+    // (func $a (result i32) (i32.const 10)) (func $b (result i32) (i32.const 20)) (func $c (result i32)
+    // (i32.const 30)) (func (export "loop") (call $see32 (call_indirect (type $number) (i32.const 2))) (call
+    // $see32 (call_indirect (type $number) (i32.const 3))))
     b"\x01\x0c\x03\x60\x00\x01\x7f\x60\x01\x7f\x00\x60\x00\x00\x02\x11\x01\x07\x73\x63\x72\x65\x65\x70\x73\x05\x73\x65\x65\x33\x32\x00\x01\x03\x05\x04\x00\x00\x00\x02\x04\x04\x01\x70\x00\x05\x07\x08\x01\x04\x6c\x6f\x6f\x70\x00\x04\x09\x09\x01\x00\x41\x00\x0b\x03\x01\x02\x03\x0a\x21\x04\x04\x00\x41\x0a\x0b\x04\x00\x41\x14\x0b\x04\x00\x41\x1e\x0b\x10\x00\x41\x02\x11\x00\x00\x10\x00\x41\x03\x11\x00\x00\x10\x00\x0b",
-    // the last entry is empty: (type $number (func (result i32))) (table 5 funcref) (elem (i32.const 0) $a $b $c) (func $a (result i32) (i32.const 10)) (func $b (result i32) (i32.const 20)) (func $c (result i32) (i32.const 30)) (func (export "loop") (call $see32 (call_indirect (type $number) (i32.const 0))) (call $see32 (call_indirect (type $number) (i32.const 4))))
+    // the last entry is empty: (type $number (func (result i32))) (table 5 funcref) (elem (i32.const 0) $a $b
+    // $c) (func $a (result i32) (i32.const 10)) (func $b (result i32) (i32.const 20)) (func $c (result i32)
+    // (i32.const 30)) (func (export "loop") (call $see32 (call_indirect (type $number) (i32.const 0))) (call
+    // $see32 (call_indirect (type $number) (i32.const 4))))
     b"\x01\x0c\x03\x60\x00\x01\x7f\x60\x01\x7f\x00\x60\x00\x00\x02\x11\x01\x07\x73\x63\x72\x65\x65\x70\x73\x05\x73\x65\x65\x33\x32\x00\x01\x03\x05\x04\x00\x00\x00\x02\x04\x04\x01\x70\x00\x05\x07\x08\x01\x04\x6c\x6f\x6f\x70\x00\x04\x09\x09\x01\x00\x41\x00\x0b\x03\x01\x02\x03\x0a\x21\x04\x04\x00\x41\x0a\x0b\x04\x00\x41\x14\x0b\x04\x00\x41\x1e\x0b\x10\x00\x41\x00\x11\x00\x00\x10\x00\x41\x04\x11\x00\x00\x10\x00\x0b",
-    // past the end of the table: (type $number (func (result i32))) (table 5 funcref) (elem (i32.const 0) $a $b $c) (func $a (result i32) (i32.const 10)) (func $b (result i32) (i32.const 20)) (func $c (result i32) (i32.const 30)) (func (export "loop") (call $see32 (call_indirect (type $number) (i32.const 1))) (call $see32 (call_indirect (type $number) (i32.const 5))))
+    // past the end of the table: (type $number (func (result i32))) (table 5 funcref) (elem (i32.const 0) $a
+    // $b $c) (func $a (result i32) (i32.const 10)) (func $b (result i32) (i32.const 20)) (func $c (result
+    // i32) (i32.const 30)) (func (export "loop") (call $see32 (call_indirect (type $number) (i32.const 1)))
+    // (call $see32 (call_indirect (type $number) (i32.const 5))))
     b"\x01\x0c\x03\x60\x00\x01\x7f\x60\x01\x7f\x00\x60\x00\x00\x02\x11\x01\x07\x73\x63\x72\x65\x65\x70\x73\x05\x73\x65\x65\x33\x32\x00\x01\x03\x05\x04\x00\x00\x00\x02\x04\x04\x01\x70\x00\x05\x07\x08\x01\x04\x6c\x6f\x6f\x70\x00\x04\x09\x09\x01\x00\x41\x00\x0b\x03\x01\x02\x03\x0a\x21\x04\x04\x00\x41\x0a\x0b\x04\x00\x41\x14\x0b\x04\x00\x41\x1e\x0b\x10\x00\x41\x01\x11\x00\x00\x10\x00\x41\x05\x11\x00\x00\x10\x00\x0b",
-    // an index of -1: (type $number (func (result i32))) (table 5 funcref) (elem (i32.const 0) $a $b $c) (func $a (result i32) (i32.const 10)) (func $b (result i32) (i32.const 20)) (func $c (result i32) (i32.const 30)) (func (export "loop") (call $see32 (call_indirect (type $number) (i32.const 0))) (call $see32 (call_indirect (type $number) (i32.const -1))))
+    // an index of -1: (type $number (func (result i32))) (table 5 funcref) (elem (i32.const 0) $a $b $c)
+    // (func $a (result i32) (i32.const 10)) (func $b (result i32) (i32.const 20)) (func $c (result i32)
+    // (i32.const 30)) (func (export "loop") (call $see32 (call_indirect (type $number) (i32.const 0))) (call
+    // $see32 (call_indirect (type $number) (i32.const -1))))
     b"\x01\x0c\x03\x60\x00\x01\x7f\x60\x01\x7f\x00\x60\x00\x00\x02\x11\x01\x07\x73\x63\x72\x65\x65\x70\x73\x05\x73\x65\x65\x33\x32\x00\x01\x03\x05\x04\x00\x00\x00\x02\x04\x04\x01\x70\x00\x05\x07\x08\x01\x04\x6c\x6f\x6f\x70\x00\x04\x09\x09\x01\x00\x41\x00\x0b\x03\x01\x02\x03\x0a\x21\x04\x04\x00\x41\x0a\x0b\x04\x00\x41\x14\x0b\x04\x00\x41\x1e\x0b\x10\x00\x41\x00\x11\x00\x00\x10\x00\x41\x7f\x11\x00\x00\x10\x00\x0b",
-    // an index of the upper half: (type $number (func (result i32))) (table 5 funcref) (elem (i32.const 0) $a $b $c) (func $a (result i32) (i32.const 10)) (func $b (result i32) (i32.const 20)) (func $c (result i32) (i32.const 30)) (func (export "loop") (call $see32 (call_indirect (type $number) (i32.const 0))) (call $see32 (call_indirect (type $number) (i32.const -0x80000000))))
+    // an index of the upper half: (type $number (func (result i32))) (table 5 funcref) (elem (i32.const 0) $a
+    // $b $c) (func $a (result i32) (i32.const 10)) (func $b (result i32) (i32.const 20)) (func $c (result
+    // i32) (i32.const 30)) (func (export "loop") (call $see32 (call_indirect (type $number) (i32.const 0)))
+    // (call $see32 (call_indirect (type $number) (i32.const -0x80000000))))
     b"\x01\x0c\x03\x60\x00\x01\x7f\x60\x01\x7f\x00\x60\x00\x00\x02\x11\x01\x07\x73\x63\x72\x65\x65\x70\x73\x05\x73\x65\x65\x33\x32\x00\x01\x03\x05\x04\x00\x00\x00\x02\x04\x04\x01\x70\x00\x05\x07\x08\x01\x04\x6c\x6f\x6f\x70\x00\x04\x09\x09\x01\x00\x41\x00\x0b\x03\x01\x02\x03\x0a\x25\x04\x04\x00\x41\x0a\x0b\x04\x00\x41\x14\x0b\x04\x00\x41\x1e\x0b\x14\x00\x41\x00\x11\x00\x00\x10\x00\x41\x80\x80\x80\x80\x78\x11\x00\x00\x10\x00\x0b",
-    // a table of no entries: (type $none (func)) (table 0 funcref) (func (export "loop") (call $mark (i32.const 9)) (call_indirect (type $none) (i32.const 0)))
+    // a table of no entries: (type $none (func)) (table 0 funcref) (func (export "loop") (call $mark
+    // (i32.const 9)) (call_indirect (type $none) (i32.const 0)))
     b"\x01\x08\x02\x60\x00\x00\x60\x01\x7f\x00\x02\x10\x01\x07\x73\x63\x72\x65\x65\x70\x73\x04\x6d\x61\x72\x6b\x00\x01\x03\x02\x01\x00\x04\x04\x01\x70\x00\x00\x07\x08\x01\x04\x6c\x6f\x6f\x70\x00\x01\x0a\x0d\x01\x0b\x00\x41\x09\x10\x00\x41\x00\x11\x00\x00\x0b",
-    // a wrong parameter: (type $wide (func (param i64))) (type $narrow (func (param i32))) (table 1 funcref) (elem (i32.const 0) $wide) (func $wide (param i64) (call $see (local.get 0))) (func (export "loop") (call_indirect (type $wide) (i64.const 1) (i32.const 0)) (call_indirect (type $narrow) (i32.const 1) (i32.const 0)))
+    // a wrong parameter: (type $wide (func (param i64))) (type $narrow (func (param i32))) (table 1 funcref)
+    // (elem (i32.const 0) $wide) (func $wide (param i64) (call $see (local.get 0))) (func (export "loop")
+    // (call_indirect (type $wide) (i64.const 1) (i32.const 0)) (call_indirect (type $narrow) (i32.const 1)
+    // (i32.const 0)))
     b"\x01\x0c\x03\x60\x01\x7e\x00\x60\x01\x7f\x00\x60\x00\x00\x02\x0f\x01\x07\x73\x63\x72\x65\x65\x70\x73\x03\x73\x65\x65\x00\x00\x03\x03\x02\x00\x02\x04\x04\x01\x70\x00\x01\x07\x08\x01\x04\x6c\x6f\x6f\x70\x00\x02\x09\x07\x01\x00\x41\x00\x0b\x01\x01\x0a\x19\x02\x06\x00\x20\x00\x10\x00\x0b\x10\x00\x42\x01\x41\x00\x11\x00\x00\x41\x01\x41\x00\x11\x01\x00\x0b",
-    // a wrong result: (type $wide (func (result i64))) (table 1 funcref) (elem (i32.const 0) $narrow) (func $narrow (result i32) (i32.const 1)) (func (export "loop") (call $mark (i32.const 9)) (drop (call_indirect (type $wide) (i32.const 0))))
+    // a wrong result: (type $wide (func (result i64))) (table 1 funcref) (elem (i32.const 0) $narrow) (func
+    // $narrow (result i32) (i32.const 1)) (func (export "loop") (call $mark (i32.const 9)) (drop
+    // (call_indirect (type $wide) (i32.const 0))))
     b"\x01\x10\x04\x60\x00\x01\x7e\x60\x01\x7f\x00\x60\x00\x01\x7f\x60\x00\x00\x02\x10\x01\x07\x73\x63\x72\x65\x65\x70\x73\x04\x6d\x61\x72\x6b\x00\x01\x03\x03\x02\x02\x03\x04\x04\x01\x70\x00\x01\x07\x08\x01\x04\x6c\x6f\x6f\x70\x00\x02\x09\x07\x01\x00\x41\x00\x0b\x01\x01\x0a\x13\x02\x04\x00\x41\x01\x0b\x0c\x00\x41\x09\x10\x00\x41\x00\x11\x00\x00\x1a\x0b",
-    // a result too many: (type $none (func)) (table 1 funcref) (elem (i32.const 0) $one) (func $one (result i32) (i32.const 1)) (func (export "loop") (call $mark (i32.const 9)) (call_indirect (type $none) (i32.const 0)))
+    // a result too many: (type $none (func)) (table 1 funcref) (elem (i32.const 0) $one) (func $one (result
+    // i32) (i32.const 1)) (func (export "loop") (call $mark (i32.const 9)) (call_indirect (type $none)
+    // (i32.const 0)))
     b"\x01\x0c\x03\x60\x00\x00\x60\x01\x7f\x00\x60\x00\x01\x7f\x02\x10\x01\x07\x73\x63\x72\x65\x65\x70\x73\x04\x6d\x61\x72\x6b\x00\x01\x03\x03\x02\x02\x00\x04\x04\x01\x70\x00\x01\x07\x08\x01\x04\x6c\x6f\x6f\x70\x00\x02\x09\x07\x01\x00\x41\x00\x0b\x01\x01\x0a\x12\x02\x04\x00\x41\x01\x0b\x0b\x00\x41\x09\x10\x00\x41\x00\x11\x00\x00\x0b",
-    // a parameter too few: (type $two (func (param i32 i32))) (table 1 funcref) (elem (i32.const 0) $one) (func $one (param i32)) (func (export "loop") (call $mark (i32.const 9)) (call_indirect (type $two) (i32.const 1) (i32.const 2) (i32.const 0)))
+    // a parameter too few: (type $two (func (param i32 i32))) (table 1 funcref) (elem (i32.const 0) $one)
+    // (func $one (param i32)) (func (export "loop") (call $mark (i32.const 9)) (call_indirect (type $two)
+    // (i32.const 1) (i32.const 2) (i32.const 0)))
     b"\x01\x0d\x03\x60\x02\x7f\x7f\x00\x60\x01\x7f\x00\x60\x00\x00\x02\x10\x01\x07\x73\x63\x72\x65\x65\x70\x73\x04\x6d\x61\x72\x6b\x00\x01\x03\x03\x02\x01\x02\x04\x04\x01\x70\x00\x01\x07\x08\x01\x04\x6c\x6f\x6f\x70\x00\x02\x09\x07\x01\x00\x41\x00\x0b\x01\x01\x0a\x14\x02\x02\x00\x0b\x0f\x00\x41\x09\x10\x00\x41\x01\x41\x02\x41\x00\x11\x00\x00\x0b",
-    // parameters in another order: (type $other (func (param i64 i32))) (table 1 funcref) (elem (i32.const 0) $one) (func $one (param i32 i64)) (func (export "loop") (call $mark (i32.const 9)) (call_indirect (type $other) (i64.const 1) (i32.const 2) (i32.const 0)))
+    // parameters in another order: (type $other (func (param i64 i32))) (table 1 funcref) (elem (i32.const 0)
+    // $one) (func $one (param i32 i64)) (func (export "loop") (call $mark (i32.const 9)) (call_indirect (type
+    // $other) (i64.const 1) (i32.const 2) (i32.const 0)))
     b"\x01\x12\x04\x60\x02\x7e\x7f\x00\x60\x01\x7f\x00\x60\x02\x7f\x7e\x00\x60\x00\x00\x02\x10\x01\x07\x73\x63\x72\x65\x65\x70\x73\x04\x6d\x61\x72\x6b\x00\x01\x03\x03\x02\x02\x03\x04\x04\x01\x70\x00\x01\x07\x08\x01\x04\x6c\x6f\x6f\x70\x00\x02\x09\x07\x01\x00\x41\x00\x0b\x01\x01\x0a\x14\x02\x02\x00\x0b\x0f\x00\x41\x09\x10\x00\x42\x01\x41\x02\x41\x00\x11\x00\x00\x0b",
-    // equal types under two indices: (type $first (func (param i32) (result i32))) (type $second (func (param i32) (result i32))) (table 2 funcref) (elem (i32.const 0) $f $g) (func $f (type $first) (i32.add (local.get 0) (i32.const 1))) (func $g (type $second) (i32.add (local.get 0) (i32.const 2))) (func (export "loop") (call $see32 (call_indirect (type $first) (i32.const 10) (i32.const 0))) (call $see32 (call_indirect (type $first) (i32.const 10) (i32.const 1))) (call $see32 (call_indirect (type $second) (i32.const 10) (i32.const 0))) (call $see32 (call_indirect (type $second) (i32.const 10) (i32.const 1))))
+    // equal types under two indices: (type $first (func (param i32) (result i32))) (type $second (func (param
+    // i32) (result i32))) (table 2 funcref) (elem (i32.const 0) $f $g) (func $f (type $first) (i32.add
+    // (local.get 0) (i32.const 1))) (func $g (type $second) (i32.add (local.get 0) (i32.const 2))) (func
+    // (export "loop") (call $see32 (call_indirect (type $first) (i32.const 10) (i32.const 0))) (call $see32
+    // (call_indirect (type $first) (i32.const 10) (i32.const 1))) (call $see32 (call_indirect (type $second)
+    // (i32.const 10) (i32.const 0))) (call $see32 (call_indirect (type $second) (i32.const 10) (i32.const
+    // 1))))
     b"\x01\x12\x04\x60\x01\x7f\x01\x7f\x60\x01\x7f\x01\x7f\x60\x01\x7f\x00\x60\x00\x00\x02\x11\x01\x07\x73\x63\x72\x65\x65\x70\x73\x05\x73\x65\x65\x33\x32\x00\x02\x03\x04\x03\x00\x01\x03\x04\x04\x01\x70\x00\x02\x07\x08\x01\x04\x6c\x6f\x6f\x70\x00\x03\x09\x08\x01\x00\x41\x00\x0b\x02\x01\x02\x0a\x38\x03\x07\x00\x20\x00\x41\x01\x6a\x0b\x07\x00\x20\x00\x41\x02\x6a\x0b\x26\x00\x41\x0a\x41\x00\x11\x00\x00\x10\x00\x41\x0a\x41\x01\x11\x00\x00\x10\x00\x41\x0a\x41\x00\x11\x01\x00\x10\x00\x41\x0a\x41\x01\x11\x01\x00\x10\x00\x0b",
-    // arguments in their order below the index: (type $less (func (param i32 i64 i32) (result i64))) (table 1 funcref) (elem (i32.const 0) $less) (func $less (type $less) (call $mix (local.get 0) (local.get 1) (local.get 2)) (i64.sub (local.get 1) (i64.extend_i32_s (i32.sub (local.get 0) (local.get 2))))) (func (export "loop") (call $see (call_indirect (type $less) (i32.const 5) (i64.const 100) (i32.const -3) (i32.const 0))))
+    // arguments in their order below the index: (type $less (func (param i32 i64 i32) (result i64))) (table 1
+    // funcref) (elem (i32.const 0) $less) (func $less (type $less) (call $mix (local.get 0) (local.get 1)
+    // (local.get 2)) (i64.sub (local.get 1) (i64.extend_i32_s (i32.sub (local.get 0) (local.get 2))))) (func
+    // (export "loop") (call $see (call_indirect (type $less) (i32.const 5) (i64.const 100) (i32.const -3)
+    // (i32.const 0))))
     b"\x01\x15\x04\x60\x03\x7f\x7e\x7f\x01\x7e\x60\x01\x7e\x00\x60\x03\x7f\x7e\x7f\x00\x60\x00\x00\x02\x1d\x02\x07\x73\x63\x72\x65\x65\x70\x73\x03\x73\x65\x65\x00\x01\x07\x73\x63\x72\x65\x65\x70\x73\x03\x6d\x69\x78\x00\x02\x03\x03\x02\x00\x03\x04\x04\x01\x70\x00\x01\x07\x08\x01\x04\x6c\x6f\x6f\x70\x00\x03\x09\x07\x01\x00\x41\x00\x0b\x01\x02\x0a\x26\x02\x13\x00\x20\x00\x20\x01\x20\x02\x10\x01\x20\x01\x20\x00\x20\x02\x6b\xac\x7d\x0b\x10\x00\x41\x05\x42\xe4\x00\x41\x7d\x41\x00\x11\x00\x00\x10\x00\x0b",
-    // host calls by the table: (type $seen (func (param i64))) (type $told (func (param i32 i64) (result i64))) (table 2 funcref) (elem (i32.const 0) $see $sum) (func (export "loop") (call_indirect (type $seen) (i64.const -5) (i32.const 0)) (call $see (call_indirect (type $told) (i32.const -2) (i64.const 7) (i32.const 1))))
+    // host calls by the table: (type $seen (func (param i64))) (type $told (func (param i32 i64) (result
+    // i64))) (table 2 funcref) (elem (i32.const 0) $see $sum) (func (export "loop") (call_indirect (type
+    // $seen) (i64.const -5) (i32.const 0)) (call $see (call_indirect (type $told) (i32.const -2) (i64.const
+    // 7) (i32.const 1))))
     b"\x01\x0e\x03\x60\x01\x7e\x00\x60\x02\x7f\x7e\x01\x7e\x60\x00\x00\x02\x1d\x02\x07\x73\x63\x72\x65\x65\x70\x73\x03\x73\x65\x65\x00\x00\x07\x73\x63\x72\x65\x65\x70\x73\x03\x73\x75\x6d\x00\x01\x03\x02\x01\x02\x04\x04\x01\x70\x00\x02\x07\x08\x01\x04\x6c\x6f\x6f\x70\x00\x02\x09\x08\x01\x00\x41\x00\x0b\x02\x00\x01\x0a\x16\x01\x14\x00\x42\x7b\x41\x00\x11\x00\x00\x41\x7e\x42\x07\x41\x01\x11\x01\x00\x10\x00\x0b",
-    // a host call of a wrong type: (type $narrow (func (param i32))) (table 1 funcref) (elem (i32.const 0) $see) (func (export "loop") (call_indirect (type $narrow) (i32.const -5) (i32.const 0)))
+    // a host call of a wrong type: (type $narrow (func (param i32))) (table 1 funcref) (elem (i32.const 0)
+    // $see) (func (export "loop") (call_indirect (type $narrow) (i32.const -5) (i32.const 0)))
     b"\x01\x0c\x03\x60\x01\x7f\x00\x60\x01\x7e\x00\x60\x00\x00\x02\x0f\x01\x07\x73\x63\x72\x65\x65\x70\x73\x03\x73\x65\x65\x00\x01\x03\x02\x01\x02\x04\x04\x01\x70\x00\x01\x07\x08\x01\x04\x6c\x6f\x6f\x70\x00\x01\x09\x07\x01\x00\x41\x00\x0b\x01\x00\x0a\x0b\x01\x09\x00\x41\x7b\x41\x00\x11\x00\x00\x0b",
-    // a later element wins: (type $number (func (result i32))) (table 4 funcref) (elem (i32.const 0) $a $a $a) (elem (i32.const 1) $b $b) (elem (i32.const 2) $c) (elem (i32.const 4)) (func $a (result i32) (i32.const 10)) (func $b (result i32) (i32.const 20)) (func $c (result i32) (i32.const 30)) (func (export "loop") (call $see32 (call_indirect (type $number) (i32.const 0))) (call $see32 (call_indirect (type $number) (i32.const 1))) (call $see32 (call_indirect (type $number) (i32.const 2))) (call $see32 (call_indirect (type $number) (i32.const 3))))
+    // a later element wins: (type $number (func (result i32))) (table 4 funcref) (elem (i32.const 0) $a $a
+    // $a) (elem (i32.const 1) $b $b) (elem (i32.const 2) $c) (elem (i32.const 4)) (func $a (result i32)
+    // (i32.const 10)) (func $b (result i32) (i32.const 20)) (func $c (result i32) (i32.const 30)) (func
+    // (export "loop") (call $see32 (call_indirect (type $number) (i32.const 0))) (call $see32 (call_indirect
+    // (type $number) (i32.const 1))) (call $see32 (call_indirect (type $number) (i32.const 2))) (call $see32
+    // (call_indirect (type $number) (i32.const 3))))
     b"\x01\x0c\x03\x60\x00\x01\x7f\x60\x01\x7f\x00\x60\x00\x00\x02\x11\x01\x07\x73\x63\x72\x65\x65\x70\x73\x05\x73\x65\x65\x33\x32\x00\x01\x03\x05\x04\x00\x00\x00\x02\x04\x04\x01\x70\x00\x04\x07\x08\x01\x04\x6c\x6f\x6f\x70\x00\x04\x09\x1b\x04\x00\x41\x00\x0b\x03\x01\x01\x01\x00\x41\x01\x0b\x02\x02\x02\x00\x41\x02\x0b\x01\x03\x00\x41\x04\x0b\x00\x0a\x2f\x04\x04\x00\x41\x0a\x0b\x04\x00\x41\x14\x0b\x04\x00\x41\x1e\x0b\x1e\x00\x41\x00\x11\x00\x00\x10\x00\x41\x01\x11\x00\x00\x10\x00\x41\x02\x11\x00\x00\x10\x00\x41\x03\x11\x00\x00\x10\x00\x0b",
-    // recursion by the table: (type $down (func (param i32) (result i32))) (table 1 1 funcref) (elem (i32.const 0) $down) (func $down (type $down) (if (result i32) (local.get 0) (then (i32.add (local.get 0) (call_indirect (type $down) (i32.sub (local.get 0) (i32.const 1)) (i32.const 0)))) (else (i32.const 0)))) (func (export "loop") (call $see32 (call_indirect (type $down) (i32.const 10) (i32.const 0))))
+    // recursion by the table: (type $down (func (param i32) (result i32))) (table 1 1 funcref) (elem
+    // (i32.const 0) $down) (func $down (type $down) (if (result i32) (local.get 0) (then (i32.add (local.get
+    // 0) (call_indirect (type $down) (i32.sub (local.get 0) (i32.const 1)) (i32.const 0)))) (else (i32.const
+    // 0)))) (func (export "loop") (call $see32 (call_indirect (type $down) (i32.const 10) (i32.const 0))))
     b"\x01\x0d\x03\x60\x01\x7f\x01\x7f\x60\x01\x7f\x00\x60\x00\x00\x02\x11\x01\x07\x73\x63\x72\x65\x65\x70\x73\x05\x73\x65\x65\x33\x32\x00\x01\x03\x03\x02\x00\x02\x04\x05\x01\x70\x01\x01\x01\x07\x08\x01\x04\x6c\x6f\x6f\x70\x00\x02\x09\x07\x01\x00\x41\x00\x0b\x01\x01\x0a\x25\x02\x17\x00\x20\x00\x04\x7f\x20\x00\x20\x00\x41\x01\x6b\x41\x00\x11\x00\x00\x6a\x05\x41\x00\x0b\x0b\x0b\x00\x41\x0a\x41\x00\x11\x00\x00\x10\x00\x0b",
-    // an unreachable in the callee: (type $none (func)) (table 1 funcref) (elem (i32.const 0) $stops) (func $stops (call $mark (i32.const 9)) unreachable) (func (export "loop") (call_indirect (type $none) (i32.const 0)) (call $mark (i32.const 9)))
+    // an unreachable in the callee: (type $none (func)) (table 1 funcref) (elem (i32.const 0) $stops) (func
+    // $stops (call $mark (i32.const 9)) unreachable) (func (export "loop") (call_indirect (type $none)
+    // (i32.const 0)) (call $mark (i32.const 9)))
     b"\x01\x08\x02\x60\x00\x00\x60\x01\x7f\x00\x02\x10\x01\x07\x73\x63\x72\x65\x65\x70\x73\x04\x6d\x61\x72\x6b\x00\x01\x03\x03\x02\x00\x00\x04\x04\x01\x70\x00\x01\x07\x08\x01\x04\x6c\x6f\x6f\x70\x00\x02\x09\x07\x01\x00\x41\x00\x0b\x01\x01\x0a\x15\x02\x07\x00\x41\x09\x10\x00\x00\x0b\x0b\x00\x41\x00\x11\x00\x00\x41\x09\x10\x00\x0b",
-    // an index out of a table that is chosen by a loop: (type $none (func)) (table 2 funcref) (elem (i32.const 0) $m $m) (func $m (call $mark (i32.const 9))) (func (export "loop") (local i32) (loop (call_indirect (type $none) (local.get 0)) (local.set 0 (i32.add (local.get 0) (i32.const 1))) (br 0)))
+    // an index out of a table that is chosen by a loop: (type $none (func)) (table 2 funcref) (elem
+    // (i32.const 0) $m $m) (func $m (call $mark (i32.const 9))) (func (export "loop") (local i32) (loop
+    // (call_indirect (type $none) (local.get 0)) (local.set 0 (i32.add (local.get 0) (i32.const 1))) (br 0)))
     b"\x01\x08\x02\x60\x00\x00\x60\x01\x7f\x00\x02\x10\x01\x07\x73\x63\x72\x65\x65\x70\x73\x04\x6d\x61\x72\x6b\x00\x01\x03\x03\x02\x00\x00\x04\x04\x01\x70\x00\x02\x07\x08\x01\x04\x6c\x6f\x6f\x70\x00\x02\x09\x08\x01\x00\x41\x00\x0b\x02\x01\x01\x0a\x1e\x02\x06\x00\x41\x09\x10\x00\x0b\x15\x01\x01\x7f\x03\x40\x20\x00\x11\x00\x00\x20\x00\x41\x01\x6a\x21\x00\x0c\x00\x0b\x0b",
 ];
 

@@ -1,4 +1,5 @@
-// Whole modules of another assembler, run with a host that writes down what it gets: examples of each instruction,
+// Whole modules of another assembler, run with a host that writes down what it gets: examples of each
+// instruction,
 // each trap and each limit, which are tests alone.
 #![tactic(auto)]
 

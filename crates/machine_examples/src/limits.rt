@@ -1,4 +1,5 @@
-// The fuel, and the most frames and values. Where no import stands in a text, those of the host's calls are left out.
+// The fuel, and the most frames and values. Where no import stands in a text, those of the host's calls are
+// left out.
 // `[3 nop]` stands for `nop nop nop`.
 use crate::recorder::{ASK, ASK32, MARK, READ, SEE, SEE32, SUM};
 use crate::rows::{
@@ -24,11 +25,14 @@ const LIMITS: [&[u8]; 62] = [
     b"\x01\x04\x01\x60\x00\x00\x03\x02\x01\x00\x07\x08\x01\x04\x6c\x6f\x6f\x70\x00\x00\x0a\x06\x01\x04\x00\x01\x00\x0b",
     // one fuel less than a trap: (func (export "loop") nop (drop (i32.div_u (i32.const 1) (i32.const 0))))
     b"\x01\x04\x01\x60\x00\x00\x03\x02\x01\x00\x07\x08\x01\x04\x6c\x6f\x6f\x70\x00\x00\x0a\x0b\x01\x09\x00\x01\x41\x01\x41\x00\x6e\x1a\x0b",
-    // fuel that ends in a callee: (func $told (call $see32 (i32.const 1)) (call $see32 (i32.const 2))) (func (export "loop") (call $told) (call $mark (i32.const 9)))
+    // fuel that ends in a callee: (func $told (call $see32 (i32.const 1)) (call $see32 (i32.const 2))) (func
+    // (export "loop") (call $told) (call $mark (i32.const 9)))
     b"\x01\x08\x02\x60\x01\x7f\x00\x60\x00\x00\x02\x20\x02\x07\x73\x63\x72\x65\x65\x70\x73\x05\x73\x65\x65\x33\x32\x00\x00\x07\x73\x63\x72\x65\x65\x70\x73\x04\x6d\x61\x72\x6b\x00\x00\x03\x03\x02\x01\x01\x07\x08\x01\x04\x6c\x6f\x6f\x70\x00\x03\x0a\x15\x02\x0a\x00\x41\x01\x10\x00\x41\x02\x10\x00\x0b\x08\x00\x10\x02\x41\x09\x10\x01\x0b",
-    // fuel that ends behind a callee: (func $told (call $see32 (i32.const 1)) (call $see32 (i32.const 2))) (func (export "loop") (call $told) (call $mark (i32.const 9)))
+    // fuel that ends behind a callee: (func $told (call $see32 (i32.const 1)) (call $see32 (i32.const 2)))
+    // (func (export "loop") (call $told) (call $mark (i32.const 9)))
     b"\x01\x08\x02\x60\x01\x7f\x00\x60\x00\x00\x02\x20\x02\x07\x73\x63\x72\x65\x65\x70\x73\x05\x73\x65\x65\x33\x32\x00\x00\x07\x73\x63\x72\x65\x65\x70\x73\x04\x6d\x61\x72\x6b\x00\x00\x03\x03\x02\x01\x01\x07\x08\x01\x04\x6c\x6f\x6f\x70\x00\x03\x0a\x15\x02\x0a\x00\x41\x01\x10\x00\x41\x02\x10\x00\x0b\x08\x00\x10\x02\x41\x09\x10\x01\x0b",
-    // fuel that ends at the last end: (func $told (call $see32 (i32.const 1)) (call $see32 (i32.const 2))) (func (export "loop") (call $told) (block (call $mark (i32.const 9))))
+    // fuel that ends at the last end: (func $told (call $see32 (i32.const 1)) (call $see32 (i32.const 2)))
+    // (func (export "loop") (call $told) (block (call $mark (i32.const 9))))
     b"\x01\x08\x02\x60\x01\x7f\x00\x60\x00\x00\x02\x20\x02\x07\x73\x63\x72\x65\x65\x70\x73\x05\x73\x65\x65\x33\x32\x00\x00\x07\x73\x63\x72\x65\x65\x70\x73\x04\x6d\x61\x72\x6b\x00\x00\x03\x03\x02\x01\x01\x07\x08\x01\x04\x6c\x6f\x6f\x70\x00\x03\x0a\x18\x02\x0a\x00\x41\x01\x10\x00\x41\x02\x10\x00\x0b\x0b\x00\x10\x02\x02\x40\x41\x09\x10\x01\x0b\x0b",
     // fuel past 2^53: (func (export "loop") (call $mark (i32.const 9)))
     b"\x01\x08\x02\x60\x01\x7f\x00\x60\x00\x00\x02\x10\x01\x07\x73\x63\x72\x65\x65\x70\x73\x04\x6d\x61\x72\x6b\x00\x00\x03\x02\x01\x01\x07\x08\x01\x04\x6c\x6f\x6f\x70\x00\x01\x0a\x08\x01\x06\x00\x41\x09\x10\x00\x0b",
@@ -42,93 +46,187 @@ const LIMITS: [&[u8]; 62] = [
     b"\x01\x04\x01\x60\x00\x00\x03\x02\x01\x00\x07\x08\x01\x04\x6c\x6f\x6f\x70\x00\x00\x0a\x06\x01\x04\x00\x10\x00\x0b",
     // a function that calls itself and the fuel of 999 frames: (func (export "loop") (call 0))
     b"\x01\x04\x01\x60\x00\x00\x03\x02\x01\x00\x07\x08\x01\x04\x6c\x6f\x6f\x70\x00\x00\x0a\x06\x01\x04\x00\x10\x00\x0b",
-    // 1000 frames and a host call: (func $down (param i32) (if (local.get 0) (then (call $down (i32.sub (local.get 0) (i32.const 1)))) (else (call $mark (i32.const 9))))) (func (export "loop") (call $down (i32.const 998)) (call $mark (i32.const 9)))
+    // 1000 frames and a host call: (func $down (param i32) (if (local.get 0) (then (call $down (i32.sub
+    // (local.get 0) (i32.const 1)))) (else (call $mark (i32.const 9))))) (func (export "loop") (call $down
+    // (i32.const 998)) (call $mark (i32.const 9)))
     b"\x01\x08\x02\x60\x01\x7f\x00\x60\x00\x00\x02\x10\x01\x07\x73\x63\x72\x65\x65\x70\x73\x04\x6d\x61\x72\x6b\x00\x00\x03\x03\x02\x00\x01\x07\x08\x01\x04\x6c\x6f\x6f\x70\x00\x02\x0a\x21\x02\x13\x00\x20\x00\x04\x40\x20\x00\x41\x01\x6b\x10\x01\x05\x41\x09\x10\x00\x0b\x0b\x0b\x00\x41\xe6\x07\x10\x01\x41\x09\x10\x00\x0b",
-    // 1001 frames: (func $down (param i32) (if (local.get 0) (then (call $down (i32.sub (local.get 0) (i32.const 1)))) (else (call $mark (i32.const 9))))) (func (export "loop") (call $down (i32.const 999)) (call $mark (i32.const 9)))
+    // 1001 frames: (func $down (param i32) (if (local.get 0) (then (call $down (i32.sub (local.get 0)
+    // (i32.const 1)))) (else (call $mark (i32.const 9))))) (func (export "loop") (call $down (i32.const 999))
+    // (call $mark (i32.const 9)))
     b"\x01\x08\x02\x60\x01\x7f\x00\x60\x00\x00\x02\x10\x01\x07\x73\x63\x72\x65\x65\x70\x73\x04\x6d\x61\x72\x6b\x00\x00\x03\x03\x02\x00\x01\x07\x08\x01\x04\x6c\x6f\x6f\x70\x00\x02\x0a\x21\x02\x13\x00\x20\x00\x04\x40\x20\x00\x41\x01\x6b\x10\x01\x05\x41\x09\x10\x00\x0b\x0b\x0b\x00\x41\xe7\x07\x10\x01\x41\x09\x10\x00\x0b",
-    // 1000 frames twice: (func $down (param i32) (if (local.get 0) (then (call $down (i32.sub (local.get 0) (i32.const 1)))) (else (call $mark (i32.const 9))))) (func (export "loop") (call $down (i32.const 998)) (call $down (i32.const 998)))
+    // 1000 frames twice: (func $down (param i32) (if (local.get 0) (then (call $down (i32.sub (local.get 0)
+    // (i32.const 1)))) (else (call $mark (i32.const 9))))) (func (export "loop") (call $down (i32.const 998))
+    // (call $down (i32.const 998)))
     b"\x01\x08\x02\x60\x01\x7f\x00\x60\x00\x00\x02\x10\x01\x07\x73\x63\x72\x65\x65\x70\x73\x04\x6d\x61\x72\x6b\x00\x00\x03\x03\x02\x00\x01\x07\x08\x01\x04\x6c\x6f\x6f\x70\x00\x02\x0a\x22\x02\x13\x00\x20\x00\x04\x40\x20\x00\x41\x01\x6b\x10\x01\x05\x41\x09\x10\x00\x0b\x0b\x0c\x00\x41\xe6\x07\x10\x01\x41\xe6\x07\x10\x01\x0b",
-    // 1000 frames below a result: (func $down (param i32) (result i32) (if (result i32) (local.get 0) (then (i32.add (i32.const 1) (call $down (i32.sub (local.get 0) (i32.const 1))))) (else (i32.const 1)))) (func (export "loop") (call $see32 (call $down (i32.const 998))))
+    // 1000 frames below a result: (func $down (param i32) (result i32) (if (result i32) (local.get 0) (then
+    // (i32.add (i32.const 1) (call $down (i32.sub (local.get 0) (i32.const 1))))) (else (i32.const 1))))
+    // (func (export "loop") (call $see32 (call $down (i32.const 998))))
     b"\x01\x0d\x03\x60\x01\x7f\x00\x60\x01\x7f\x01\x7f\x60\x00\x00\x02\x11\x01\x07\x73\x63\x72\x65\x65\x70\x73\x05\x73\x65\x65\x33\x32\x00\x00\x03\x03\x02\x01\x02\x07\x08\x01\x04\x6c\x6f\x6f\x70\x00\x02\x0a\x20\x02\x14\x00\x20\x00\x04\x7f\x41\x01\x20\x00\x41\x01\x6b\x10\x01\x6a\x05\x41\x01\x0b\x0b\x09\x00\x41\xe6\x07\x10\x01\x10\x00\x0b",
-    // an indirect call of frame 1001: (type $none (func)) (table 4 funcref) (elem (i32.const 0) $again) (elem (i32.const 2) $mark $seen) (func $seen (param i32)) (global $left (mut i32) (i32.const 998)) (func $again (if (global.get $left) (then (global.set $left (i32.sub (global.get $left) (i32.const 1))) (call_indirect (type $none) (i32.const 0))) (else (call $mark (i32.const 9)) (call_indirect (type $none) (i32.const 0))))) (func (export "loop") (call_indirect (type $none) (i32.const 0)))
+    // an indirect call of frame 1001: (type $none (func)) (table 4 funcref) (elem (i32.const 0) $again) (elem
+    // (i32.const 2) $mark $seen) (func $seen (param i32)) (global $left (mut i32) (i32.const 998)) (func
+    // $again (if (global.get $left) (then (global.set $left (i32.sub (global.get $left) (i32.const 1)))
+    // (call_indirect (type $none) (i32.const 0))) (else (call $mark (i32.const 9)) (call_indirect (type
+    // $none) (i32.const 0))))) (func (export "loop") (call_indirect (type $none) (i32.const 0)))
     b"\x01\x08\x02\x60\x00\x00\x60\x01\x7f\x00\x02\x10\x01\x07\x73\x63\x72\x65\x65\x70\x73\x04\x6d\x61\x72\x6b\x00\x01\x03\x04\x03\x01\x00\x00\x04\x04\x01\x70\x00\x04\x06\x07\x01\x7f\x01\x41\xe6\x07\x0b\x07\x08\x01\x04\x6c\x6f\x6f\x70\x00\x03\x09\x0e\x02\x00\x41\x00\x0b\x01\x02\x00\x41\x02\x0b\x02\x00\x01\x0a\x2a\x03\x02\x00\x0b\x1d\x00\x23\x00\x04\x40\x23\x00\x41\x01\x6b\x24\x00\x41\x00\x11\x00\x00\x05\x41\x09\x10\x00\x41\x00\x11\x00\x00\x0b\x0b\x07\x00\x41\x00\x11\x00\x00\x0b",
-    // an indirect host call in frame 1000: (type $none (func)) (type $told (func (param i32))) (table 4 funcref) (elem (i32.const 0) $again) (elem (i32.const 2) $mark $seen) (func $seen (param i32)) (global $left (mut i32) (i32.const 998)) (func $again (if (global.get $left) (then (global.set $left (i32.sub (global.get $left) (i32.const 1))) (call_indirect (type $none) (i32.const 0))) (else (call $mark (i32.const 9)) (call_indirect (type $told) (i32.const 8) (i32.const 2))))) (func (export "loop") (call_indirect (type $none) (i32.const 0)))
+    // an indirect host call in frame 1000: (type $none (func)) (type $told (func (param i32))) (table 4
+    // funcref) (elem (i32.const 0) $again) (elem (i32.const 2) $mark $seen) (func $seen (param i32)) (global
+    // $left (mut i32) (i32.const 998)) (func $again (if (global.get $left) (then (global.set $left (i32.sub
+    // (global.get $left) (i32.const 1))) (call_indirect (type $none) (i32.const 0))) (else (call $mark
+    // (i32.const 9)) (call_indirect (type $told) (i32.const 8) (i32.const 2))))) (func (export "loop")
+    // (call_indirect (type $none) (i32.const 0)))
     b"\x01\x08\x02\x60\x00\x00\x60\x01\x7f\x00\x02\x10\x01\x07\x73\x63\x72\x65\x65\x70\x73\x04\x6d\x61\x72\x6b\x00\x01\x03\x04\x03\x01\x00\x00\x04\x04\x01\x70\x00\x04\x06\x07\x01\x7f\x01\x41\xe6\x07\x0b\x07\x08\x01\x04\x6c\x6f\x6f\x70\x00\x03\x09\x0e\x02\x00\x41\x00\x0b\x01\x02\x00\x41\x02\x0b\x02\x00\x01\x0a\x2c\x03\x02\x00\x0b\x1f\x00\x23\x00\x04\x40\x23\x00\x41\x01\x6b\x24\x00\x41\x00\x11\x00\x00\x05\x41\x09\x10\x00\x41\x08\x41\x02\x11\x01\x00\x0b\x0b\x07\x00\x41\x00\x11\x00\x00\x0b",
-    // an index past the table in frame 1000: (type $none (func)) (table 4 funcref) (elem (i32.const 0) $again) (elem (i32.const 2) $mark $seen) (func $seen (param i32)) (global $left (mut i32) (i32.const 998)) (func $again (if (global.get $left) (then (global.set $left (i32.sub (global.get $left) (i32.const 1))) (call_indirect (type $none) (i32.const 0))) (else (call $mark (i32.const 9)) (call_indirect (type $none) (i32.const 4))))) (func (export "loop") (call_indirect (type $none) (i32.const 0)))
+    // an index past the table in frame 1000: (type $none (func)) (table 4 funcref) (elem (i32.const 0)
+    // $again) (elem (i32.const 2) $mark $seen) (func $seen (param i32)) (global $left (mut i32) (i32.const
+    // 998)) (func $again (if (global.get $left) (then (global.set $left (i32.sub (global.get $left)
+    // (i32.const 1))) (call_indirect (type $none) (i32.const 0))) (else (call $mark (i32.const 9))
+    // (call_indirect (type $none) (i32.const 4))))) (func (export "loop") (call_indirect (type $none)
+    // (i32.const 0)))
     b"\x01\x08\x02\x60\x00\x00\x60\x01\x7f\x00\x02\x10\x01\x07\x73\x63\x72\x65\x65\x70\x73\x04\x6d\x61\x72\x6b\x00\x01\x03\x04\x03\x01\x00\x00\x04\x04\x01\x70\x00\x04\x06\x07\x01\x7f\x01\x41\xe6\x07\x0b\x07\x08\x01\x04\x6c\x6f\x6f\x70\x00\x03\x09\x0e\x02\x00\x41\x00\x0b\x01\x02\x00\x41\x02\x0b\x02\x00\x01\x0a\x2a\x03\x02\x00\x0b\x1d\x00\x23\x00\x04\x40\x23\x00\x41\x01\x6b\x24\x00\x41\x00\x11\x00\x00\x05\x41\x09\x10\x00\x41\x04\x11\x00\x00\x0b\x0b\x07\x00\x41\x00\x11\x00\x00\x0b",
-    // an empty entry in frame 1000: (type $none (func)) (table 4 funcref) (elem (i32.const 0) $again) (elem (i32.const 2) $mark $seen) (func $seen (param i32)) (global $left (mut i32) (i32.const 998)) (func $again (if (global.get $left) (then (global.set $left (i32.sub (global.get $left) (i32.const 1))) (call_indirect (type $none) (i32.const 0))) (else (call $mark (i32.const 9)) (call_indirect (type $none) (i32.const 1))))) (func (export "loop") (call_indirect (type $none) (i32.const 0)))
+    // an empty entry in frame 1000: (type $none (func)) (table 4 funcref) (elem (i32.const 0) $again) (elem
+    // (i32.const 2) $mark $seen) (func $seen (param i32)) (global $left (mut i32) (i32.const 998)) (func
+    // $again (if (global.get $left) (then (global.set $left (i32.sub (global.get $left) (i32.const 1)))
+    // (call_indirect (type $none) (i32.const 0))) (else (call $mark (i32.const 9)) (call_indirect (type
+    // $none) (i32.const 1))))) (func (export "loop") (call_indirect (type $none) (i32.const 0)))
     b"\x01\x08\x02\x60\x00\x00\x60\x01\x7f\x00\x02\x10\x01\x07\x73\x63\x72\x65\x65\x70\x73\x04\x6d\x61\x72\x6b\x00\x01\x03\x04\x03\x01\x00\x00\x04\x04\x01\x70\x00\x04\x06\x07\x01\x7f\x01\x41\xe6\x07\x0b\x07\x08\x01\x04\x6c\x6f\x6f\x70\x00\x03\x09\x0e\x02\x00\x41\x00\x0b\x01\x02\x00\x41\x02\x0b\x02\x00\x01\x0a\x2a\x03\x02\x00\x0b\x1d\x00\x23\x00\x04\x40\x23\x00\x41\x01\x6b\x24\x00\x41\x00\x11\x00\x00\x05\x41\x09\x10\x00\x41\x01\x11\x00\x00\x0b\x0b\x07\x00\x41\x00\x11\x00\x00\x0b",
-    // a wrong type in frame 1000: (type $none (func)) (table 4 funcref) (elem (i32.const 0) $again) (elem (i32.const 2) $mark $seen) (func $seen (param i32)) (global $left (mut i32) (i32.const 998)) (func $again (if (global.get $left) (then (global.set $left (i32.sub (global.get $left) (i32.const 1))) (call_indirect (type $none) (i32.const 0))) (else (call $mark (i32.const 9)) (call_indirect (type $none) (i32.const 3))))) (func (export "loop") (call_indirect (type $none) (i32.const 0)))
+    // a wrong type in frame 1000: (type $none (func)) (table 4 funcref) (elem (i32.const 0) $again) (elem
+    // (i32.const 2) $mark $seen) (func $seen (param i32)) (global $left (mut i32) (i32.const 998)) (func
+    // $again (if (global.get $left) (then (global.set $left (i32.sub (global.get $left) (i32.const 1)))
+    // (call_indirect (type $none) (i32.const 0))) (else (call $mark (i32.const 9)) (call_indirect (type
+    // $none) (i32.const 3))))) (func (export "loop") (call_indirect (type $none) (i32.const 0)))
     b"\x01\x08\x02\x60\x00\x00\x60\x01\x7f\x00\x02\x10\x01\x07\x73\x63\x72\x65\x65\x70\x73\x04\x6d\x61\x72\x6b\x00\x01\x03\x04\x03\x01\x00\x00\x04\x04\x01\x70\x00\x04\x06\x07\x01\x7f\x01\x41\xe6\x07\x0b\x07\x08\x01\x04\x6c\x6f\x6f\x70\x00\x03\x09\x0e\x02\x00\x41\x00\x0b\x01\x02\x00\x41\x02\x0b\x02\x00\x01\x0a\x2a\x03\x02\x00\x0b\x1d\x00\x23\x00\x04\x40\x23\x00\x41\x01\x6b\x24\x00\x41\x00\x11\x00\x00\x05\x41\x09\x10\x00\x41\x03\x11\x00\x00\x0b\x0b\x07\x00\x41\x00\x11\x00\x00\x0b",
-    // 65536 values in two frames: (func $more (local [25535 i32]) (call $mark (i32.const 9))) (func (export "loop") (local [40000 i32]) (call $more) (call $mark (i32.const 9)))
+    // 65536 values in two frames: (func $more (local [25535 i32]) (call $mark (i32.const 9))) (func (export
+    // "loop") (local [40000 i32]) (call $more) (call $mark (i32.const 9)))
     b"\x01\x08\x02\x60\x01\x7f\x00\x60\x00\x00\x02\x10\x01\x07\x73\x63\x72\x65\x65\x70\x73\x04\x6d\x61\x72\x6b\x00\x00\x03\x03\x02\x01\x01\x07\x08\x01\x04\x6c\x6f\x6f\x70\x00\x02\x0a\x19\x02\x0a\x01\xbf\xc7\x01\x7f\x41\x09\x10\x00\x0b\x0c\x01\xc0\xb8\x02\x7f\x10\x01\x41\x09\x10\x00\x0b",
-    // 65537 values in two frames by locals: (func $more (local [25537 i32]) (call $mark (i32.const 9))) (func (export "loop") (local [40000 i32]) (call $mark (i32.const 9)) (call $more) (call $mark (i32.const 9)))
+    // 65537 values in two frames by locals: (func $more (local [25537 i32]) (call $mark (i32.const 9))) (func
+    // (export "loop") (local [40000 i32]) (call $mark (i32.const 9)) (call $more) (call $mark (i32.const 9)))
     b"\x01\x08\x02\x60\x01\x7f\x00\x60\x00\x00\x02\x10\x01\x07\x73\x63\x72\x65\x65\x70\x73\x04\x6d\x61\x72\x6b\x00\x00\x03\x03\x02\x01\x01\x07\x08\x01\x04\x6c\x6f\x6f\x70\x00\x02\x0a\x1d\x02\x0a\x01\xc1\xc7\x01\x7f\x41\x09\x10\x00\x0b\x10\x01\xc0\xb8\x02\x7f\x41\x09\x10\x00\x10\x01\x41\x09\x10\x00\x0b",
-    // 65536 values in two frames and a push: (func $more (local [25536 i32]) nop (drop (i32.const 1))) (func (export "loop") (local [40000 i32]) (call $more))
+    // 65536 values in two frames and a push: (func $more (local [25536 i32]) nop (drop (i32.const 1))) (func
+    // (export "loop") (local [40000 i32]) (call $more))
     b"\x01\x04\x01\x60\x00\x00\x03\x03\x02\x00\x00\x07\x08\x01\x04\x6c\x6f\x6f\x70\x00\x01\x0a\x15\x02\x0a\x01\xc0\xc7\x01\x7f\x01\x41\x01\x1a\x0b\x08\x01\xc0\xb8\x02\x7f\x10\x00\x0b",
-    // 65536 values with a push: (func $more (local [25535 i64]) (call $see32 (i32.const 1)) (call $mark (i32.const 9))) (func (export "loop") (local [40000 i32]) (call $more) (call $mark (i32.const 9)))
+    // 65536 values with a push: (func $more (local [25535 i64]) (call $see32 (i32.const 1)) (call $mark
+    // (i32.const 9))) (func (export "loop") (local [40000 i32]) (call $more) (call $mark (i32.const 9)))
     b"\x01\x08\x02\x60\x01\x7f\x00\x60\x00\x00\x02\x20\x02\x07\x73\x63\x72\x65\x65\x70\x73\x05\x73\x65\x65\x33\x32\x00\x00\x07\x73\x63\x72\x65\x65\x70\x73\x04\x6d\x61\x72\x6b\x00\x00\x03\x03\x02\x01\x01\x07\x08\x01\x04\x6c\x6f\x6f\x70\x00\x03\x0a\x1d\x02\x0e\x01\xbf\xc7\x01\x7e\x41\x01\x10\x00\x41\x09\x10\x01\x0b\x0c\x01\xc0\xb8\x02\x7f\x10\x02\x41\x09\x10\x01\x0b",
-    // arguments count once: (func $more (param i32 i64) (local [25532 i64]) (drop (i32.const 1)) (call $mark (i32.const 9)) (drop (i32.add (i32.const 1) (i32.const 2))) (call $mark (i32.const 9)) (drop (i32.add (i32.add (i32.const 1) (i32.const 2)) (i32.add (i32.const 3) (i32.const 4))))) (func (export "loop") (local [40000 i32]) (call $more (i32.const 1) (i64.const 2)))
+    // arguments count once: (func $more (param i32 i64) (local [25532 i64]) (drop (i32.const 1)) (call $mark
+    // (i32.const 9)) (drop (i32.add (i32.const 1) (i32.const 2))) (call $mark (i32.const 9)) (drop (i32.add
+    // (i32.add (i32.const 1) (i32.const 2)) (i32.add (i32.const 3) (i32.const 4))))) (func (export "loop")
+    // (local [40000 i32]) (call $more (i32.const 1) (i64.const 2)))
     b"\x01\x0d\x03\x60\x01\x7f\x00\x60\x02\x7f\x7e\x00\x60\x00\x00\x02\x10\x01\x07\x73\x63\x72\x65\x65\x70\x73\x04\x6d\x61\x72\x6b\x00\x00\x03\x03\x02\x01\x02\x07\x08\x01\x04\x6c\x6f\x6f\x70\x00\x02\x0a\x32\x02\x23\x01\xbc\xc7\x01\x7e\x41\x01\x1a\x41\x09\x10\x00\x41\x01\x41\x02\x6a\x1a\x41\x09\x10\x00\x41\x01\x41\x02\x6a\x41\x03\x41\x04\x6a\x6a\x1a\x0b\x0c\x01\xc0\xb8\x02\x7f\x41\x01\x42\x02\x10\x01\x0b",
-    // arguments and locals that fit exactly: (func $more (param i32 i64) (local [25534 i64]) nop) (func (export "loop") (local [40000 i32]) (call $more (i32.const 1) (i64.const 2)) (call $mark (i32.const 9)))
+    // arguments and locals that fit exactly: (func $more (param i32 i64) (local [25534 i64]) nop) (func
+    // (export "loop") (local [40000 i32]) (call $more (i32.const 1) (i64.const 2)) (call $mark (i32.const
+    // 9)))
     b"\x01\x0d\x03\x60\x01\x7f\x00\x60\x02\x7f\x7e\x00\x60\x00\x00\x02\x10\x01\x07\x73\x63\x72\x65\x65\x70\x73\x04\x6d\x61\x72\x6b\x00\x00\x03\x03\x02\x01\x02\x07\x08\x01\x04\x6c\x6f\x6f\x70\x00\x02\x0a\x1a\x02\x07\x01\xbe\xc7\x01\x7e\x01\x0b\x10\x01\xc0\xb8\x02\x7f\x41\x01\x42\x02\x10\x01\x41\x09\x10\x00\x0b",
-    // arguments and locals and one more: (func $more (param i32 i64) (local [25535 i64]) (call $mark (i32.const 9))) (func (export "loop") (local [40000 i32]) (call $more (i32.const 1) (i64.const 2)) (call $mark (i32.const 9)))
+    // arguments and locals and one more: (func $more (param i32 i64) (local [25535 i64]) (call $mark
+    // (i32.const 9))) (func (export "loop") (local [40000 i32]) (call $more (i32.const 1) (i64.const 2))
+    // (call $mark (i32.const 9)))
     b"\x01\x0d\x03\x60\x01\x7f\x00\x60\x02\x7f\x7e\x00\x60\x00\x00\x02\x10\x01\x07\x73\x63\x72\x65\x65\x70\x73\x04\x6d\x61\x72\x6b\x00\x00\x03\x03\x02\x01\x02\x07\x08\x01\x04\x6c\x6f\x6f\x70\x00\x02\x0a\x1d\x02\x0a\x01\xbf\xc7\x01\x7e\x41\x09\x10\x00\x0b\x10\x01\xc0\xb8\x02\x7f\x41\x01\x42\x02\x10\x01\x41\x09\x10\x00\x0b",
-    // operands of a caller count: (func $more (local [25534 i64]) nop) (func (export "loop") (local [40000 i32]) i32.const 1 i64.const 2 call $more drop drop (call $mark (i32.const 9)) (drop (i32.const 1)) i32.const 1 i64.const 2 i32.const 3 call $more drop drop drop)
+    // operands of a caller count: (func $more (local [25534 i64]) nop) (func (export "loop") (local [40000
+    // i32]) i32.const 1 i64.const 2 call $more drop drop (call $mark (i32.const 9)) (drop (i32.const 1))
+    // i32.const 1 i64.const 2 i32.const 3 call $more drop drop drop)
     b"\x01\x08\x02\x60\x01\x7f\x00\x60\x00\x00\x02\x10\x01\x07\x73\x63\x72\x65\x65\x70\x73\x04\x6d\x61\x72\x6b\x00\x00\x03\x03\x02\x01\x01\x07\x08\x01\x04\x6c\x6f\x6f\x70\x00\x02\x0a\x2a\x02\x07\x01\xbe\xc7\x01\x7e\x01\x0b\x20\x01\xc0\xb8\x02\x7f\x41\x01\x42\x02\x10\x01\x1a\x1a\x41\x09\x10\x00\x41\x01\x1a\x41\x01\x42\x02\x41\x03\x10\x01\x1a\x1a\x1a\x0b",
-    // a host call's result that fits: (func $more (local [25535 i64]) (drop (call $ask)) (drop (call $ask32))) (func (export "loop") (local [40000 i32]) (call $more))
+    // a host call's result that fits: (func $more (local [25535 i64]) (drop (call $ask)) (drop (call
+    // $ask32))) (func (export "loop") (local [40000 i32]) (call $more))
     b"\x01\x0c\x03\x60\x00\x01\x7e\x60\x00\x01\x7f\x60\x00\x00\x02\x1f\x02\x07\x73\x63\x72\x65\x65\x70\x73\x03\x61\x73\x6b\x00\x00\x07\x73\x63\x72\x65\x65\x70\x73\x05\x61\x73\x6b\x33\x32\x00\x01\x03\x03\x02\x02\x02\x07\x08\x01\x04\x6c\x6f\x6f\x70\x00\x03\x0a\x17\x02\x0c\x01\xbf\xc7\x01\x7e\x10\x00\x1a\x10\x01\x1a\x0b\x08\x01\xc0\xb8\x02\x7f\x10\x02\x0b",
-    // a host call's result past the limit: (func $more (local [25536 i64]) nop (drop (call $ask))) (func (export "loop") (local [40000 i32]) (call $more))
+    // a host call's result past the limit: (func $more (local [25536 i64]) nop (drop (call $ask))) (func
+    // (export "loop") (local [40000 i32]) (call $more))
     b"\x01\x08\x02\x60\x00\x01\x7e\x60\x00\x00\x02\x0f\x01\x07\x73\x63\x72\x65\x65\x70\x73\x03\x61\x73\x6b\x00\x00\x03\x03\x02\x01\x01\x07\x08\x01\x04\x6c\x6f\x6f\x70\x00\x02\x0a\x15\x02\x0a\x01\xc0\xc7\x01\x7e\x01\x10\x00\x1a\x0b\x08\x01\xc0\xb8\x02\x7f\x10\x01\x0b",
-    // a host call's result past the limit of i32: (func $more (local [25536 i64]) nop (drop (call $ask32))) (func (export "loop") (local [40000 i32]) (call $more))
+    // a host call's result past the limit of i32: (func $more (local [25536 i64]) nop (drop (call $ask32)))
+    // (func (export "loop") (local [40000 i32]) (call $more))
     b"\x01\x08\x02\x60\x00\x01\x7f\x60\x00\x00\x02\x11\x01\x07\x73\x63\x72\x65\x65\x70\x73\x05\x61\x73\x6b\x33\x32\x00\x00\x03\x03\x02\x01\x01\x07\x08\x01\x04\x6c\x6f\x6f\x70\x00\x02\x0a\x15\x02\x0a\x01\xc0\xc7\x01\x7e\x01\x10\x00\x1a\x0b\x08\x01\xc0\xb8\x02\x7f\x10\x01\x0b",
-    // a host call's result in the place of its arguments: (func $more (local [25534 i64]) (drop (call $sum (i32.const 1) (i64.const 2))) (call $see (call $read (i32.const 8)))) (func (export "loop") (local [40000 i32]) (call $more))
+    // a host call's result in the place of its arguments: (func $more (local [25534 i64]) (drop (call $sum
+    // (i32.const 1) (i64.const 2))) (call $see (call $read (i32.const 8)))) (func (export "loop") (local
+    // [40000 i32]) (call $more))
     b"\x01\x13\x04\x60\x01\x7e\x00\x60\x02\x7f\x7e\x01\x7e\x60\x01\x7f\x01\x7e\x60\x00\x00\x02\x2c\x03\x07\x73\x63\x72\x65\x65\x70\x73\x03\x73\x65\x65\x00\x00\x07\x73\x63\x72\x65\x65\x70\x73\x03\x73\x75\x6d\x00\x01\x07\x73\x63\x72\x65\x65\x70\x73\x04\x72\x65\x61\x64\x00\x02\x03\x03\x02\x03\x03\x07\x08\x01\x04\x6c\x6f\x6f\x70\x00\x04\x0a\x1e\x02\x13\x01\xbe\xc7\x01\x7e\x41\x01\x42\x02\x10\x01\x1a\x41\x08\x10\x02\x10\x00\x0b\x08\x01\xc0\xb8\x02\x7f\x10\x03\x0b",
-    // a get past the limit: (func $more (local [25535 i64]) (local.set 0 (i64.const 1)) (call $mark (i32.const 9)) (drop (i64.add (local.get 0) (local.get 1)))) (func (export "loop") (local [40000 i32]) (call $more))
+    // a get past the limit: (func $more (local [25535 i64]) (local.set 0 (i64.const 1)) (call $mark
+    // (i32.const 9)) (drop (i64.add (local.get 0) (local.get 1)))) (func (export "loop") (local [40000 i32])
+    // (call $more))
     b"\x01\x08\x02\x60\x01\x7f\x00\x60\x00\x00\x02\x10\x01\x07\x73\x63\x72\x65\x65\x70\x73\x04\x6d\x61\x72\x6b\x00\x00\x03\x03\x02\x01\x01\x07\x08\x01\x04\x6c\x6f\x6f\x70\x00\x02\x0a\x1f\x02\x14\x01\xbf\xc7\x01\x7e\x42\x01\x21\x00\x41\x09\x10\x00\x20\x00\x20\x01\x7c\x1a\x0b\x08\x01\xc0\xb8\x02\x7f\x10\x01\x0b",
-    // a global past the limit: (global i32 (i32.const 1)) (func $more (local [25536 i64]) nop (drop (global.get 0))) (func (export "loop") (local [40000 i32]) (call $more))
+    // a global past the limit: (global i32 (i32.const 1)) (func $more (local [25536 i64]) nop (drop
+    // (global.get 0))) (func (export "loop") (local [40000 i32]) (call $more))
     b"\x01\x04\x01\x60\x00\x00\x03\x03\x02\x00\x00\x06\x06\x01\x7f\x00\x41\x01\x0b\x07\x08\x01\x04\x6c\x6f\x6f\x70\x00\x01\x0a\x15\x02\x0a\x01\xc0\xc7\x01\x7e\x01\x23\x00\x1a\x0b\x08\x01\xc0\xb8\x02\x7f\x10\x00\x0b",
-    // a size past the limit: (memory 1) (func $more (local [25536 i64]) nop (drop (memory.size))) (func (export "loop") (local [40000 i32]) (call $more))
+    // a size past the limit: (memory 1) (func $more (local [25536 i64]) nop (drop (memory.size))) (func
+    // (export "loop") (local [40000 i32]) (call $more))
     b"\x01\x04\x01\x60\x00\x00\x03\x03\x02\x00\x00\x05\x03\x01\x00\x01\x07\x08\x01\x04\x6c\x6f\x6f\x70\x00\x01\x0a\x15\x02\x0a\x01\xc0\xc7\x01\x7e\x01\x3f\x00\x1a\x0b\x08\x01\xc0\xb8\x02\x7f\x10\x00\x0b",
-    // all that takes what it gives at the limit: (memory 1) (func $more (local [25535 i64]) (local.set 0 (i64.load (i32.const 0))) (drop (memory.grow (i32.const 0))) (drop (i32.eqz (i32.const 0))) (drop (i64.extend_i32_u (i32.const 1))) (drop (local.tee 0 (i64.const 1))) (if (i32.const 1) (then (call $mark (i32.const 9)))) (block (loop (br_if 1 (i32.const 1))) ) (call $mark (i32.const 9))) (func (export "loop") (local [40000 i32]) (call $more))
+    // all that takes what it gives at the limit: (memory 1) (func $more (local [25535 i64]) (local.set 0
+    // (i64.load (i32.const 0))) (drop (memory.grow (i32.const 0))) (drop (i32.eqz (i32.const 0))) (drop
+    // (i64.extend_i32_u (i32.const 1))) (drop (local.tee 0 (i64.const 1))) (if (i32.const 1) (then (call
+    // $mark (i32.const 9)))) (block (loop (br_if 1 (i32.const 1))) ) (call $mark (i32.const 9))) (func
+    // (export "loop") (local [40000 i32]) (call $more))
     b"\x01\x08\x02\x60\x01\x7f\x00\x60\x00\x00\x02\x10\x01\x07\x73\x63\x72\x65\x65\x70\x73\x04\x6d\x61\x72\x6b\x00\x00\x03\x03\x02\x01\x01\x05\x03\x01\x00\x01\x07\x08\x01\x04\x6c\x6f\x6f\x70\x00\x02\x0a\x41\x02\x36\x01\xbf\xc7\x01\x7e\x41\x00\x29\x03\x00\x21\x00\x41\x00\x40\x00\x1a\x41\x00\x45\x1a\x41\x01\xad\x1a\x42\x01\x22\x00\x1a\x41\x01\x04\x40\x41\x09\x10\x00\x0b\x02\x40\x03\x40\x41\x01\x0d\x01\x0b\x0b\x41\x09\x10\x00\x0b\x08\x01\xc0\xb8\x02\x7f\x10\x01\x0b",
-    // an indirect call's index does not count at the call: (type $none (func)) (table 1 funcref) (elem (i32.const 0) $one) (func $one (local i32) nop) (func $more (local [25535 i64]) (call_indirect (type $none) (i32.const 0)) (call $mark (i32.const 9))) (func (export "loop") (local [40000 i32]) (call $more))
+    // an indirect call's index does not count at the call: (type $none (func)) (table 1 funcref) (elem
+    // (i32.const 0) $one) (func $one (local i32) nop) (func $more (local [25535 i64]) (call_indirect (type
+    // $none) (i32.const 0)) (call $mark (i32.const 9))) (func (export "loop") (local [40000 i32]) (call
+    // $more))
     b"\x01\x08\x02\x60\x00\x00\x60\x01\x7f\x00\x02\x10\x01\x07\x73\x63\x72\x65\x65\x70\x73\x04\x6d\x61\x72\x6b\x00\x01\x03\x04\x03\x00\x00\x00\x04\x04\x01\x70\x00\x01\x07\x08\x01\x04\x6c\x6f\x6f\x70\x00\x03\x09\x07\x01\x00\x41\x00\x0b\x01\x01\x0a\x20\x03\x05\x01\x01\x7f\x01\x0b\x0f\x01\xbf\xc7\x01\x7e\x41\x00\x11\x00\x00\x41\x09\x10\x00\x0b\x08\x01\xc0\xb8\x02\x7f\x10\x02\x0b",
-    // an indirect call of two locals past the limit: (type $none (func)) (table 1 funcref) (elem (i32.const 0) $two) (func $two (local i32 i64) (call $mark (i32.const 9))) (func $more (local [25535 i64]) (call $mark (i32.const 9)) (call_indirect (type $none) (i32.const 0)) (call $mark (i32.const 9))) (func (export "loop") (local [40000 i32]) (call $more))
+    // an indirect call of two locals past the limit: (type $none (func)) (table 1 funcref) (elem (i32.const
+    // 0) $two) (func $two (local i32 i64) (call $mark (i32.const 9))) (func $more (local [25535 i64]) (call
+    // $mark (i32.const 9)) (call_indirect (type $none) (i32.const 0)) (call $mark (i32.const 9))) (func
+    // (export "loop") (local [40000 i32]) (call $more))
     b"\x01\x08\x02\x60\x00\x00\x60\x01\x7f\x00\x02\x10\x01\x07\x73\x63\x72\x65\x65\x70\x73\x04\x6d\x61\x72\x6b\x00\x01\x03\x04\x03\x00\x00\x00\x04\x04\x01\x70\x00\x01\x07\x08\x01\x04\x6c\x6f\x6f\x70\x00\x03\x09\x07\x01\x00\x41\x00\x0b\x01\x01\x0a\x29\x03\x0a\x02\x01\x7f\x01\x7e\x41\x09\x10\x00\x0b\x13\x01\xbf\xc7\x01\x7e\x41\x09\x10\x00\x41\x00\x11\x00\x00\x41\x09\x10\x00\x0b\x08\x01\xc0\xb8\x02\x7f\x10\x02\x0b",
-    // an indirect call's index past the limit: (type $none (func)) (table 1 funcref) (elem (i32.const 0) $none) (func $none nop) (func $more (local [25536 i64]) (call $none) (call_indirect (type $none) (i32.const 0)) (call $mark (i32.const 9))) (func (export "loop") (local [40000 i32]) (call $more))
+    // an indirect call's index past the limit: (type $none (func)) (table 1 funcref) (elem (i32.const 0)
+    // $none) (func $none nop) (func $more (local [25536 i64]) (call $none) (call_indirect (type $none)
+    // (i32.const 0)) (call $mark (i32.const 9))) (func (export "loop") (local [40000 i32]) (call $more))
     b"\x01\x08\x02\x60\x00\x00\x60\x01\x7f\x00\x02\x10\x01\x07\x73\x63\x72\x65\x65\x70\x73\x04\x6d\x61\x72\x6b\x00\x01\x03\x04\x03\x00\x00\x00\x04\x04\x01\x70\x00\x01\x07\x08\x01\x04\x6c\x6f\x6f\x70\x00\x03\x09\x07\x01\x00\x41\x00\x0b\x01\x01\x0a\x20\x03\x03\x00\x01\x0b\x11\x01\xc0\xc7\x01\x7e\x10\x01\x41\x00\x11\x00\x00\x41\x09\x10\x00\x0b\x08\x01\xc0\xb8\x02\x7f\x10\x02\x0b",
-    // an indirect call of an empty entry at the limit: (type $none (func)) (table 2 funcref) (elem (i32.const 0) $two) (func $two (local i32 i64) (call $mark (i32.const 9))) (func $more (local [25535 i64]) (call $mark (i32.const 9)) (call_indirect (type $none) (i32.const 1)) (call $mark (i32.const 9))) (func (export "loop") (local [40000 i32]) (call $more))
+    // an indirect call of an empty entry at the limit: (type $none (func)) (table 2 funcref) (elem (i32.const
+    // 0) $two) (func $two (local i32 i64) (call $mark (i32.const 9))) (func $more (local [25535 i64]) (call
+    // $mark (i32.const 9)) (call_indirect (type $none) (i32.const 1)) (call $mark (i32.const 9))) (func
+    // (export "loop") (local [40000 i32]) (call $more))
     b"\x01\x08\x02\x60\x00\x00\x60\x01\x7f\x00\x02\x10\x01\x07\x73\x63\x72\x65\x65\x70\x73\x04\x6d\x61\x72\x6b\x00\x01\x03\x04\x03\x00\x00\x00\x04\x04\x01\x70\x00\x02\x07\x08\x01\x04\x6c\x6f\x6f\x70\x00\x03\x09\x07\x01\x00\x41\x00\x0b\x01\x01\x0a\x29\x03\x0a\x02\x01\x7f\x01\x7e\x41\x09\x10\x00\x0b\x13\x01\xbf\xc7\x01\x7e\x41\x09\x10\x00\x41\x01\x11\x00\x00\x41\x09\x10\x00\x0b\x08\x01\xc0\xb8\x02\x7f\x10\x02\x0b",
-    // an indirect call of a wrong type at the limit: (type $none (func)) (table 2 funcref) (elem (i32.const 0) $two) (func $two (param i64) (local i32 i64) (call $mark (i32.const 9))) (func $more (local [25535 i64]) (call $mark (i32.const 9)) (call_indirect (type $none) (i32.const 0)) (call $mark (i32.const 9))) (func (export "loop") (local [40000 i32]) (call $more))
+    // an indirect call of a wrong type at the limit: (type $none (func)) (table 2 funcref) (elem (i32.const
+    // 0) $two) (func $two (param i64) (local i32 i64) (call $mark (i32.const 9))) (func $more (local [25535
+    // i64]) (call $mark (i32.const 9)) (call_indirect (type $none) (i32.const 0)) (call $mark (i32.const 9)))
+    // (func (export "loop") (local [40000 i32]) (call $more))
     b"\x01\x0c\x03\x60\x00\x00\x60\x01\x7f\x00\x60\x01\x7e\x00\x02\x10\x01\x07\x73\x63\x72\x65\x65\x70\x73\x04\x6d\x61\x72\x6b\x00\x01\x03\x04\x03\x02\x00\x00\x04\x04\x01\x70\x00\x02\x07\x08\x01\x04\x6c\x6f\x6f\x70\x00\x03\x09\x07\x01\x00\x41\x00\x0b\x01\x01\x0a\x29\x03\x0a\x02\x01\x7f\x01\x7e\x41\x09\x10\x00\x0b\x13\x01\xbf\xc7\x01\x7e\x41\x09\x10\x00\x41\x00\x11\x00\x00\x41\x09\x10\x00\x0b\x08\x01\xc0\xb8\x02\x7f\x10\x02\x0b",
-    // an indirect host call's result past the limit: (type $asked (func (result i64))) (table 1 funcref) (elem (i32.const 0) $ask) (func $more (local [25535 i64]) (drop (call_indirect (type $asked) (i32.const 0))) (call $mark (i32.const 9)) (drop (call_indirect (type $asked) (i32.const 0)))) (func (export "loop") (local [40000 i32]) (call $more))
+    // an indirect host call's result past the limit: (type $asked (func (result i64))) (table 1 funcref)
+    // (elem (i32.const 0) $ask) (func $more (local [25535 i64]) (drop (call_indirect (type $asked) (i32.const
+    // 0))) (call $mark (i32.const 9)) (drop (call_indirect (type $asked) (i32.const 0)))) (func (export
+    // "loop") (local [40000 i32]) (call $more))
     b"\x01\x0c\x03\x60\x00\x01\x7e\x60\x01\x7f\x00\x60\x00\x00\x02\x1e\x02\x07\x73\x63\x72\x65\x65\x70\x73\x04\x6d\x61\x72\x6b\x00\x01\x07\x73\x63\x72\x65\x65\x70\x73\x03\x61\x73\x6b\x00\x00\x03\x03\x02\x02\x02\x04\x04\x01\x70\x00\x01\x07\x08\x01\x04\x6c\x6f\x6f\x70\x00\x03\x09\x07\x01\x00\x41\x00\x0b\x01\x01\x0a\x21\x02\x16\x01\xbf\xc7\x01\x7e\x41\x00\x11\x00\x00\x1a\x41\x09\x10\x00\x41\x00\x11\x00\x00\x1a\x0b\x08\x01\xc0\xb8\x02\x7f\x10\x02\x0b",
-    // 1001 frames come before 65537 values: (func $down (param i32) (if (local.get 0) (then (call $down (i32.sub (local.get 0) (i32.const 1)))) (else (call $wide)))) (func $wide (local [40000 i64]) (call $mark (i32.const 9))) (func (export "loop") (local [40000 i32]) (call $down (i32.const 998)))
+    // 1001 frames come before 65537 values: (func $down (param i32) (if (local.get 0) (then (call $down
+    // (i32.sub (local.get 0) (i32.const 1)))) (else (call $wide)))) (func $wide (local [40000 i64]) (call
+    // $mark (i32.const 9))) (func (export "loop") (local [40000 i32]) (call $down (i32.const 998)))
     b"\x01\x08\x02\x60\x01\x7f\x00\x60\x00\x00\x02\x10\x01\x07\x73\x63\x72\x65\x65\x70\x73\x04\x6d\x61\x72\x6b\x00\x00\x03\x04\x03\x00\x01\x01\x07\x08\x01\x04\x6c\x6f\x6f\x70\x00\x03\x0a\x2a\x03\x11\x00\x20\x00\x04\x40\x20\x00\x41\x01\x6b\x10\x01\x05\x10\x02\x0b\x0b\x0a\x01\xc0\xb8\x02\x7e\x41\x09\x10\x00\x0b\x0b\x01\xc0\xb8\x02\x7f\x41\xe6\x07\x10\x01\x0b",
-    // 65537 values in frame 1000: (func $down (param i32) (if (local.get 0) (then (call $down (i32.sub (local.get 0) (i32.const 1)))) (else (call $wide)))) (func $wide (local [40000 i64]) (call $mark (i32.const 9))) (func (export "loop") (local [40000 i32]) (call $down (i32.const 997)))
+    // 65537 values in frame 1000: (func $down (param i32) (if (local.get 0) (then (call $down (i32.sub
+    // (local.get 0) (i32.const 1)))) (else (call $wide)))) (func $wide (local [40000 i64]) (call $mark
+    // (i32.const 9))) (func (export "loop") (local [40000 i32]) (call $down (i32.const 997)))
     b"\x01\x08\x02\x60\x01\x7f\x00\x60\x00\x00\x02\x10\x01\x07\x73\x63\x72\x65\x65\x70\x73\x04\x6d\x61\x72\x6b\x00\x00\x03\x04\x03\x00\x01\x01\x07\x08\x01\x04\x6c\x6f\x6f\x70\x00\x03\x0a\x2a\x03\x11\x00\x20\x00\x04\x40\x20\x00\x41\x01\x6b\x10\x01\x05\x10\x02\x0b\x0b\x0a\x01\xc0\xb8\x02\x7e\x41\x09\x10\x00\x0b\x0b\x01\xc0\xb8\x02\x7f\x41\xe5\x07\x10\x01\x0b",
-    // many values in recursion: (func $down (local [98 i64]) i64.const 1 (call $down) drop) (func (export "loop") (call $down))
+    // many values in recursion: (func $down (local [98 i64]) i64.const 1 (call $down) drop) (func (export
+    // "loop") (call $down))
     b"\x01\x04\x01\x60\x00\x00\x03\x03\x02\x00\x00\x07\x08\x01\x04\x6c\x6f\x6f\x70\x00\x01\x0a\x10\x02\x09\x01\x62\x7e\x42\x01\x10\x00\x1a\x0b\x04\x00\x10\x00\x0b",
-    // a frame that is left gives its values back: (func $wide (result i64) (local [40000 i64]) (local.get 39999)) (func (export "loop") (local i32) (loop (call $see (call $wide)) (local.set 0 (i32.add (local.get 0) (i32.const 1))) (br_if 0 (i32.lt_u (local.get 0) (i32.const 4)))))
+    // a frame that is left gives its values back: (func $wide (result i64) (local [40000 i64]) (local.get
+    // 39999)) (func (export "loop") (local i32) (loop (call $see (call $wide)) (local.set 0 (i32.add
+    // (local.get 0) (i32.const 1))) (br_if 0 (i32.lt_u (local.get 0) (i32.const 4)))))
     b"\x01\x0c\x03\x60\x01\x7e\x00\x60\x00\x01\x7e\x60\x00\x00\x02\x0f\x01\x07\x73\x63\x72\x65\x65\x70\x73\x03\x73\x65\x65\x00\x00\x03\x03\x02\x01\x02\x07\x08\x01\x04\x6c\x6f\x6f\x70\x00\x02\x0a\x26\x02\x0a\x01\xc0\xb8\x02\x7e\x20\xbf\xb8\x02\x0b\x19\x01\x01\x7f\x03\x40\x10\x01\x10\x00\x20\x00\x41\x01\x6a\x21\x00\x20\x00\x41\x04\x49\x0d\x00\x0b\x0b",
-    // a branch gives its operands back: (func $more (local [25533 i64]) (local.set 0 (i64.const 1)) (block (i32.const 1) (i32.const 2) (br 0)) (block (i32.const 3) (i32.const 4) (br_if 0 (i32.const 5)) (drop) (drop)) (call $mark (i32.const 9))) (func (export "loop") (local [40000 i32]) (call $more))
+    // a branch gives its operands back: (func $more (local [25533 i64]) (local.set 0 (i64.const 1)) (block
+    // (i32.const 1) (i32.const 2) (br 0)) (block (i32.const 3) (i32.const 4) (br_if 0 (i32.const 5)) (drop)
+    // (drop)) (call $mark (i32.const 9))) (func (export "loop") (local [40000 i32]) (call $more))
     b"\x01\x08\x02\x60\x01\x7f\x00\x60\x00\x00\x02\x10\x01\x07\x73\x63\x72\x65\x65\x70\x73\x04\x6d\x61\x72\x6b\x00\x00\x03\x03\x02\x01\x01\x07\x08\x01\x04\x6c\x6f\x6f\x70\x00\x02\x0a\x2f\x02\x24\x01\xbd\xc7\x01\x7e\x42\x01\x21\x00\x02\x40\x41\x01\x41\x02\x0c\x00\x0b\x02\x40\x41\x03\x41\x04\x41\x05\x0d\x00\x1a\x1a\x0b\x41\x09\x10\x00\x0b\x08\x01\xc0\xb8\x02\x7f\x10\x01\x0b",
-    // a branch's condition past the limit: (func $more (local [25534 i64]) (block (i32.const 3) (i32.const 4) nop (br_if 0 (i32.const 5)) (drop) (drop)) (call $mark (i32.const 9))) (func (export "loop") (local [40000 i32]) (call $more))
+    // a branch's condition past the limit: (func $more (local [25534 i64]) (block (i32.const 3) (i32.const 4)
+    // nop (br_if 0 (i32.const 5)) (drop) (drop)) (call $mark (i32.const 9))) (func (export "loop") (local
+    // [40000 i32]) (call $more))
     b"\x01\x08\x02\x60\x01\x7f\x00\x60\x00\x00\x02\x10\x01\x07\x73\x63\x72\x65\x65\x70\x73\x04\x6d\x61\x72\x6b\x00\x00\x03\x03\x02\x01\x01\x07\x08\x01\x04\x6c\x6f\x6f\x70\x00\x02\x0a\x23\x02\x18\x01\xbe\xc7\x01\x7e\x02\x40\x41\x03\x41\x04\x01\x41\x05\x0d\x00\x1a\x1a\x0b\x41\x09\x10\x00\x0b\x08\x01\xc0\xb8\x02\x7f\x10\x01\x0b",
-    // 1000 frames of 50 blocks each: (func $down (param i32) [50 block] local.get 0 (if (then (call $down (i32.sub (local.get 0) (i32.const 1))))) [50 end]) (func (export "loop") (call $down (i32.const 998)) (call $mark (i32.const 9)))
+    // 1000 frames of 50 blocks each: (func $down (param i32) [50 block] local.get 0 (if (then (call $down
+    // (i32.sub (local.get 0) (i32.const 1))))) [50 end]) (func (export "loop") (call $down (i32.const 998))
+    // (call $mark (i32.const 9)))
     b"\x01\x08\x02\x60\x01\x7f\x00\x60\x00\x00\x02\x10\x01\x07\x73\x63\x72\x65\x65\x70\x73\x04\x6d\x61\x72\x6b\x00\x00\x03\x03\x02\x00\x01\x07\x08\x01\x04\x6c\x6f\x6f\x70\x00\x02\x0a\xb3\x01\x02\xa4\x01\x00\x02\x40\x02\x40\x02\x40\x02\x40\x02\x40\x02\x40\x02\x40\x02\x40\x02\x40\x02\x40\x02\x40\x02\x40\x02\x40\x02\x40\x02\x40\x02\x40\x02\x40\x02\x40\x02\x40\x02\x40\x02\x40\x02\x40\x02\x40\x02\x40\x02\x40\x02\x40\x02\x40\x02\x40\x02\x40\x02\x40\x02\x40\x02\x40\x02\x40\x02\x40\x02\x40\x02\x40\x02\x40\x02\x40\x02\x40\x02\x40\x02\x40\x02\x40\x02\x40\x02\x40\x02\x40\x02\x40\x02\x40\x02\x40\x02\x40\x02\x40\x20\x00\x04\x40\x20\x00\x41\x01\x6b\x10\x01\x0b\x0b\x0b\x0b\x0b\x0b\x0b\x0b\x0b\x0b\x0b\x0b\x0b\x0b\x0b\x0b\x0b\x0b\x0b\x0b\x0b\x0b\x0b\x0b\x0b\x0b\x0b\x0b\x0b\x0b\x0b\x0b\x0b\x0b\x0b\x0b\x0b\x0b\x0b\x0b\x0b\x0b\x0b\x0b\x0b\x0b\x0b\x0b\x0b\x0b\x0b\x0b\x0b\x00\x41\xe6\x07\x10\x01\x41\x09\x10\x00\x0b",
-    // a return out of 50 blocks in each of 1000 frames: (func $down (param i32) (result i32) [50 block] local.get 0 (if (then (return (i32.add (i32.const 1) (call $down (i32.sub (local.get 0) (i32.const 1))))))) [50 end] (i32.const 1)) (func (export "loop") (call $see32 (call $down (i32.const 998))))
+    // a return out of 50 blocks in each of 1000 frames: (func $down (param i32) (result i32) [50 block]
+    // local.get 0 (if (then (return (i32.add (i32.const 1) (call $down (i32.sub (local.get 0) (i32.const
+    // 1))))))) [50 end] (i32.const 1)) (func (export "loop") (call $see32 (call $down (i32.const 998))))
     b"\x01\x0d\x03\x60\x01\x7f\x00\x60\x01\x7f\x01\x7f\x60\x00\x00\x02\x11\x01\x07\x73\x63\x72\x65\x65\x70\x73\x05\x73\x65\x65\x33\x32\x00\x00\x03\x03\x02\x01\x02\x07\x08\x01\x04\x6c\x6f\x6f\x70\x00\x02\x0a\xb7\x01\x02\xaa\x01\x00\x02\x40\x02\x40\x02\x40\x02\x40\x02\x40\x02\x40\x02\x40\x02\x40\x02\x40\x02\x40\x02\x40\x02\x40\x02\x40\x02\x40\x02\x40\x02\x40\x02\x40\x02\x40\x02\x40\x02\x40\x02\x40\x02\x40\x02\x40\x02\x40\x02\x40\x02\x40\x02\x40\x02\x40\x02\x40\x02\x40\x02\x40\x02\x40\x02\x40\x02\x40\x02\x40\x02\x40\x02\x40\x02\x40\x02\x40\x02\x40\x02\x40\x02\x40\x02\x40\x02\x40\x02\x40\x02\x40\x02\x40\x02\x40\x02\x40\x02\x40\x20\x00\x04\x40\x41\x01\x20\x00\x41\x01\x6b\x10\x01\x6a\x0f\x0b\x0b\x0b\x0b\x0b\x0b\x0b\x0b\x0b\x0b\x0b\x0b\x0b\x0b\x0b\x0b\x0b\x0b\x0b\x0b\x0b\x0b\x0b\x0b\x0b\x0b\x0b\x0b\x0b\x0b\x0b\x0b\x0b\x0b\x0b\x0b\x0b\x0b\x0b\x0b\x0b\x0b\x0b\x0b\x0b\x0b\x0b\x0b\x0b\x0b\x0b\x41\x01\x0b\x09\x00\x41\xe6\x07\x10\x01\x10\x00\x0b",
-    // a result at the limit: (func $more (result i64) (local [25535 i64]) (i64.const 9)) (func (export "loop") (local [40000 i32]) (call $see (call $more)) (call $see (call $more)))
+    // a result at the limit: (func $more (result i64) (local [25535 i64]) (i64.const 9)) (func (export
+    // "loop") (local [40000 i32]) (call $see (call $more)) (call $see (call $more)))
     b"\x01\x0c\x03\x60\x01\x7e\x00\x60\x00\x01\x7e\x60\x00\x00\x02\x0f\x01\x07\x73\x63\x72\x65\x65\x70\x73\x03\x73\x65\x65\x00\x00\x03\x03\x02\x01\x02\x07\x08\x01\x04\x6c\x6f\x6f\x70\x00\x02\x0a\x19\x02\x08\x01\xbf\xc7\x01\x7e\x42\x09\x0b\x0e\x01\xc0\xb8\x02\x7f\x10\x01\x10\x00\x10\x01\x10\x00\x0b",
-    // a result past the limit of its callee: (func $more (result i64) (local [25535 i64]) (i64.const 9)) (func (export "loop") (local [40000 i32]) (call $see (call $more)) (call $see (i64.add (i64.const 1) (call $more))))
+    // a result past the limit of its callee: (func $more (result i64) (local [25535 i64]) (i64.const 9))
+    // (func (export "loop") (local [40000 i32]) (call $see (call $more)) (call $see (i64.add (i64.const 1)
+    // (call $more))))
     b"\x01\x0c\x03\x60\x01\x7e\x00\x60\x00\x01\x7e\x60\x00\x00\x02\x0f\x01\x07\x73\x63\x72\x65\x65\x70\x73\x03\x73\x65\x65\x00\x00\x03\x03\x02\x01\x02\x07\x08\x01\x04\x6c\x6f\x6f\x70\x00\x02\x0a\x1c\x02\x08\x01\xbf\xc7\x01\x7e\x42\x09\x0b\x11\x01\xc0\xb8\x02\x7f\x10\x01\x10\x00\x42\x01\x10\x01\x7c\x10\x00\x0b",
-    // a return at the limit with operands below: (func $more (result i64) (local [25533 i64]) (i32.const 1) (i32.const 2) (i64.const 9) (return)) (func (export "loop") (local [40000 i32]) (call $see (call $more)) (call $see (call $more)) (i32.const 1) (i32.const 2) (drop) (drop))
+    // a return at the limit with operands below: (func $more (result i64) (local [25533 i64]) (i32.const 1)
+    // (i32.const 2) (i64.const 9) (return)) (func (export "loop") (local [40000 i32]) (call $see (call
+    // $more)) (call $see (call $more)) (i32.const 1) (i32.const 2) (drop) (drop))
     b"\x01\x0c\x03\x60\x01\x7e\x00\x60\x00\x01\x7e\x60\x00\x00\x02\x0f\x01\x07\x73\x63\x72\x65\x65\x70\x73\x03\x73\x65\x65\x00\x00\x03\x03\x02\x01\x02\x07\x08\x01\x04\x6c\x6f\x6f\x70\x00\x02\x0a\x24\x02\x0d\x01\xbd\xc7\x01\x7e\x41\x01\x41\x02\x42\x09\x0f\x0b\x14\x01\xc0\xb8\x02\x7f\x10\x01\x10\x00\x10\x01\x10\x00\x41\x01\x41\x02\x1a\x1a\x0b",
     // fuel that ends at a branch to a loop: (func (export "loop") (loop (call $mark (i32.const 9)) (br 0)))
     b"\x01\x08\x02\x60\x01\x7f\x00\x60\x00\x00\x02\x10\x01\x07\x73\x63\x72\x65\x65\x70\x73\x04\x6d\x61\x72\x6b\x00\x00\x03\x02\x01\x01\x07\x08\x01\x04\x6c\x6f\x6f\x70\x00\x01\x0a\x0d\x01\x0b\x00\x03\x40\x41\x09\x10\x00\x0c\x00\x0b\x0b",
-    // fuel that ends before the last of a loop's body: (func (export "loop") (loop (call $mark (i32.const 9)) (br 0)))
+    // fuel that ends before the last of a loop's body: (func (export "loop") (loop (call $mark (i32.const 9))
+    // (br 0)))
     b"\x01\x08\x02\x60\x01\x7f\x00\x60\x00\x00\x02\x10\x01\x07\x73\x63\x72\x65\x65\x70\x73\x04\x6d\x61\x72\x6b\x00\x00\x03\x02\x01\x01\x07\x08\x01\x04\x6c\x6f\x6f\x70\x00\x01\x0a\x0d\x01\x0b\x00\x03\x40\x41\x09\x10\x00\x0c\x00\x0b\x0b",
     // fuel that ends behind a loop's head: (func (export "loop") (loop (call $mark (i32.const 9)) (br 0)))
     b"\x01\x08\x02\x60\x01\x7f\x00\x60\x00\x00\x02\x10\x01\x07\x73\x63\x72\x65\x65\x70\x73\x04\x6d\x61\x72\x6b\x00\x00\x03\x02\x01\x01\x07\x08\x01\x04\x6c\x6f\x6f\x70\x00\x01\x0a\x0d\x01\x0b\x00\x03\x40\x41\x09\x10\x00\x0c\x00\x0b\x0b",

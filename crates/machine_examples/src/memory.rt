@@ -1,56 +1,151 @@
-// Loads, stores, and the growth of the memory. Where no import stands in a text, those of the host's calls are left out.
+// Loads, stores, and the growth of the memory. Where no import stands in a text, those of the host's calls
+// are left out.
 use crate::recorder::{MARK, SEE, SEE32};
 use crate::rows::{FINISHED, MEMORY_BOUNDS, all_do};
 use std::test::Fail;
 
 const MEMORY: [&[u8]; 24] = [
-    // loads of high bytes: (memory 1) (data (i32.const 3) "\81\92\a3\b4\c5\d6\e7\f8") (func (export "loop") (call $see32 (i32.load (i32.const 3))) (call $see (i64.load (i32.const 3))) (call $see32 (i32.load8_s (i32.const 3))) (call $see32 (i32.load8_u (i32.const 3))) (call $see32 (i32.load16_s (i32.const 3))) (call $see32 (i32.load16_u (i32.const 3))) (call $see (i64.load8_s (i32.const 3))) (call $see (i64.load8_u (i32.const 3))) (call $see (i64.load16_s (i32.const 3))) (call $see (i64.load16_u (i32.const 3))) (call $see (i64.load32_s (i32.const 3))) (call $see (i64.load32_u (i32.const 3))))
+    // loads of high bytes: (memory 1) (data (i32.const 3) "\81\92\a3\b4\c5\d6\e7\f8") (func (export "loop")
+    // (call $see32 (i32.load (i32.const 3))) (call $see (i64.load (i32.const 3))) (call $see32 (i32.load8_s
+    // (i32.const 3))) (call $see32 (i32.load8_u (i32.const 3))) (call $see32 (i32.load16_s (i32.const 3)))
+    // (call $see32 (i32.load16_u (i32.const 3))) (call $see (i64.load8_s (i32.const 3))) (call $see
+    // (i64.load8_u (i32.const 3))) (call $see (i64.load16_s (i32.const 3))) (call $see (i64.load16_u
+    // (i32.const 3))) (call $see (i64.load32_s (i32.const 3))) (call $see (i64.load32_u (i32.const 3))))
     b"\x01\x0c\x03\x60\x01\x7e\x00\x60\x01\x7f\x00\x60\x00\x00\x02\x1f\x02\x07\x73\x63\x72\x65\x65\x70\x73\x03\x73\x65\x65\x00\x00\x07\x73\x63\x72\x65\x65\x70\x73\x05\x73\x65\x65\x33\x32\x00\x01\x03\x02\x01\x02\x05\x03\x01\x00\x01\x07\x08\x01\x04\x6c\x6f\x6f\x70\x00\x02\x0a\x58\x01\x56\x00\x41\x03\x28\x02\x00\x10\x01\x41\x03\x29\x03\x00\x10\x00\x41\x03\x2c\x00\x00\x10\x01\x41\x03\x2d\x00\x00\x10\x01\x41\x03\x2e\x01\x00\x10\x01\x41\x03\x2f\x01\x00\x10\x01\x41\x03\x30\x00\x00\x10\x00\x41\x03\x31\x00\x00\x10\x00\x41\x03\x32\x01\x00\x10\x00\x41\x03\x33\x01\x00\x10\x00\x41\x03\x34\x02\x00\x10\x00\x41\x03\x35\x02\x00\x10\x00\x0b\x0b\x0e\x01\x00\x41\x03\x0b\x08\x81\x92\xa3\xb4\xc5\xd6\xe7\xf8",
-    // loads of low bytes: (memory 1) (data (i32.const 3) "\71\12\23\34\45\56\67\78\01") (func (export "loop") (call $see32 (i32.load (i32.const 3))) (call $see (i64.load (i32.const 3))) (call $see32 (i32.load8_s (i32.const 3))) (call $see32 (i32.load8_u (i32.const 3))) (call $see32 (i32.load16_s (i32.const 3))) (call $see32 (i32.load16_u (i32.const 3))) (call $see (i64.load8_s (i32.const 3))) (call $see (i64.load8_u (i32.const 3))) (call $see (i64.load16_s (i32.const 3))) (call $see (i64.load16_u (i32.const 3))) (call $see (i64.load32_s (i32.const 3))) (call $see (i64.load32_u (i32.const 3))))
+    // loads of low bytes: (memory 1) (data (i32.const 3) "\71\12\23\34\45\56\67\78\01") (func (export "loop")
+    // (call $see32 (i32.load (i32.const 3))) (call $see (i64.load (i32.const 3))) (call $see32 (i32.load8_s
+    // (i32.const 3))) (call $see32 (i32.load8_u (i32.const 3))) (call $see32 (i32.load16_s (i32.const 3)))
+    // (call $see32 (i32.load16_u (i32.const 3))) (call $see (i64.load8_s (i32.const 3))) (call $see
+    // (i64.load8_u (i32.const 3))) (call $see (i64.load16_s (i32.const 3))) (call $see (i64.load16_u
+    // (i32.const 3))) (call $see (i64.load32_s (i32.const 3))) (call $see (i64.load32_u (i32.const 3))))
     b"\x01\x0c\x03\x60\x01\x7e\x00\x60\x01\x7f\x00\x60\x00\x00\x02\x1f\x02\x07\x73\x63\x72\x65\x65\x70\x73\x03\x73\x65\x65\x00\x00\x07\x73\x63\x72\x65\x65\x70\x73\x05\x73\x65\x65\x33\x32\x00\x01\x03\x02\x01\x02\x05\x03\x01\x00\x01\x07\x08\x01\x04\x6c\x6f\x6f\x70\x00\x02\x0a\x58\x01\x56\x00\x41\x03\x28\x02\x00\x10\x01\x41\x03\x29\x03\x00\x10\x00\x41\x03\x2c\x00\x00\x10\x01\x41\x03\x2d\x00\x00\x10\x01\x41\x03\x2e\x01\x00\x10\x01\x41\x03\x2f\x01\x00\x10\x01\x41\x03\x30\x00\x00\x10\x00\x41\x03\x31\x00\x00\x10\x00\x41\x03\x32\x01\x00\x10\x00\x41\x03\x33\x01\x00\x10\x00\x41\x03\x34\x02\x00\x10\x00\x41\x03\x35\x02\x00\x10\x00\x0b\x0b\x0f\x01\x00\x41\x03\x0b\x09\x71\x12\x23\x34\x45\x56\x67\x78\x01",
-    // loads at an offset: (memory 1) (data (i32.const 3) "\71\12\23\34\45\56\67\78\01") (func (export "loop") (call $see32 (i32.load offset=3 (i32.const 1))) (call $see (i64.load offset=3 (i32.const 1))) (call $see32 (i32.load8_s offset=3 (i32.const 1))) (call $see32 (i32.load8_u offset=3 (i32.const 1))) (call $see32 (i32.load16_s offset=3 (i32.const 1))) (call $see32 (i32.load16_u offset=3 (i32.const 1))) (call $see (i64.load8_s offset=3 (i32.const 1))) (call $see (i64.load8_u offset=3 (i32.const 1))) (call $see (i64.load16_s offset=3 (i32.const 1))) (call $see (i64.load16_u offset=3 (i32.const 1))) (call $see (i64.load32_s offset=3 (i32.const 1))) (call $see (i64.load32_u offset=3 (i32.const 1))))
+    // loads at an offset: (memory 1) (data (i32.const 3) "\71\12\23\34\45\56\67\78\01") (func (export "loop")
+    // (call $see32 (i32.load offset=3 (i32.const 1))) (call $see (i64.load offset=3 (i32.const 1))) (call
+    // $see32 (i32.load8_s offset=3 (i32.const 1))) (call $see32 (i32.load8_u offset=3 (i32.const 1))) (call
+    // $see32 (i32.load16_s offset=3 (i32.const 1))) (call $see32 (i32.load16_u offset=3 (i32.const 1))) (call
+    // $see (i64.load8_s offset=3 (i32.const 1))) (call $see (i64.load8_u offset=3 (i32.const 1))) (call $see
+    // (i64.load16_s offset=3 (i32.const 1))) (call $see (i64.load16_u offset=3 (i32.const 1))) (call $see
+    // (i64.load32_s offset=3 (i32.const 1))) (call $see (i64.load32_u offset=3 (i32.const 1))))
     b"\x01\x0c\x03\x60\x01\x7e\x00\x60\x01\x7f\x00\x60\x00\x00\x02\x1f\x02\x07\x73\x63\x72\x65\x65\x70\x73\x03\x73\x65\x65\x00\x00\x07\x73\x63\x72\x65\x65\x70\x73\x05\x73\x65\x65\x33\x32\x00\x01\x03\x02\x01\x02\x05\x03\x01\x00\x01\x07\x08\x01\x04\x6c\x6f\x6f\x70\x00\x02\x0a\x58\x01\x56\x00\x41\x01\x28\x02\x03\x10\x01\x41\x01\x29\x03\x03\x10\x00\x41\x01\x2c\x00\x03\x10\x01\x41\x01\x2d\x00\x03\x10\x01\x41\x01\x2e\x01\x03\x10\x01\x41\x01\x2f\x01\x03\x10\x01\x41\x01\x30\x00\x03\x10\x00\x41\x01\x31\x00\x03\x10\x00\x41\x01\x32\x01\x03\x10\x00\x41\x01\x33\x01\x03\x10\x00\x41\x01\x34\x02\x03\x10\x00\x41\x01\x35\x02\x03\x10\x00\x0b\x0b\x0f\x01\x00\x41\x03\x0b\x09\x71\x12\x23\x34\x45\x56\x67\x78\x01",
-    // loads of a lone sign bit: (memory 1) (data (i32.const 0) "\00\80") (data (i32.const 8) "\00\00\00\80\ff\ff\ff\ff\80") (func (export "loop") (call $see32 (i32.load16_s (i32.const 0))) (call $see32 (i32.load16_u (i32.const 0))) (call $see32 (i32.load8_s (i32.const 1))) (call $see (i64.load32_s (i32.const 8))) (call $see (i64.load32_u (i32.const 8))) (call $see (i64.load8_s (i32.const 16))) (call $see (i64.load16_s (i32.const 0))) (call $see (i64.load (i32.const 8))))
+    // loads of a lone sign bit: (memory 1) (data (i32.const 0) "\00\80") (data (i32.const 8)
+    // "\00\00\00\80\ff\ff\ff\ff\80") (func (export "loop") (call $see32 (i32.load16_s (i32.const 0))) (call
+    // $see32 (i32.load16_u (i32.const 0))) (call $see32 (i32.load8_s (i32.const 1))) (call $see (i64.load32_s
+    // (i32.const 8))) (call $see (i64.load32_u (i32.const 8))) (call $see (i64.load8_s (i32.const 16))) (call
+    // $see (i64.load16_s (i32.const 0))) (call $see (i64.load (i32.const 8))))
     b"\x01\x0c\x03\x60\x01\x7e\x00\x60\x01\x7f\x00\x60\x00\x00\x02\x1f\x02\x07\x73\x63\x72\x65\x65\x70\x73\x03\x73\x65\x65\x00\x00\x07\x73\x63\x72\x65\x65\x70\x73\x05\x73\x65\x65\x33\x32\x00\x01\x03\x02\x01\x02\x05\x03\x01\x00\x01\x07\x08\x01\x04\x6c\x6f\x6f\x70\x00\x02\x0a\x3c\x01\x3a\x00\x41\x00\x2e\x01\x00\x10\x01\x41\x00\x2f\x01\x00\x10\x01\x41\x01\x2c\x00\x00\x10\x01\x41\x08\x34\x02\x00\x10\x00\x41\x08\x35\x02\x00\x10\x00\x41\x10\x30\x00\x00\x10\x00\x41\x00\x32\x01\x00\x10\x00\x41\x08\x29\x03\x00\x10\x00\x0b\x0b\x16\x02\x00\x41\x00\x0b\x02\x00\x80\x00\x41\x08\x0b\x09\x00\x00\x00\x80\xff\xff\xff\xff\x80",
-    // i32.store between bytes of ones: (memory 1) (func (export "loop") (i64.store (i32.const 0) (i64.const -1)) (i64.store (i32.const 8) (i64.const -1)) (i32.store (i32.const 1) (i32.const 0x92bcdef1)) (i32.store offset=3 (i32.const 7) (i32.const 0)) (call $see (i64.load (i32.const 0))) (call $see (i64.load (i32.const 8))))
+    // i32.store between bytes of ones: (memory 1) (func (export "loop") (i64.store (i32.const 0) (i64.const
+    // -1)) (i64.store (i32.const 8) (i64.const -1)) (i32.store (i32.const 1) (i32.const 0x92bcdef1))
+    // (i32.store offset=3 (i32.const 7) (i32.const 0)) (call $see (i64.load (i32.const 0))) (call $see
+    // (i64.load (i32.const 8))))
     b"\x01\x08\x02\x60\x01\x7e\x00\x60\x00\x00\x02\x0f\x01\x07\x73\x63\x72\x65\x65\x70\x73\x03\x73\x65\x65\x00\x00\x03\x02\x01\x01\x05\x03\x01\x00\x01\x07\x08\x01\x04\x6c\x6f\x6f\x70\x00\x01\x0a\x32\x01\x30\x00\x41\x00\x42\x7f\x37\x03\x00\x41\x08\x42\x7f\x37\x03\x00\x41\x01\x41\xf1\xbd\xf3\x95\x79\x36\x02\x00\x41\x07\x41\x00\x36\x02\x03\x41\x00\x29\x03\x00\x10\x00\x41\x08\x29\x03\x00\x10\x00\x0b",
-    // i64.store between bytes of ones: (memory 1) (func (export "loop") (i64.store (i32.const 0) (i64.const -1)) (i64.store (i32.const 8) (i64.const -1)) (i64.store (i32.const 1) (i64.const 0x1234567f9abcdef1)) (i64.store offset=3 (i32.const 7) (i64.const 0)) (call $see (i64.load (i32.const 0))) (call $see (i64.load (i32.const 8))))
+    // i64.store between bytes of ones: (memory 1) (func (export "loop") (i64.store (i32.const 0) (i64.const
+    // -1)) (i64.store (i32.const 8) (i64.const -1)) (i64.store (i32.const 1) (i64.const 0x1234567f9abcdef1))
+    // (i64.store offset=3 (i32.const 7) (i64.const 0)) (call $see (i64.load (i32.const 0))) (call $see
+    // (i64.load (i32.const 8))))
     b"\x01\x08\x02\x60\x01\x7e\x00\x60\x00\x00\x02\x0f\x01\x07\x73\x63\x72\x65\x65\x70\x73\x03\x73\x65\x65\x00\x00\x03\x02\x01\x01\x05\x03\x01\x00\x01\x07\x08\x01\x04\x6c\x6f\x6f\x70\x00\x01\x0a\x36\x01\x34\x00\x41\x00\x42\x7f\x37\x03\x00\x41\x08\x42\x7f\x37\x03\x00\x41\x01\x42\xf1\xbd\xf3\xd5\xf9\xcf\x95\x9a\x12\x37\x03\x00\x41\x07\x42\x00\x37\x03\x03\x41\x00\x29\x03\x00\x10\x00\x41\x08\x29\x03\x00\x10\x00\x0b",
-    // i32.store8 between bytes of ones: (memory 1) (func (export "loop") (i64.store (i32.const 0) (i64.const -1)) (i64.store (i32.const 8) (i64.const -1)) (i32.store8 (i32.const 1) (i32.const 0x92bcdef1)) (i32.store8 offset=3 (i32.const 7) (i32.const 0)) (call $see (i64.load (i32.const 0))) (call $see (i64.load (i32.const 8))))
+    // i32.store8 between bytes of ones: (memory 1) (func (export "loop") (i64.store (i32.const 0) (i64.const
+    // -1)) (i64.store (i32.const 8) (i64.const -1)) (i32.store8 (i32.const 1) (i32.const 0x92bcdef1))
+    // (i32.store8 offset=3 (i32.const 7) (i32.const 0)) (call $see (i64.load (i32.const 0))) (call $see
+    // (i64.load (i32.const 8))))
     b"\x01\x08\x02\x60\x01\x7e\x00\x60\x00\x00\x02\x0f\x01\x07\x73\x63\x72\x65\x65\x70\x73\x03\x73\x65\x65\x00\x00\x03\x02\x01\x01\x05\x03\x01\x00\x01\x07\x08\x01\x04\x6c\x6f\x6f\x70\x00\x01\x0a\x32\x01\x30\x00\x41\x00\x42\x7f\x37\x03\x00\x41\x08\x42\x7f\x37\x03\x00\x41\x01\x41\xf1\xbd\xf3\x95\x79\x3a\x00\x00\x41\x07\x41\x00\x3a\x00\x03\x41\x00\x29\x03\x00\x10\x00\x41\x08\x29\x03\x00\x10\x00\x0b",
-    // i32.store16 between bytes of ones: (memory 1) (func (export "loop") (i64.store (i32.const 0) (i64.const -1)) (i64.store (i32.const 8) (i64.const -1)) (i32.store16 (i32.const 1) (i32.const 0x92bcdef1)) (i32.store16 offset=3 (i32.const 7) (i32.const 0)) (call $see (i64.load (i32.const 0))) (call $see (i64.load (i32.const 8))))
+    // i32.store16 between bytes of ones: (memory 1) (func (export "loop") (i64.store (i32.const 0) (i64.const
+    // -1)) (i64.store (i32.const 8) (i64.const -1)) (i32.store16 (i32.const 1) (i32.const 0x92bcdef1))
+    // (i32.store16 offset=3 (i32.const 7) (i32.const 0)) (call $see (i64.load (i32.const 0))) (call $see
+    // (i64.load (i32.const 8))))
     b"\x01\x08\x02\x60\x01\x7e\x00\x60\x00\x00\x02\x0f\x01\x07\x73\x63\x72\x65\x65\x70\x73\x03\x73\x65\x65\x00\x00\x03\x02\x01\x01\x05\x03\x01\x00\x01\x07\x08\x01\x04\x6c\x6f\x6f\x70\x00\x01\x0a\x32\x01\x30\x00\x41\x00\x42\x7f\x37\x03\x00\x41\x08\x42\x7f\x37\x03\x00\x41\x01\x41\xf1\xbd\xf3\x95\x79\x3b\x01\x00\x41\x07\x41\x00\x3b\x01\x03\x41\x00\x29\x03\x00\x10\x00\x41\x08\x29\x03\x00\x10\x00\x0b",
-    // i64.store8 between bytes of ones: (memory 1) (func (export "loop") (i64.store (i32.const 0) (i64.const -1)) (i64.store (i32.const 8) (i64.const -1)) (i64.store8 (i32.const 1) (i64.const 0x1234567f9abcdef1)) (i64.store8 offset=3 (i32.const 7) (i64.const 0)) (call $see (i64.load (i32.const 0))) (call $see (i64.load (i32.const 8))))
+    // i64.store8 between bytes of ones: (memory 1) (func (export "loop") (i64.store (i32.const 0) (i64.const
+    // -1)) (i64.store (i32.const 8) (i64.const -1)) (i64.store8 (i32.const 1) (i64.const 0x1234567f9abcdef1))
+    // (i64.store8 offset=3 (i32.const 7) (i64.const 0)) (call $see (i64.load (i32.const 0))) (call $see
+    // (i64.load (i32.const 8))))
     b"\x01\x08\x02\x60\x01\x7e\x00\x60\x00\x00\x02\x0f\x01\x07\x73\x63\x72\x65\x65\x70\x73\x03\x73\x65\x65\x00\x00\x03\x02\x01\x01\x05\x03\x01\x00\x01\x07\x08\x01\x04\x6c\x6f\x6f\x70\x00\x01\x0a\x36\x01\x34\x00\x41\x00\x42\x7f\x37\x03\x00\x41\x08\x42\x7f\x37\x03\x00\x41\x01\x42\xf1\xbd\xf3\xd5\xf9\xcf\x95\x9a\x12\x3c\x00\x00\x41\x07\x42\x00\x3c\x00\x03\x41\x00\x29\x03\x00\x10\x00\x41\x08\x29\x03\x00\x10\x00\x0b",
-    // i64.store16 between bytes of ones: (memory 1) (func (export "loop") (i64.store (i32.const 0) (i64.const -1)) (i64.store (i32.const 8) (i64.const -1)) (i64.store16 (i32.const 1) (i64.const 0x1234567f9abcdef1)) (i64.store16 offset=3 (i32.const 7) (i64.const 0)) (call $see (i64.load (i32.const 0))) (call $see (i64.load (i32.const 8))))
+    // i64.store16 between bytes of ones: (memory 1) (func (export "loop") (i64.store (i32.const 0) (i64.const
+    // -1)) (i64.store (i32.const 8) (i64.const -1)) (i64.store16 (i32.const 1) (i64.const
+    // 0x1234567f9abcdef1)) (i64.store16 offset=3 (i32.const 7) (i64.const 0)) (call $see (i64.load (i32.const
+    // 0))) (call $see (i64.load (i32.const 8))))
     b"\x01\x08\x02\x60\x01\x7e\x00\x60\x00\x00\x02\x0f\x01\x07\x73\x63\x72\x65\x65\x70\x73\x03\x73\x65\x65\x00\x00\x03\x02\x01\x01\x05\x03\x01\x00\x01\x07\x08\x01\x04\x6c\x6f\x6f\x70\x00\x01\x0a\x36\x01\x34\x00\x41\x00\x42\x7f\x37\x03\x00\x41\x08\x42\x7f\x37\x03\x00\x41\x01\x42\xf1\xbd\xf3\xd5\xf9\xcf\x95\x9a\x12\x3d\x01\x00\x41\x07\x42\x00\x3d\x01\x03\x41\x00\x29\x03\x00\x10\x00\x41\x08\x29\x03\x00\x10\x00\x0b",
-    // i64.store32 between bytes of ones: (memory 1) (func (export "loop") (i64.store (i32.const 0) (i64.const -1)) (i64.store (i32.const 8) (i64.const -1)) (i64.store32 (i32.const 1) (i64.const 0x1234567f9abcdef1)) (i64.store32 offset=3 (i32.const 7) (i64.const 0)) (call $see (i64.load (i32.const 0))) (call $see (i64.load (i32.const 8))))
+    // i64.store32 between bytes of ones: (memory 1) (func (export "loop") (i64.store (i32.const 0) (i64.const
+    // -1)) (i64.store (i32.const 8) (i64.const -1)) (i64.store32 (i32.const 1) (i64.const
+    // 0x1234567f9abcdef1)) (i64.store32 offset=3 (i32.const 7) (i64.const 0)) (call $see (i64.load (i32.const
+    // 0))) (call $see (i64.load (i32.const 8))))
     b"\x01\x08\x02\x60\x01\x7e\x00\x60\x00\x00\x02\x0f\x01\x07\x73\x63\x72\x65\x65\x70\x73\x03\x73\x65\x65\x00\x00\x03\x02\x01\x01\x05\x03\x01\x00\x01\x07\x08\x01\x04\x6c\x6f\x6f\x70\x00\x01\x0a\x36\x01\x34\x00\x41\x00\x42\x7f\x37\x03\x00\x41\x08\x42\x7f\x37\x03\x00\x41\x01\x42\xf1\xbd\xf3\xd5\xf9\xcf\x95\x9a\x12\x3e\x02\x00\x41\x07\x42\x00\x3e\x02\x03\x41\x00\x29\x03\x00\x10\x00\x41\x08\x29\x03\x00\x10\x00\x0b",
-    // little endian: (memory 1) (func (export "loop") (i32.store (i32.const 0) (i32.const 0x4030201)) (call $see32 (i32.load8_u (i32.const 0))) (call $see32 (i32.load8_u (i32.const 1))) (call $see32 (i32.load8_u (i32.const 2))) (call $see32 (i32.load8_u (i32.const 3))) (i64.store (i32.const 9) (i64.const 0x807060504030201)) (call $see (i64.load8_u offset=9 (i32.const 0))) (call $see (i64.load8_u offset=9 (i32.const 7))) (call $see (i64.load16_u (i32.const 11))) (call $see (i64.load32_u (i32.const 13))))
+    // little endian: (memory 1) (func (export "loop") (i32.store (i32.const 0) (i32.const 0x4030201)) (call
+    // $see32 (i32.load8_u (i32.const 0))) (call $see32 (i32.load8_u (i32.const 1))) (call $see32 (i32.load8_u
+    // (i32.const 2))) (call $see32 (i32.load8_u (i32.const 3))) (i64.store (i32.const 9) (i64.const
+    // 0x807060504030201)) (call $see (i64.load8_u offset=9 (i32.const 0))) (call $see (i64.load8_u offset=9
+    // (i32.const 7))) (call $see (i64.load16_u (i32.const 11))) (call $see (i64.load32_u (i32.const 13))))
     b"\x01\x0c\x03\x60\x01\x7e\x00\x60\x01\x7f\x00\x60\x00\x00\x02\x1f\x02\x07\x73\x63\x72\x65\x65\x70\x73\x03\x73\x65\x65\x00\x00\x07\x73\x63\x72\x65\x65\x70\x73\x05\x73\x65\x65\x33\x32\x00\x01\x03\x02\x01\x02\x05\x03\x01\x00\x01\x07\x08\x01\x04\x6c\x6f\x6f\x70\x00\x02\x0a\x55\x01\x53\x00\x41\x00\x41\x81\x84\x8c\x20\x36\x02\x00\x41\x00\x2d\x00\x00\x10\x01\x41\x01\x2d\x00\x00\x10\x01\x41\x02\x2d\x00\x00\x10\x01\x41\x03\x2d\x00\x00\x10\x01\x41\x09\x42\x81\x84\x8c\xa0\xd0\xc0\xc1\x83\x08\x37\x03\x00\x41\x00\x31\x00\x09\x10\x00\x41\x07\x31\x00\x09\x10\x00\x41\x0b\x33\x01\x00\x10\x00\x41\x0d\x35\x02\x00\x10\x00\x0b",
-    // stores that end at the last byte: (memory 1) (func (export "loop") (i32.store (i32.const 65532) (i32.const -1029)) (call $see (i64.load (i32.const 65528))) (i64.store (i32.const 65528) (i64.const -2057)) (call $see (i64.load (i32.const 65528))) (i32.store8 (i32.const 65535) (i32.const -258)) (call $see (i64.load (i32.const 65528))) (i32.store16 (i32.const 65534) (i32.const -515)) (call $see (i64.load (i32.const 65528))) (i64.store8 (i32.const 65535) (i64.const -258)) (call $see (i64.load (i32.const 65528))) (i64.store16 (i32.const 65534) (i64.const -515)) (call $see (i64.load (i32.const 65528))) (i64.store32 (i32.const 65532) (i64.const -1029)) (call $see (i64.load (i32.const 65528))))
+    // stores that end at the last byte: (memory 1) (func (export "loop") (i32.store (i32.const 65532)
+    // (i32.const -1029)) (call $see (i64.load (i32.const 65528))) (i64.store (i32.const 65528) (i64.const
+    // -2057)) (call $see (i64.load (i32.const 65528))) (i32.store8 (i32.const 65535) (i32.const -258)) (call
+    // $see (i64.load (i32.const 65528))) (i32.store16 (i32.const 65534) (i32.const -515)) (call $see
+    // (i64.load (i32.const 65528))) (i64.store8 (i32.const 65535) (i64.const -258)) (call $see (i64.load
+    // (i32.const 65528))) (i64.store16 (i32.const 65534) (i64.const -515)) (call $see (i64.load (i32.const
+    // 65528))) (i64.store32 (i32.const 65532) (i64.const -1029)) (call $see (i64.load (i32.const 65528))))
     b"\x01\x08\x02\x60\x01\x7e\x00\x60\x00\x00\x02\x0f\x01\x07\x73\x63\x72\x65\x65\x70\x73\x03\x73\x65\x65\x00\x00\x03\x02\x01\x01\x05\x03\x01\x00\x01\x07\x08\x01\x04\x6c\x6f\x6f\x70\x00\x01\x0a\x8a\x01\x01\x87\x01\x00\x41\xfc\xff\x03\x41\xfb\x77\x36\x02\x00\x41\xf8\xff\x03\x29\x03\x00\x10\x00\x41\xf8\xff\x03\x42\xf7\x6f\x37\x03\x00\x41\xf8\xff\x03\x29\x03\x00\x10\x00\x41\xff\xff\x03\x41\xfe\x7d\x3a\x00\x00\x41\xf8\xff\x03\x29\x03\x00\x10\x00\x41\xfe\xff\x03\x41\xfd\x7b\x3b\x01\x00\x41\xf8\xff\x03\x29\x03\x00\x10\x00\x41\xff\xff\x03\x42\xfe\x7d\x3c\x00\x00\x41\xf8\xff\x03\x29\x03\x00\x10\x00\x41\xfe\xff\x03\x42\xfd\x7b\x3d\x01\x00\x41\xf8\xff\x03\x29\x03\x00\x10\x00\x41\xfc\xff\x03\x42\xfb\x77\x3e\x02\x00\x41\xf8\xff\x03\x29\x03\x00\x10\x00\x0b",
-    // loads that end at the last byte: (memory 1) (data (i32.const 65528) "\11\22\33\44\55\66\77\88") (func (export "loop") (call $see32 (i32.load (i32.const 65532))) (call $see32 (i32.load offset=65532 (i32.const 0))) (call $see32 (i32.load offset=65000 (i32.const 532))) (call $see (i64.load (i32.const 65528))) (call $see (i64.load offset=65528 (i32.const 0))) (call $see (i64.load offset=65000 (i32.const 528))) (call $see32 (i32.load8_s (i32.const 65535))) (call $see32 (i32.load8_s offset=65535 (i32.const 0))) (call $see32 (i32.load8_s offset=65000 (i32.const 535))) (call $see32 (i32.load8_u (i32.const 65535))) (call $see32 (i32.load8_u offset=65535 (i32.const 0))) (call $see32 (i32.load8_u offset=65000 (i32.const 535))) (call $see32 (i32.load16_s (i32.const 65534))) (call $see32 (i32.load16_s offset=65534 (i32.const 0))) (call $see32 (i32.load16_s offset=65000 (i32.const 534))) (call $see32 (i32.load16_u (i32.const 65534))) (call $see32 (i32.load16_u offset=65534 (i32.const 0))) (call $see32 (i32.load16_u offset=65000 (i32.const 534))) (call $see (i64.load8_s (i32.const 65535))) (call $see (i64.load8_s offset=65535 (i32.const 0))) (call $see (i64.load8_s offset=65000 (i32.const 535))) (call $see (i64.load8_u (i32.const 65535))) (call $see (i64.load8_u offset=65535 (i32.const 0))) (call $see (i64.load8_u offset=65000 (i32.const 535))) (call $see (i64.load16_s (i32.const 65534))) (call $see (i64.load16_s offset=65534 (i32.const 0))) (call $see (i64.load16_s offset=65000 (i32.const 534))) (call $see (i64.load16_u (i32.const 65534))) (call $see (i64.load16_u offset=65534 (i32.const 0))) (call $see (i64.load16_u offset=65000 (i32.const 534))) (call $see (i64.load32_s (i32.const 65532))) (call $see (i64.load32_s offset=65532 (i32.const 0))) (call $see (i64.load32_s offset=65000 (i32.const 532))) (call $see (i64.load32_u (i32.const 65532))) (call $see (i64.load32_u offset=65532 (i32.const 0))) (call $see (i64.load32_u offset=65000 (i32.const 532))))
+    // loads that end at the last byte: (memory 1) (data (i32.const 65528) "\11\22\33\44\55\66\77\88") (func
+    // (export "loop") (call $see32 (i32.load (i32.const 65532))) (call $see32 (i32.load offset=65532
+    // (i32.const 0))) (call $see32 (i32.load offset=65000 (i32.const 532))) (call $see (i64.load (i32.const
+    // 65528))) (call $see (i64.load offset=65528 (i32.const 0))) (call $see (i64.load offset=65000 (i32.const
+    // 528))) (call $see32 (i32.load8_s (i32.const 65535))) (call $see32 (i32.load8_s offset=65535 (i32.const
+    // 0))) (call $see32 (i32.load8_s offset=65000 (i32.const 535))) (call $see32 (i32.load8_u (i32.const
+    // 65535))) (call $see32 (i32.load8_u offset=65535 (i32.const 0))) (call $see32 (i32.load8_u offset=65000
+    // (i32.const 535))) (call $see32 (i32.load16_s (i32.const 65534))) (call $see32 (i32.load16_s
+    // offset=65534 (i32.const 0))) (call $see32 (i32.load16_s offset=65000 (i32.const 534))) (call $see32
+    // (i32.load16_u (i32.const 65534))) (call $see32 (i32.load16_u offset=65534 (i32.const 0))) (call $see32
+    // (i32.load16_u offset=65000 (i32.const 534))) (call $see (i64.load8_s (i32.const 65535))) (call $see
+    // (i64.load8_s offset=65535 (i32.const 0))) (call $see (i64.load8_s offset=65000 (i32.const 535))) (call
+    // $see (i64.load8_u (i32.const 65535))) (call $see (i64.load8_u offset=65535 (i32.const 0))) (call $see
+    // (i64.load8_u offset=65000 (i32.const 535))) (call $see (i64.load16_s (i32.const 65534))) (call $see
+    // (i64.load16_s offset=65534 (i32.const 0))) (call $see (i64.load16_s offset=65000 (i32.const 534)))
+    // (call $see (i64.load16_u (i32.const 65534))) (call $see (i64.load16_u offset=65534 (i32.const 0)))
+    // (call $see (i64.load16_u offset=65000 (i32.const 534))) (call $see (i64.load32_s (i32.const 65532)))
+    // (call $see (i64.load32_s offset=65532 (i32.const 0))) (call $see (i64.load32_s offset=65000 (i32.const
+    // 532))) (call $see (i64.load32_u (i32.const 65532))) (call $see (i64.load32_u offset=65532 (i32.const
+    // 0))) (call $see (i64.load32_u offset=65000 (i32.const 532))))
     b"\x01\x0c\x03\x60\x01\x7e\x00\x60\x01\x7f\x00\x60\x00\x00\x02\x1f\x02\x07\x73\x63\x72\x65\x65\x70\x73\x03\x73\x65\x65\x00\x00\x07\x73\x63\x72\x65\x65\x70\x73\x05\x73\x65\x65\x33\x32\x00\x01\x03\x02\x01\x02\x05\x03\x01\x00\x01\x07\x08\x01\x04\x6c\x6f\x6f\x70\x00\x02\x0a\xd5\x02\x01\xd2\x02\x00\x41\xfc\xff\x03\x28\x02\x00\x10\x01\x41\x00\x28\x02\xfc\xff\x03\x10\x01\x41\x94\x04\x28\x02\xe8\xfb\x03\x10\x01\x41\xf8\xff\x03\x29\x03\x00\x10\x00\x41\x00\x29\x03\xf8\xff\x03\x10\x00\x41\x90\x04\x29\x03\xe8\xfb\x03\x10\x00\x41\xff\xff\x03\x2c\x00\x00\x10\x01\x41\x00\x2c\x00\xff\xff\x03\x10\x01\x41\x97\x04\x2c\x00\xe8\xfb\x03\x10\x01\x41\xff\xff\x03\x2d\x00\x00\x10\x01\x41\x00\x2d\x00\xff\xff\x03\x10\x01\x41\x97\x04\x2d\x00\xe8\xfb\x03\x10\x01\x41\xfe\xff\x03\x2e\x01\x00\x10\x01\x41\x00\x2e\x01\xfe\xff\x03\x10\x01\x41\x96\x04\x2e\x01\xe8\xfb\x03\x10\x01\x41\xfe\xff\x03\x2f\x01\x00\x10\x01\x41\x00\x2f\x01\xfe\xff\x03\x10\x01\x41\x96\x04\x2f\x01\xe8\xfb\x03\x10\x01\x41\xff\xff\x03\x30\x00\x00\x10\x00\x41\x00\x30\x00\xff\xff\x03\x10\x00\x41\x97\x04\x30\x00\xe8\xfb\x03\x10\x00\x41\xff\xff\x03\x31\x00\x00\x10\x00\x41\x00\x31\x00\xff\xff\x03\x10\x00\x41\x97\x04\x31\x00\xe8\xfb\x03\x10\x00\x41\xfe\xff\x03\x32\x01\x00\x10\x00\x41\x00\x32\x01\xfe\xff\x03\x10\x00\x41\x96\x04\x32\x01\xe8\xfb\x03\x10\x00\x41\xfe\xff\x03\x33\x01\x00\x10\x00\x41\x00\x33\x01\xfe\xff\x03\x10\x00\x41\x96\x04\x33\x01\xe8\xfb\x03\x10\x00\x41\xfc\xff\x03\x34\x02\x00\x10\x00\x41\x00\x34\x02\xfc\xff\x03\x10\x00\x41\x94\x04\x34\x02\xe8\xfb\x03\x10\x00\x41\xfc\xff\x03\x35\x02\x00\x10\x00\x41\x00\x35\x02\xfc\xff\x03\x10\x00\x41\x94\x04\x35\x02\xe8\xfb\x03\x10\x00\x0b\x0b\x10\x01\x00\x41\xf8\xff\x03\x0b\x08\x11\x22\x33\x44\x55\x66\x77\x88",
-    // size and growth: (memory 1 3) (func (export "loop") (call $see32 (memory.size)) (call $see32 (memory.grow (i32.const 1))) (call $see32 (memory.size)) (call $see32 (memory.grow (i32.const 0))) (call $see32 (memory.grow (i32.const 2))) (call $see32 (memory.size)) (call $see32 (memory.grow (i32.const 1))) (call $see32 (memory.grow (i32.const 1))) (call $see32 (memory.grow (i32.const 0))) (call $see32 (memory.size)))
+    // size and growth: (memory 1 3) (func (export "loop") (call $see32 (memory.size)) (call $see32
+    // (memory.grow (i32.const 1))) (call $see32 (memory.size)) (call $see32 (memory.grow (i32.const 0)))
+    // (call $see32 (memory.grow (i32.const 2))) (call $see32 (memory.size)) (call $see32 (memory.grow
+    // (i32.const 1))) (call $see32 (memory.grow (i32.const 1))) (call $see32 (memory.grow (i32.const 0)))
+    // (call $see32 (memory.size)))
     b"\x01\x08\x02\x60\x01\x7f\x00\x60\x00\x00\x02\x11\x01\x07\x73\x63\x72\x65\x65\x70\x73\x05\x73\x65\x65\x33\x32\x00\x00\x03\x02\x01\x01\x05\x04\x01\x01\x01\x03\x07\x08\x01\x04\x6c\x6f\x6f\x70\x00\x01\x0a\x38\x01\x36\x00\x3f\x00\x10\x00\x41\x01\x40\x00\x10\x00\x3f\x00\x10\x00\x41\x00\x40\x00\x10\x00\x41\x02\x40\x00\x10\x00\x3f\x00\x10\x00\x41\x01\x40\x00\x10\x00\x41\x01\x40\x00\x10\x00\x41\x00\x40\x00\x10\x00\x3f\x00\x10\x00\x0b",
-    // new pages are zero and old bytes stay: (memory 1 3) (data (i32.const 65535) "\07") (func (export "loop") (i64.store (i32.const 65520) (i64.const -2)) (drop (memory.grow (i32.const 2))) (call $see (i64.load (i32.const 65520))) (call $see (i64.load (i32.const 65535))) (call $see (i64.load (i32.const 131068))) (call $see (i64.load (i32.const 196600))) (i64.store (i32.const 196600) (i64.const -3)) (i64.store (i32.const 131068) (i64.const -4)) (call $see (i64.load (i32.const 196600))) (call $see (i64.load (i32.const 131068))))
+    // new pages are zero and old bytes stay: (memory 1 3) (data (i32.const 65535) "\07") (func (export
+    // "loop") (i64.store (i32.const 65520) (i64.const -2)) (drop (memory.grow (i32.const 2))) (call $see
+    // (i64.load (i32.const 65520))) (call $see (i64.load (i32.const 65535))) (call $see (i64.load (i32.const
+    // 131068))) (call $see (i64.load (i32.const 196600))) (i64.store (i32.const 196600) (i64.const -3))
+    // (i64.store (i32.const 131068) (i64.const -4)) (call $see (i64.load (i32.const 196600))) (call $see
+    // (i64.load (i32.const 131068))))
     b"\x01\x08\x02\x60\x01\x7e\x00\x60\x00\x00\x02\x0f\x01\x07\x73\x63\x72\x65\x65\x70\x73\x03\x73\x65\x65\x00\x00\x03\x02\x01\x01\x05\x04\x01\x01\x01\x03\x07\x08\x01\x04\x6c\x6f\x6f\x70\x00\x01\x0a\x5a\x01\x58\x00\x41\xf0\xff\x03\x42\x7e\x37\x03\x00\x41\x02\x40\x00\x1a\x41\xf0\xff\x03\x29\x03\x00\x10\x00\x41\xff\xff\x03\x29\x03\x00\x10\x00\x41\xfc\xff\x07\x29\x03\x00\x10\x00\x41\xf8\xff\x0b\x29\x03\x00\x10\x00\x41\xf8\xff\x0b\x42\x7d\x37\x03\x00\x41\xfc\xff\x07\x42\x7c\x37\x03\x00\x41\xf8\xff\x0b\x29\x03\x00\x10\x00\x41\xfc\xff\x07\x29\x03\x00\x10\x00\x0b\x0b\x09\x01\x00\x41\xff\xff\x03\x0b\x01\x07",
-    // growth past 256 pages: (memory 1) (func (export "loop") (call $see32 (memory.grow (i32.const 256))) (call $see32 (memory.size)) (call $see32 (memory.grow (i32.const 255))) (call $see32 (memory.size)) (call $see32 (memory.grow (i32.const 1))) (call $see32 (memory.grow (i32.const 0))) (i32.store8 (i32.const 16777215) (i32.const 200)) (call $see32 (i32.load (i32.const 16777212))) (call $see32 (i32.load8_s (i32.const 16777215))))
+    // growth past 256 pages: (memory 1) (func (export "loop") (call $see32 (memory.grow (i32.const 256)))
+    // (call $see32 (memory.size)) (call $see32 (memory.grow (i32.const 255))) (call $see32 (memory.size))
+    // (call $see32 (memory.grow (i32.const 1))) (call $see32 (memory.grow (i32.const 0))) (i32.store8
+    // (i32.const 16777215) (i32.const 200)) (call $see32 (i32.load (i32.const 16777212))) (call $see32
+    // (i32.load8_s (i32.const 16777215))))
     b"\x01\x08\x02\x60\x01\x7f\x00\x60\x00\x00\x02\x11\x01\x07\x73\x63\x72\x65\x65\x70\x73\x05\x73\x65\x65\x33\x32\x00\x00\x03\x02\x01\x01\x05\x03\x01\x00\x01\x07\x08\x01\x04\x6c\x6f\x6f\x70\x00\x01\x0a\x45\x01\x43\x00\x41\x80\x02\x40\x00\x10\x00\x3f\x00\x10\x00\x41\xff\x01\x40\x00\x10\x00\x3f\x00\x10\x00\x41\x01\x40\x00\x10\x00\x41\x00\x40\x00\x10\x00\x41\xff\xff\xff\x07\x41\xc8\x01\x3a\x00\x00\x41\xfc\xff\xff\x07\x28\x02\x00\x10\x00\x41\xff\xff\xff\x07\x2c\x00\x00\x10\x00\x0b",
-    // growth past 256 pages below a greater maximum: (memory 200 65536) (func (export "loop") (call $see32 (memory.grow (i32.const 57))) (call $see32 (memory.grow (i32.const 56))) (call $see32 (memory.grow (i32.const 1))) (call $see32 (memory.size)))
+    // growth past 256 pages below a greater maximum: (memory 200 65536) (func (export "loop") (call $see32
+    // (memory.grow (i32.const 57))) (call $see32 (memory.grow (i32.const 56))) (call $see32 (memory.grow
+    // (i32.const 1))) (call $see32 (memory.size)))
     b"\x01\x08\x02\x60\x01\x7f\x00\x60\x00\x00\x02\x11\x01\x07\x73\x63\x72\x65\x65\x70\x73\x05\x73\x65\x65\x33\x32\x00\x00\x03\x02\x01\x01\x05\x07\x01\x01\xc8\x01\x80\x80\x04\x07\x08\x01\x04\x6c\x6f\x6f\x70\x00\x01\x0a\x1a\x01\x18\x00\x41\x39\x40\x00\x10\x00\x41\x38\x40\x00\x10\x00\x41\x01\x40\x00\x10\x00\x3f\x00\x10\x00\x0b",
-    // growth by more than any memory: (memory 1) (func (export "loop") (call $see32 (memory.grow (i32.const -1))) (call $see32 (memory.grow (i32.const -0x80000000))) (call $see32 (memory.grow (i32.const 65536))) (call $see32 (memory.grow (i32.const 65535))) (call $see32 (memory.size)))
+    // growth by more than any memory: (memory 1) (func (export "loop") (call $see32 (memory.grow (i32.const
+    // -1))) (call $see32 (memory.grow (i32.const -0x80000000))) (call $see32 (memory.grow (i32.const 65536)))
+    // (call $see32 (memory.grow (i32.const 65535))) (call $see32 (memory.size)))
     b"\x01\x08\x02\x60\x01\x7f\x00\x60\x00\x00\x02\x11\x01\x07\x73\x63\x72\x65\x65\x70\x73\x05\x73\x65\x65\x33\x32\x00\x00\x03\x02\x01\x01\x05\x03\x01\x00\x01\x07\x08\x01\x04\x6c\x6f\x6f\x70\x00\x01\x0a\x28\x01\x26\x00\x41\x7f\x40\x00\x10\x00\x41\x80\x80\x80\x80\x78\x40\x00\x10\x00\x41\x80\x80\x04\x40\x00\x10\x00\x41\xff\xff\x03\x40\x00\x10\x00\x3f\x00\x10\x00\x0b",
-    // growth of 256 pages: (memory 256) (func (export "loop") (call $see32 (memory.size)) (call $see32 (memory.grow (i32.const 1))) (call $see32 (memory.grow (i32.const 0))))
+    // growth of 256 pages: (memory 256) (func (export "loop") (call $see32 (memory.size)) (call $see32
+    // (memory.grow (i32.const 1))) (call $see32 (memory.grow (i32.const 0))))
     b"\x01\x08\x02\x60\x01\x7f\x00\x60\x00\x00\x02\x11\x01\x07\x73\x63\x72\x65\x65\x70\x73\x05\x73\x65\x65\x33\x32\x00\x00\x03\x02\x01\x01\x05\x04\x01\x00\x80\x02\x07\x08\x01\x04\x6c\x6f\x6f\x70\x00\x01\x0a\x14\x01\x12\x00\x3f\x00\x10\x00\x41\x01\x40\x00\x10\x00\x41\x00\x40\x00\x10\x00\x0b",
-    // growth of no pages to a maximum of none: (memory 0 0) (func (export "loop") (call $see32 (memory.size)) (call $see32 (memory.grow (i32.const 0))) (call $see32 (memory.grow (i32.const 1))) (call $see32 (memory.size)))
+    // growth of no pages to a maximum of none: (memory 0 0) (func (export "loop") (call $see32 (memory.size))
+    // (call $see32 (memory.grow (i32.const 0))) (call $see32 (memory.grow (i32.const 1))) (call $see32
+    // (memory.size)))
     b"\x01\x08\x02\x60\x01\x7f\x00\x60\x00\x00\x02\x11\x01\x07\x73\x63\x72\x65\x65\x70\x73\x05\x73\x65\x65\x33\x32\x00\x00\x03\x02\x01\x01\x05\x04\x01\x01\x00\x00\x07\x08\x01\x04\x6c\x6f\x6f\x70\x00\x01\x0a\x18\x01\x16\x00\x3f\x00\x10\x00\x41\x00\x40\x00\x10\x00\x41\x01\x40\x00\x10\x00\x3f\x00\x10\x00\x0b",
-    // growth from no pages: (memory 0 2) (func (export "loop") (call $see32 (memory.grow (i32.const 3))) (call $see32 (memory.grow (i32.const 2))) (call $see32 (memory.grow (i32.const 1))) (call $see (i64.load (i32.const 131064))))
+    // growth from no pages: (memory 0 2) (func (export "loop") (call $see32 (memory.grow (i32.const 3)))
+    // (call $see32 (memory.grow (i32.const 2))) (call $see32 (memory.grow (i32.const 1))) (call $see
+    // (i64.load (i32.const 131064))))
     b"\x01\x0c\x03\x60\x01\x7e\x00\x60\x01\x7f\x00\x60\x00\x00\x02\x1f\x02\x07\x73\x63\x72\x65\x65\x70\x73\x03\x73\x65\x65\x00\x00\x07\x73\x63\x72\x65\x65\x70\x73\x05\x73\x65\x65\x33\x32\x00\x01\x03\x02\x01\x02\x05\x04\x01\x01\x00\x02\x07\x08\x01\x04\x6c\x6f\x6f\x70\x00\x02\x0a\x1f\x01\x1d\x00\x41\x03\x40\x00\x10\x01\x41\x02\x40\x00\x10\x01\x41\x01\x40\x00\x10\x01\x41\xf8\xff\x07\x29\x03\x00\x10\x00\x0b",
-    // growth in a callee: (memory 1) (func $more (result i32) (memory.grow (i32.const 1))) (func (export "loop") (call $see32 (call $more)) (call $see32 (call $more)) (call $see32 (memory.size)))
+    // growth in a callee: (memory 1) (func $more (result i32) (memory.grow (i32.const 1))) (func (export
+    // "loop") (call $see32 (call $more)) (call $see32 (call $more)) (call $see32 (memory.size)))
     b"\x01\x0c\x03\x60\x01\x7f\x00\x60\x00\x01\x7f\x60\x00\x00\x02\x11\x01\x07\x73\x63\x72\x65\x65\x70\x73\x05\x73\x65\x65\x33\x32\x00\x00\x03\x03\x02\x01\x02\x05\x03\x01\x00\x01\x07\x08\x01\x04\x6c\x6f\x6f\x70\x00\x02\x0a\x17\x02\x06\x00\x41\x01\x40\x00\x0b\x0e\x00\x10\x01\x10\x00\x10\x01\x10\x00\x3f\x00\x10\x00\x0b",
-    // an address of the upper half: (memory 1) (func (export "loop") (call $see32 (i32.load8_u offset=65535 (i32.const 0))) (call $see32 (i32.load8_u (i32.const -0x80000000))))
+    // an address of the upper half: (memory 1) (func (export "loop") (call $see32 (i32.load8_u offset=65535
+    // (i32.const 0))) (call $see32 (i32.load8_u (i32.const -0x80000000))))
     b"\x01\x08\x02\x60\x01\x7f\x00\x60\x00\x00\x02\x11\x01\x07\x73\x63\x72\x65\x65\x70\x73\x05\x73\x65\x65\x33\x32\x00\x00\x03\x02\x01\x01\x05\x03\x01\x00\x01\x07\x08\x01\x04\x6c\x6f\x6f\x70\x00\x01\x0a\x18\x01\x16\x00\x41\x00\x2d\x00\xff\xff\x03\x10\x00\x41\x80\x80\x80\x80\x78\x2d\x00\x00\x10\x00\x0b",
 ];
 
@@ -336,67 +431,99 @@ const MEMORY_RESULTS: [&[i64]; 24] = [
 ];
 
 const MEMORY_TRAPS: [&[u8]; 31] = [
-    // i32.load one past: (memory 1) (func (export "loop") (call $see32 (i32.load (i32.const 65532))) (call $see32 (i32.load (i32.const 65533))))
+    // i32.load one past: (memory 1) (func (export "loop") (call $see32 (i32.load (i32.const 65532))) (call
+    // $see32 (i32.load (i32.const 65533))))
     b"\x01\x08\x02\x60\x01\x7f\x00\x60\x00\x00\x02\x11\x01\x07\x73\x63\x72\x65\x65\x70\x73\x05\x73\x65\x65\x33\x32\x00\x00\x03\x02\x01\x01\x05\x03\x01\x00\x01\x07\x08\x01\x04\x6c\x6f\x6f\x70\x00\x01\x0a\x16\x01\x14\x00\x41\xfc\xff\x03\x28\x02\x00\x10\x00\x41\xfd\xff\x03\x28\x02\x00\x10\x00\x0b",
-    // i64.load one past: (memory 1) (func (export "loop") (call $see (i64.load (i32.const 65528))) (call $see (i64.load (i32.const 65529))))
+    // i64.load one past: (memory 1) (func (export "loop") (call $see (i64.load (i32.const 65528))) (call $see
+    // (i64.load (i32.const 65529))))
     b"\x01\x08\x02\x60\x01\x7e\x00\x60\x00\x00\x02\x0f\x01\x07\x73\x63\x72\x65\x65\x70\x73\x03\x73\x65\x65\x00\x00\x03\x02\x01\x01\x05\x03\x01\x00\x01\x07\x08\x01\x04\x6c\x6f\x6f\x70\x00\x01\x0a\x16\x01\x14\x00\x41\xf8\xff\x03\x29\x03\x00\x10\x00\x41\xf9\xff\x03\x29\x03\x00\x10\x00\x0b",
-    // i32.load8_s one past: (memory 1) (func (export "loop") (call $see32 (i32.load8_s (i32.const 65535))) (call $see32 (i32.load8_s (i32.const 65536))))
+    // i32.load8_s one past: (memory 1) (func (export "loop") (call $see32 (i32.load8_s (i32.const 65535)))
+    // (call $see32 (i32.load8_s (i32.const 65536))))
     b"\x01\x08\x02\x60\x01\x7f\x00\x60\x00\x00\x02\x11\x01\x07\x73\x63\x72\x65\x65\x70\x73\x05\x73\x65\x65\x33\x32\x00\x00\x03\x02\x01\x01\x05\x03\x01\x00\x01\x07\x08\x01\x04\x6c\x6f\x6f\x70\x00\x01\x0a\x16\x01\x14\x00\x41\xff\xff\x03\x2c\x00\x00\x10\x00\x41\x80\x80\x04\x2c\x00\x00\x10\x00\x0b",
-    // i32.load8_u one past: (memory 1) (func (export "loop") (call $see32 (i32.load8_u (i32.const 65535))) (call $see32 (i32.load8_u (i32.const 65536))))
+    // i32.load8_u one past: (memory 1) (func (export "loop") (call $see32 (i32.load8_u (i32.const 65535)))
+    // (call $see32 (i32.load8_u (i32.const 65536))))
     b"\x01\x08\x02\x60\x01\x7f\x00\x60\x00\x00\x02\x11\x01\x07\x73\x63\x72\x65\x65\x70\x73\x05\x73\x65\x65\x33\x32\x00\x00\x03\x02\x01\x01\x05\x03\x01\x00\x01\x07\x08\x01\x04\x6c\x6f\x6f\x70\x00\x01\x0a\x16\x01\x14\x00\x41\xff\xff\x03\x2d\x00\x00\x10\x00\x41\x80\x80\x04\x2d\x00\x00\x10\x00\x0b",
-    // i32.load16_s one past: (memory 1) (func (export "loop") (call $see32 (i32.load16_s (i32.const 65534))) (call $see32 (i32.load16_s (i32.const 65535))))
+    // i32.load16_s one past: (memory 1) (func (export "loop") (call $see32 (i32.load16_s (i32.const 65534)))
+    // (call $see32 (i32.load16_s (i32.const 65535))))
     b"\x01\x08\x02\x60\x01\x7f\x00\x60\x00\x00\x02\x11\x01\x07\x73\x63\x72\x65\x65\x70\x73\x05\x73\x65\x65\x33\x32\x00\x00\x03\x02\x01\x01\x05\x03\x01\x00\x01\x07\x08\x01\x04\x6c\x6f\x6f\x70\x00\x01\x0a\x16\x01\x14\x00\x41\xfe\xff\x03\x2e\x01\x00\x10\x00\x41\xff\xff\x03\x2e\x01\x00\x10\x00\x0b",
-    // i32.load16_u one past: (memory 1) (func (export "loop") (call $see32 (i32.load16_u (i32.const 65534))) (call $see32 (i32.load16_u (i32.const 65535))))
+    // i32.load16_u one past: (memory 1) (func (export "loop") (call $see32 (i32.load16_u (i32.const 65534)))
+    // (call $see32 (i32.load16_u (i32.const 65535))))
     b"\x01\x08\x02\x60\x01\x7f\x00\x60\x00\x00\x02\x11\x01\x07\x73\x63\x72\x65\x65\x70\x73\x05\x73\x65\x65\x33\x32\x00\x00\x03\x02\x01\x01\x05\x03\x01\x00\x01\x07\x08\x01\x04\x6c\x6f\x6f\x70\x00\x01\x0a\x16\x01\x14\x00\x41\xfe\xff\x03\x2f\x01\x00\x10\x00\x41\xff\xff\x03\x2f\x01\x00\x10\x00\x0b",
-    // i64.load8_s one past: (memory 1) (func (export "loop") (call $see (i64.load8_s (i32.const 65535))) (call $see (i64.load8_s (i32.const 65536))))
+    // i64.load8_s one past: (memory 1) (func (export "loop") (call $see (i64.load8_s (i32.const 65535)))
+    // (call $see (i64.load8_s (i32.const 65536))))
     b"\x01\x08\x02\x60\x01\x7e\x00\x60\x00\x00\x02\x0f\x01\x07\x73\x63\x72\x65\x65\x70\x73\x03\x73\x65\x65\x00\x00\x03\x02\x01\x01\x05\x03\x01\x00\x01\x07\x08\x01\x04\x6c\x6f\x6f\x70\x00\x01\x0a\x16\x01\x14\x00\x41\xff\xff\x03\x30\x00\x00\x10\x00\x41\x80\x80\x04\x30\x00\x00\x10\x00\x0b",
-    // i64.load8_u one past: (memory 1) (func (export "loop") (call $see (i64.load8_u (i32.const 65535))) (call $see (i64.load8_u (i32.const 65536))))
+    // i64.load8_u one past: (memory 1) (func (export "loop") (call $see (i64.load8_u (i32.const 65535)))
+    // (call $see (i64.load8_u (i32.const 65536))))
     b"\x01\x08\x02\x60\x01\x7e\x00\x60\x00\x00\x02\x0f\x01\x07\x73\x63\x72\x65\x65\x70\x73\x03\x73\x65\x65\x00\x00\x03\x02\x01\x01\x05\x03\x01\x00\x01\x07\x08\x01\x04\x6c\x6f\x6f\x70\x00\x01\x0a\x16\x01\x14\x00\x41\xff\xff\x03\x31\x00\x00\x10\x00\x41\x80\x80\x04\x31\x00\x00\x10\x00\x0b",
-    // i64.load16_s one past: (memory 1) (func (export "loop") (call $see (i64.load16_s (i32.const 65534))) (call $see (i64.load16_s (i32.const 65535))))
+    // i64.load16_s one past: (memory 1) (func (export "loop") (call $see (i64.load16_s (i32.const 65534)))
+    // (call $see (i64.load16_s (i32.const 65535))))
     b"\x01\x08\x02\x60\x01\x7e\x00\x60\x00\x00\x02\x0f\x01\x07\x73\x63\x72\x65\x65\x70\x73\x03\x73\x65\x65\x00\x00\x03\x02\x01\x01\x05\x03\x01\x00\x01\x07\x08\x01\x04\x6c\x6f\x6f\x70\x00\x01\x0a\x16\x01\x14\x00\x41\xfe\xff\x03\x32\x01\x00\x10\x00\x41\xff\xff\x03\x32\x01\x00\x10\x00\x0b",
-    // i64.load16_u one past: (memory 1) (func (export "loop") (call $see (i64.load16_u (i32.const 65534))) (call $see (i64.load16_u (i32.const 65535))))
+    // i64.load16_u one past: (memory 1) (func (export "loop") (call $see (i64.load16_u (i32.const 65534)))
+    // (call $see (i64.load16_u (i32.const 65535))))
     b"\x01\x08\x02\x60\x01\x7e\x00\x60\x00\x00\x02\x0f\x01\x07\x73\x63\x72\x65\x65\x70\x73\x03\x73\x65\x65\x00\x00\x03\x02\x01\x01\x05\x03\x01\x00\x01\x07\x08\x01\x04\x6c\x6f\x6f\x70\x00\x01\x0a\x16\x01\x14\x00\x41\xfe\xff\x03\x33\x01\x00\x10\x00\x41\xff\xff\x03\x33\x01\x00\x10\x00\x0b",
-    // i64.load32_s one past: (memory 1) (func (export "loop") (call $see (i64.load32_s (i32.const 65532))) (call $see (i64.load32_s (i32.const 65533))))
+    // i64.load32_s one past: (memory 1) (func (export "loop") (call $see (i64.load32_s (i32.const 65532)))
+    // (call $see (i64.load32_s (i32.const 65533))))
     b"\x01\x08\x02\x60\x01\x7e\x00\x60\x00\x00\x02\x0f\x01\x07\x73\x63\x72\x65\x65\x70\x73\x03\x73\x65\x65\x00\x00\x03\x02\x01\x01\x05\x03\x01\x00\x01\x07\x08\x01\x04\x6c\x6f\x6f\x70\x00\x01\x0a\x16\x01\x14\x00\x41\xfc\xff\x03\x34\x02\x00\x10\x00\x41\xfd\xff\x03\x34\x02\x00\x10\x00\x0b",
-    // i64.load32_u one past: (memory 1) (func (export "loop") (call $see (i64.load32_u (i32.const 65532))) (call $see (i64.load32_u (i32.const 65533))))
+    // i64.load32_u one past: (memory 1) (func (export "loop") (call $see (i64.load32_u (i32.const 65532)))
+    // (call $see (i64.load32_u (i32.const 65533))))
     b"\x01\x08\x02\x60\x01\x7e\x00\x60\x00\x00\x02\x0f\x01\x07\x73\x63\x72\x65\x65\x70\x73\x03\x73\x65\x65\x00\x00\x03\x02\x01\x01\x05\x03\x01\x00\x01\x07\x08\x01\x04\x6c\x6f\x6f\x70\x00\x01\x0a\x16\x01\x14\x00\x41\xfc\xff\x03\x35\x02\x00\x10\x00\x41\xfd\xff\x03\x35\x02\x00\x10\x00\x0b",
-    // i32.store one past: (memory 1) (func (export "loop") (i32.store (i32.const 65532) (i32.const 1)) (call $mark (i32.const 9)) (i32.store (i32.const 65533) (i32.const 1)) (call $mark (i32.const 9)))
+    // i32.store one past: (memory 1) (func (export "loop") (i32.store (i32.const 65532) (i32.const 1)) (call
+    // $mark (i32.const 9)) (i32.store (i32.const 65533) (i32.const 1)) (call $mark (i32.const 9)))
     b"\x01\x08\x02\x60\x01\x7f\x00\x60\x00\x00\x02\x10\x01\x07\x73\x63\x72\x65\x65\x70\x73\x04\x6d\x61\x72\x6b\x00\x00\x03\x02\x01\x01\x05\x03\x01\x00\x01\x07\x08\x01\x04\x6c\x6f\x6f\x70\x00\x01\x0a\x1e\x01\x1c\x00\x41\xfc\xff\x03\x41\x01\x36\x02\x00\x41\x09\x10\x00\x41\xfd\xff\x03\x41\x01\x36\x02\x00\x41\x09\x10\x00\x0b",
-    // i64.store one past: (memory 1) (func (export "loop") (i64.store (i32.const 65528) (i64.const 1)) (call $mark (i32.const 9)) (i64.store (i32.const 65529) (i64.const 1)) (call $mark (i32.const 9)))
+    // i64.store one past: (memory 1) (func (export "loop") (i64.store (i32.const 65528) (i64.const 1)) (call
+    // $mark (i32.const 9)) (i64.store (i32.const 65529) (i64.const 1)) (call $mark (i32.const 9)))
     b"\x01\x08\x02\x60\x01\x7f\x00\x60\x00\x00\x02\x10\x01\x07\x73\x63\x72\x65\x65\x70\x73\x04\x6d\x61\x72\x6b\x00\x00\x03\x02\x01\x01\x05\x03\x01\x00\x01\x07\x08\x01\x04\x6c\x6f\x6f\x70\x00\x01\x0a\x1e\x01\x1c\x00\x41\xf8\xff\x03\x42\x01\x37\x03\x00\x41\x09\x10\x00\x41\xf9\xff\x03\x42\x01\x37\x03\x00\x41\x09\x10\x00\x0b",
-    // i32.store8 one past: (memory 1) (func (export "loop") (i32.store8 (i32.const 65535) (i32.const 1)) (call $mark (i32.const 9)) (i32.store8 (i32.const 65536) (i32.const 1)) (call $mark (i32.const 9)))
+    // i32.store8 one past: (memory 1) (func (export "loop") (i32.store8 (i32.const 65535) (i32.const 1))
+    // (call $mark (i32.const 9)) (i32.store8 (i32.const 65536) (i32.const 1)) (call $mark (i32.const 9)))
     b"\x01\x08\x02\x60\x01\x7f\x00\x60\x00\x00\x02\x10\x01\x07\x73\x63\x72\x65\x65\x70\x73\x04\x6d\x61\x72\x6b\x00\x00\x03\x02\x01\x01\x05\x03\x01\x00\x01\x07\x08\x01\x04\x6c\x6f\x6f\x70\x00\x01\x0a\x1e\x01\x1c\x00\x41\xff\xff\x03\x41\x01\x3a\x00\x00\x41\x09\x10\x00\x41\x80\x80\x04\x41\x01\x3a\x00\x00\x41\x09\x10\x00\x0b",
-    // i32.store16 one past: (memory 1) (func (export "loop") (i32.store16 (i32.const 65534) (i32.const 1)) (call $mark (i32.const 9)) (i32.store16 (i32.const 65535) (i32.const 1)) (call $mark (i32.const 9)))
+    // i32.store16 one past: (memory 1) (func (export "loop") (i32.store16 (i32.const 65534) (i32.const 1))
+    // (call $mark (i32.const 9)) (i32.store16 (i32.const 65535) (i32.const 1)) (call $mark (i32.const 9)))
     b"\x01\x08\x02\x60\x01\x7f\x00\x60\x00\x00\x02\x10\x01\x07\x73\x63\x72\x65\x65\x70\x73\x04\x6d\x61\x72\x6b\x00\x00\x03\x02\x01\x01\x05\x03\x01\x00\x01\x07\x08\x01\x04\x6c\x6f\x6f\x70\x00\x01\x0a\x1e\x01\x1c\x00\x41\xfe\xff\x03\x41\x01\x3b\x01\x00\x41\x09\x10\x00\x41\xff\xff\x03\x41\x01\x3b\x01\x00\x41\x09\x10\x00\x0b",
-    // i64.store8 one past: (memory 1) (func (export "loop") (i64.store8 (i32.const 65535) (i64.const 1)) (call $mark (i32.const 9)) (i64.store8 (i32.const 65536) (i64.const 1)) (call $mark (i32.const 9)))
+    // i64.store8 one past: (memory 1) (func (export "loop") (i64.store8 (i32.const 65535) (i64.const 1))
+    // (call $mark (i32.const 9)) (i64.store8 (i32.const 65536) (i64.const 1)) (call $mark (i32.const 9)))
     b"\x01\x08\x02\x60\x01\x7f\x00\x60\x00\x00\x02\x10\x01\x07\x73\x63\x72\x65\x65\x70\x73\x04\x6d\x61\x72\x6b\x00\x00\x03\x02\x01\x01\x05\x03\x01\x00\x01\x07\x08\x01\x04\x6c\x6f\x6f\x70\x00\x01\x0a\x1e\x01\x1c\x00\x41\xff\xff\x03\x42\x01\x3c\x00\x00\x41\x09\x10\x00\x41\x80\x80\x04\x42\x01\x3c\x00\x00\x41\x09\x10\x00\x0b",
-    // i64.store16 one past: (memory 1) (func (export "loop") (i64.store16 (i32.const 65534) (i64.const 1)) (call $mark (i32.const 9)) (i64.store16 (i32.const 65535) (i64.const 1)) (call $mark (i32.const 9)))
+    // i64.store16 one past: (memory 1) (func (export "loop") (i64.store16 (i32.const 65534) (i64.const 1))
+    // (call $mark (i32.const 9)) (i64.store16 (i32.const 65535) (i64.const 1)) (call $mark (i32.const 9)))
     b"\x01\x08\x02\x60\x01\x7f\x00\x60\x00\x00\x02\x10\x01\x07\x73\x63\x72\x65\x65\x70\x73\x04\x6d\x61\x72\x6b\x00\x00\x03\x02\x01\x01\x05\x03\x01\x00\x01\x07\x08\x01\x04\x6c\x6f\x6f\x70\x00\x01\x0a\x1e\x01\x1c\x00\x41\xfe\xff\x03\x42\x01\x3d\x01\x00\x41\x09\x10\x00\x41\xff\xff\x03\x42\x01\x3d\x01\x00\x41\x09\x10\x00\x0b",
-    // i64.store32 one past: (memory 1) (func (export "loop") (i64.store32 (i32.const 65532) (i64.const 1)) (call $mark (i32.const 9)) (i64.store32 (i32.const 65533) (i64.const 1)) (call $mark (i32.const 9)))
+    // i64.store32 one past: (memory 1) (func (export "loop") (i64.store32 (i32.const 65532) (i64.const 1))
+    // (call $mark (i32.const 9)) (i64.store32 (i32.const 65533) (i64.const 1)) (call $mark (i32.const 9)))
     b"\x01\x08\x02\x60\x01\x7f\x00\x60\x00\x00\x02\x10\x01\x07\x73\x63\x72\x65\x65\x70\x73\x04\x6d\x61\x72\x6b\x00\x00\x03\x02\x01\x01\x05\x03\x01\x00\x01\x07\x08\x01\x04\x6c\x6f\x6f\x70\x00\x01\x0a\x1e\x01\x1c\x00\x41\xfc\xff\x03\x42\x01\x3e\x02\x00\x41\x09\x10\x00\x41\xfd\xff\x03\x42\x01\x3e\x02\x00\x41\x09\x10\x00\x0b",
-    // the last address: (memory 1) (func (export "loop") (call $mark (i32.const 9)) (drop (i32.load8_u (i32.const -1))))
+    // the last address: (memory 1) (func (export "loop") (call $mark (i32.const 9)) (drop (i32.load8_u
+    // (i32.const -1))))
     b"\x01\x08\x02\x60\x01\x7f\x00\x60\x00\x00\x02\x10\x01\x07\x73\x63\x72\x65\x65\x70\x73\x04\x6d\x61\x72\x6b\x00\x00\x03\x02\x01\x01\x05\x03\x01\x00\x01\x07\x08\x01\x04\x6c\x6f\x6f\x70\x00\x01\x0a\x0e\x01\x0c\x00\x41\x09\x10\x00\x41\x7f\x2d\x00\x00\x1a\x0b",
-    // an offset one past: (memory 1) (func (export "loop") (drop (i32.load8_u offset=65535 (i32.const 0))) (call $mark (i32.const 9)) (drop (i32.load8_u offset=65535 (i32.const 1))))
+    // an offset one past: (memory 1) (func (export "loop") (drop (i32.load8_u offset=65535 (i32.const 0)))
+    // (call $mark (i32.const 9)) (drop (i32.load8_u offset=65535 (i32.const 1))))
     b"\x01\x08\x02\x60\x01\x7f\x00\x60\x00\x00\x02\x10\x01\x07\x73\x63\x72\x65\x65\x70\x73\x04\x6d\x61\x72\x6b\x00\x00\x03\x02\x01\x01\x05\x03\x01\x00\x01\x07\x08\x01\x04\x6c\x6f\x6f\x70\x00\x01\x0a\x18\x01\x16\x00\x41\x00\x2d\x00\xff\xff\x03\x1a\x41\x09\x10\x00\x41\x01\x2d\x00\xff\xff\x03\x1a\x0b",
-    // an offset past the end: (memory 1) (func (export "loop") (call $mark (i32.const 9)) (drop (i32.load8_u offset=65536 (i32.const 0))))
+    // an offset past the end: (memory 1) (func (export "loop") (call $mark (i32.const 9)) (drop (i32.load8_u
+    // offset=65536 (i32.const 0))))
     b"\x01\x08\x02\x60\x01\x7f\x00\x60\x00\x00\x02\x10\x01\x07\x73\x63\x72\x65\x65\x70\x73\x04\x6d\x61\x72\x6b\x00\x00\x03\x02\x01\x01\x05\x03\x01\x00\x01\x07\x08\x01\x04\x6c\x6f\x6f\x70\x00\x01\x0a\x10\x01\x0e\x00\x41\x09\x10\x00\x41\x00\x2d\x00\x80\x80\x04\x1a\x0b",
-    // an address past 2^32 by its offset: (memory 1) (func (export "loop") (call $mark (i32.const 9)) (drop (i32.load offset=4294967295 (i32.const 1))))
+    // an address past 2^32 by its offset: (memory 1) (func (export "loop") (call $mark (i32.const 9)) (drop
+    // (i32.load offset=4294967295 (i32.const 1))))
     b"\x01\x08\x02\x60\x01\x7f\x00\x60\x00\x00\x02\x10\x01\x07\x73\x63\x72\x65\x65\x70\x73\x04\x6d\x61\x72\x6b\x00\x00\x03\x02\x01\x01\x05\x03\x01\x00\x01\x07\x08\x01\x04\x6c\x6f\x6f\x70\x00\x01\x0a\x12\x01\x10\x00\x41\x09\x10\x00\x41\x01\x28\x02\xff\xff\xff\xff\x0f\x1a\x0b",
-    // an address past 2^32 by the address: (memory 1) (func (export "loop") (call $mark (i32.const 9)) (drop (i64.load8_u offset=1 (i32.const -1))))
+    // an address past 2^32 by the address: (memory 1) (func (export "loop") (call $mark (i32.const 9)) (drop
+    // (i64.load8_u offset=1 (i32.const -1))))
     b"\x01\x08\x02\x60\x01\x7f\x00\x60\x00\x00\x02\x10\x01\x07\x73\x63\x72\x65\x65\x70\x73\x04\x6d\x61\x72\x6b\x00\x00\x03\x02\x01\x01\x05\x03\x01\x00\x01\x07\x08\x01\x04\x6c\x6f\x6f\x70\x00\x01\x0a\x0e\x01\x0c\x00\x41\x09\x10\x00\x41\x7f\x31\x00\x01\x1a\x0b",
-    // the greatest address and offset: (memory 1) (func (export "loop") (call $mark (i32.const 9)) (drop (i64.load offset=4294967295 (i32.const -1))))
+    // the greatest address and offset: (memory 1) (func (export "loop") (call $mark (i32.const 9)) (drop
+    // (i64.load offset=4294967295 (i32.const -1))))
     b"\x01\x08\x02\x60\x01\x7f\x00\x60\x00\x00\x02\x10\x01\x07\x73\x63\x72\x65\x65\x70\x73\x04\x6d\x61\x72\x6b\x00\x00\x03\x02\x01\x01\x05\x03\x01\x00\x01\x07\x08\x01\x04\x6c\x6f\x6f\x70\x00\x01\x0a\x12\x01\x10\x00\x41\x09\x10\x00\x41\x7f\x29\x03\xff\xff\xff\xff\x0f\x1a\x0b",
-    // a store past 2^32: (memory 1) (func (export "loop") (call $mark (i32.const 9)) (i64.store8 offset=4294967295 (i32.const 1) (i64.const 1)))
+    // a store past 2^32: (memory 1) (func (export "loop") (call $mark (i32.const 9)) (i64.store8
+    // offset=4294967295 (i32.const 1) (i64.const 1)))
     b"\x01\x08\x02\x60\x01\x7f\x00\x60\x00\x00\x02\x10\x01\x07\x73\x63\x72\x65\x65\x70\x73\x04\x6d\x61\x72\x6b\x00\x00\x03\x02\x01\x01\x05\x03\x01\x00\x01\x07\x08\x01\x04\x6c\x6f\x6f\x70\x00\x01\x0a\x13\x01\x11\x00\x41\x09\x10\x00\x41\x01\x42\x01\x3c\x00\xff\xff\xff\xff\x0f\x0b",
-    // a store whose last byte is past 2^32: (memory 1) (func (export "loop") (call $mark (i32.const 9)) (i64.store (i32.const -4) (i64.const 1)))
+    // a store whose last byte is past 2^32: (memory 1) (func (export "loop") (call $mark (i32.const 9))
+    // (i64.store (i32.const -4) (i64.const 1)))
     b"\x01\x08\x02\x60\x01\x7f\x00\x60\x00\x00\x02\x10\x01\x07\x73\x63\x72\x65\x65\x70\x73\x04\x6d\x61\x72\x6b\x00\x00\x03\x02\x01\x01\x05\x03\x01\x00\x01\x07\x08\x01\x04\x6c\x6f\x6f\x70\x00\x01\x0a\x0f\x01\x0d\x00\x41\x09\x10\x00\x41\x7c\x42\x01\x37\x03\x00\x0b",
-    // a load of no memory: (memory 0) (func (export "loop") (call $see32 (memory.size)) (drop (i32.load8_u (i32.const 0))))
+    // a load of no memory: (memory 0) (func (export "loop") (call $see32 (memory.size)) (drop (i32.load8_u
+    // (i32.const 0))))
     b"\x01\x08\x02\x60\x01\x7f\x00\x60\x00\x00\x02\x11\x01\x07\x73\x63\x72\x65\x65\x70\x73\x05\x73\x65\x65\x33\x32\x00\x00\x03\x02\x01\x01\x05\x03\x01\x00\x00\x07\x08\x01\x04\x6c\x6f\x6f\x70\x00\x01\x0a\x0e\x01\x0c\x00\x3f\x00\x10\x00\x41\x00\x2d\x00\x00\x1a\x0b",
-    // a store past a grown memory: (memory 1) (func (export "loop") (drop (memory.grow (i32.const 1))) (i32.store8 (i32.const 131071) (i32.const 1)) (call $mark (i32.const 9)) (i32.store8 (i32.const 131072) (i32.const 1)))
+    // a store past a grown memory: (memory 1) (func (export "loop") (drop (memory.grow (i32.const 1)))
+    // (i32.store8 (i32.const 131071) (i32.const 1)) (call $mark (i32.const 9)) (i32.store8 (i32.const 131072)
+    // (i32.const 1)))
     b"\x01\x08\x02\x60\x01\x7f\x00\x60\x00\x00\x02\x10\x01\x07\x73\x63\x72\x65\x65\x70\x73\x04\x6d\x61\x72\x6b\x00\x00\x03\x02\x01\x01\x05\x03\x01\x00\x01\x07\x08\x01\x04\x6c\x6f\x6f\x70\x00\x01\x0a\x1f\x01\x1d\x00\x41\x01\x40\x00\x1a\x41\xff\xff\x07\x41\x01\x3a\x00\x00\x41\x09\x10\x00\x41\x80\x80\x08\x41\x01\x3a\x00\x00\x0b",
-    // a load past 256 pages: (memory 256) (func (export "loop") (drop (i32.load8_u (i32.const 16777215))) (call $mark (i32.const 9)) (drop (i32.load8_u (i32.const 0x1000000))))
+    // a load past 256 pages: (memory 256) (func (export "loop") (drop (i32.load8_u (i32.const 16777215)))
+    // (call $mark (i32.const 9)) (drop (i32.load8_u (i32.const 0x1000000))))
     b"\x01\x08\x02\x60\x01\x7f\x00\x60\x00\x00\x02\x10\x01\x07\x73\x63\x72\x65\x65\x70\x73\x04\x6d\x61\x72\x6b\x00\x00\x03\x02\x01\x01\x05\x04\x01\x00\x80\x02\x07\x08\x01\x04\x6c\x6f\x6f\x70\x00\x01\x0a\x1a\x01\x18\x00\x41\xff\xff\xff\x07\x2d\x00\x00\x1a\x41\x09\x10\x00\x41\x80\x80\x80\x08\x2d\x00\x00\x1a\x0b",
-    // a load past a memory that did not grow: (memory 1 1) (func (export "loop") (call $see32 (memory.grow (i32.const 1))) (drop (i32.load8_u (i32.const 65536))))
+    // a load past a memory that did not grow: (memory 1 1) (func (export "loop") (call $see32 (memory.grow
+    // (i32.const 1))) (drop (i32.load8_u (i32.const 65536))))
     b"\x01\x08\x02\x60\x01\x7f\x00\x60\x00\x00\x02\x11\x01\x07\x73\x63\x72\x65\x65\x70\x73\x05\x73\x65\x65\x33\x32\x00\x00\x03\x02\x01\x01\x05\x04\x01\x01\x01\x01\x07\x08\x01\x04\x6c\x6f\x6f\x70\x00\x01\x0a\x12\x01\x10\x00\x41\x01\x40\x00\x10\x00\x41\x80\x80\x04\x2d\x00\x00\x1a\x0b",
 ];
 

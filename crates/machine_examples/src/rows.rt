@@ -119,7 +119,8 @@ fn words_of(rt: &impl Abort, alloc: Global, sections: &[u8], fuel: i64) -> Resul
     }
 }
 
-/// Runs the module with these sections, the one at this place of a table, with the fuel that the words begin with, and
+/// Runs the module with these sections, the one at this place of a table, with the fuel that the words begin
+/// with, and
 /// compares the words.
 pub(crate) fn does(
     rt: &impl Abort,

@@ -10,15 +10,21 @@
 //   (import "g" "h" (global i32)) (import "i" "j" (global (mut i64))) (import "" "k" (global f32))
 //   (import "l" "m" (global (mut f64))) (import "n" "o" (table 13 funcref)) (import "p" "q" (memory 2))
 //   (import "r" "s" (func (type 1))) (import "t" "u" (func (type 4))) (import "v" "w" (global (mut i32)))
-//   (import "x" "y" (global i64)) (import "z" "aa" (func (type 2))) (import "long name" "\c3\a9" (func (type 0)))
+//   (import "x" "y" (global i64)) (import "z" "aa" (func (type 2))) (import "long name" "\c3\a9" (func (type
+// 0)))
 //   (import "bb" "cc" (memory 3 300)) (import "dd" "ee" (table 1000 70000 funcref))
 //   (table 40 55 funcref) (table 41 funcref) (memory 6 9) (memory 7)
-//   (global i32 (i32.const -70)) (global (mut i32) (i32.const 71)) (global i64 (i64.const -72)) (global (mut i64) (i64.const 73))
-//   (global f32 (f32.const 0.5)) (global (mut f64) (f64.const 4.0)) (global i32 (global.get 0)) (global i64 (global.get 6))
-//   (global i32 (i32.const 78)) (global i32 (i32.const 79)) (global i32 (i32.const 80)) (global i32 (i32.const 81))
-//   (global i32 (i32.const 82)) (global i32 (i32.const 83)) (global i32 (i32.const 84)) (global i32 (i32.const 85)) (global i32 (i32.const 86))
+//   (global i32 (i32.const -70)) (global (mut i32) (i32.const 71)) (global i64 (i64.const -72)) (global (mut
+// i64) (i64.const 73))
+//   (global f32 (f32.const 0.5)) (global (mut f64) (f64.const 4.0)) (global i32 (global.get 0)) (global i64
+// (global.get 6))
+//   (global i32 (i32.const 78)) (global i32 (i32.const 79)) (global i32 (i32.const 80)) (global i32
+// (i32.const 81))
+//   (global i32 (i32.const 82)) (global i32 (i32.const 83)) (global i32 (i32.const 84)) (global i32
+// (i32.const 85)) (global i32 (i32.const 86))
 //   (func (type 1) (local i32 i32 i64 f32 f32 f32 f64 f64 i32)
-//     block (result i32) loop i32.const 91 br_table 16 15 14 13 12 11 10 9 8 7 6 5 4 3 2 1 0 end i32.const 92 end
+//     block (result i32) loop i32.const 91 br_table 16 15 14 13 12 11 10 9 8 7 6 5 4 3 2 1 0 end i32.const 92
+// end
 //     if (result i64) i64.const 93 else i64.const 94 i64.const 95 end)
 //   (func (type 4) f64.const 8.0) (func (type 2) i32.const 101) (func (type 3) f32.const 0.25)
 //   (func (type 0)) (func (type 0) (local i64)) (func (type 0) (local f32 f32))
@@ -28,16 +34,24 @@
 //   (export "e0" (func 14)) (export "e1" (table 3)) (export "e2" (memory 4)) (export "e3" (global 16))
 //   (export "e4" (func 9)) (export "e5" (func 10)) (export "e6" (func 11)) (export "e7" (func 12))
 //   (export "e8" (table 1)) (export "e9" (memory 2)) (export "" (global 300)) (export "\e2\82\ac" (func 13))
-//   (export "ea" (global 7)) (export "eb" (global 8)) (export "ec" (global 5)) (export "ed" (func 6)) (export "ee" (func 15))
+//   (export "ea" (global 7)) (export "eb" (global 8)) (export "ec" (global 5)) (export "ed" (func 6)) (export
+// "ee" (func 15))
 //   (start 18)
-//   (elem (i32.const 150) 21 20 19 18 17 16 15 14 13 12 11 10 9 8 7 6 5) (elem (i32.const 151)) (elem (i32.const 152) 4)
-//   (elem (i32.const 153) 3) (elem (i32.const 154) 2) (elem (i32.const 155) 1) (elem (i32.const 156) 0) (elem (global.get 3) 300 301)
-//   (elem (i32.const 158)) (elem (i32.const 159)) (elem (i32.const 160)) (elem (i32.const 161)) (elem (i32.const 162))
+//   (elem (i32.const 150) 21 20 19 18 17 16 15 14 13 12 11 10 9 8 7 6 5) (elem (i32.const 151)) (elem
+// (i32.const 152) 4)
+//   (elem (i32.const 153) 3) (elem (i32.const 154) 2) (elem (i32.const 155) 1) (elem (i32.const 156) 0) (elem
+// (global.get 3) 300 301)
+//   (elem (i32.const 158)) (elem (i32.const 159)) (elem (i32.const 160)) (elem (i32.const 161)) (elem
+// (i32.const 162))
 //   (elem (i32.const 163)) (elem (i32.const 164)) (elem (i32.const 165)) (elem (i32.const 166) 22 23)
-//   (data (i32.const 170) "seventeen bytes..") (data (i32.const 171)) (data (i32.const 172) "\00\ff\80") (data (global.get 4) "g")
-//   (data (i32.const 174) "h") (data (i32.const 175) "i") (data (i32.const 176) "j") (data (i32.const 177) "k")
-//   (data (i32.const 178) "l") (data (i32.const 179) "m") (data (i32.const 180) "n") (data (i32.const 181) "o")
-//   (data (i32.const 182) "p") (data (i32.const 183) "q") (data (i32.const 184) "r") (data (i32.const 185) "s") (data (i32.const 186) "tt"))
+//   (data (i32.const 170) "seventeen bytes..") (data (i32.const 171)) (data (i32.const 172) "\00\ff\80")
+// (data (global.get 4) "g")
+//   (data (i32.const 174) "h") (data (i32.const 175) "i") (data (i32.const 176) "j") (data (i32.const 177)
+// "k")
+//   (data (i32.const 178) "l") (data (i32.const 179) "m") (data (i32.const 180) "n") (data (i32.const 181)
+// "o")
+//   (data (i32.const 182) "p") (data (i32.const 183) "q") (data (i32.const 184) "r") (data (i32.const 185)
+// "s") (data (i32.const 186) "tt"))
 use crate::seen::{Seen, are_seen, is_seen};
 use crate::written_and_read;
 use std::test::Fail;

@@ -1,5 +1,6 @@
 -- What a `Held` owns, and what a `&` to one holds.
---     owned R a p v      at no value, p is null. Else p points to a block with the value, which the allocator a frees
+--     owned R a p v      at no value, p is null. Else p points to a block with the value, which the allocator
+-- a frees
 --     lent R p v κ       at no value, p is null. Else the value is shared for κ
 use base.Fml.{Lft, Fml, ftrue, ffalse}
 use denote.RattleType.{RattleType}

@@ -15,7 +15,9 @@ module_bytes_bound = 2 ^ 20
 
 -- an entry: the tick, the player, and the bytes behind their number
 unfoldable pub entry_bytes : Upload → List ℕ
-entry_bytes upload = little_bytes 8 upload.tick ++ little_bytes 4 upload.player ++ little_bytes 4 (length upload.bytes) ++ upload.bytes
+entry_bytes upload =
+    little_bytes 8 upload.tick ++ little_bytes 4 upload.player ++ little_bytes 4 (length upload.bytes)
+    ++ upload.bytes
 
 -- The numbers fit their fields.
 pub record HasEntryForm (upload : Upload) : Type 0 where
@@ -33,20 +35,24 @@ pub record BeginsWith (least : ℕ) (bytes : List ℕ) (upload : Upload) (rest :
 -- The bytes are these entries to their end, with ticks that do not fall, from this one on.
 abbrev pub UploadsFrom : ℕ → List ℕ → List Upload → Type 0
 UploadsFrom least bytes [] = bytes ≡ []
-UploadsFrom least bytes (upload ∷ later) = (rest : List ℕ) × BeginsWith least bytes upload rest × UploadsFrom upload.tick rest later
+UploadsFrom least bytes (upload ∷ later) =
+    (rest : List ℕ) × BeginsWith least bytes upload rest × UploadsFrom upload.tick rest later
 
 -- The bytes are a stream of these uploads.
 abbrev pub UploadList : List ℕ → List Upload → Type 0
 UploadList bytes uploads = UploadsFrom 0 bytes uploads
 
--- Something is left, and it begins with no entry: what is there is not whole, or its tick is less than that before it.
+-- Something is left, and it begins with no entry: what is there is not whole, or its tick is less than that
+-- before it.
 abbrev pub IsBad : ℕ → List ℕ → Type 0
-IsBad least bytes = (bytes ≢ []) × ((upload : Upload) (rest : List ℕ) → BeginsWith least bytes upload rest → ⊥)
+IsBad least bytes =
+    (bytes ≢ []) × ((upload : Upload) (rest : List ℕ) → BeginsWith least bytes upload rest → ⊥)
 
 -- Behind these entries the next one is bad.
 abbrev pub BadAfter : ℕ → List ℕ → List Upload → Type 0
 BadAfter least bytes [] = IsBad least bytes
-BadAfter least bytes (upload ∷ later) = (rest : List ℕ) × BeginsWith least bytes upload rest × BadAfter upload.tick rest later
+BadAfter least bytes (upload ∷ later) =
+    (rest : List ℕ) × BeginsWith least bytes upload rest × BadAfter upload.tick rest later
 
 -- The first bad entry begins at this place.
 abbrev pub IsFirstBad : List ℕ → ℕ → Type 0

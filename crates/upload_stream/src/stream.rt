@@ -88,7 +88,8 @@ pub fn read_uploads<'a>(alloc: Global, bytes: &'a [u8]) -> Result<Vec<Upload<'a>
 fn first_of(uploads: &[Upload], tick: u64) -> usize
     requires { IsNonDecreasingBy (λ upload. upload.tick) uploads.now }
     ensures within { result ≤ length uploads.now }
-    ensures between { IsPartitionPoint (λ upload. upload.tick < tick) (λ upload. tick ≤ upload.tick) uploads.now result }
+    ensures between { IsPartitionPoint (λ upload. upload.tick < tick)
+        (λ upload. tick ≤ upload.tick) uploads.now result }
 {
     uploads.partition_point(|upload| upload.tick < tick)
 }
@@ -97,7 +98,8 @@ fn first_of(uploads: &[Upload], tick: u64) -> usize
 fn first_behind(uploads: &[Upload], tick: u64) -> usize
     requires { IsNonDecreasingBy (λ upload. upload.tick) uploads.now }
     ensures within { result ≤ length uploads.now }
-    ensures between { IsPartitionPoint (λ upload. upload.tick ≤ tick) (λ upload. tick < upload.tick) uploads.now result }
+    ensures between { IsPartitionPoint (λ upload. upload.tick ≤ tick)
+        (λ upload. tick < upload.tick) uploads.now result }
 {
     uploads.partition_point(|upload| upload.tick <= tick)
 }

@@ -23,9 +23,11 @@ const TYPED: [&[u8]; 38] = [
     b"\x01\x05\x01\x60\x00\x01\x7e\x03\x02\x01\x00\x0a\x0b\x01\x09\x00\x42\x01\x42\x02\x41\x00\x1b\x0b",
     // locals: (func (param i64) (local i64) (local.set 1 (local.get 0)) (drop (local.tee 1 (local.get 1))))
     b"\x01\x05\x01\x60\x01\x7e\x00\x03\x02\x01\x00\x0a\x0f\x01\x0d\x01\x01\x7e\x20\x00\x21\x01\x20\x01\x22\x01\x1a\x0b",
-    // globals: (global i32 (i32.const 1)) (global (mut i64) (i64.const 1)) (func (global.set 1 (i64.const 2)) (drop (global.get 0)))
+    // globals: (global i32 (i32.const 1)) (global (mut i64) (i64.const 1)) (func (global.set 1 (i64.const 2))
+    // (drop (global.get 0)))
     b"\x01\x04\x01\x60\x00\x00\x03\x02\x01\x00\x06\x0b\x02\x7f\x00\x41\x01\x0b\x7e\x01\x42\x01\x0b\x0a\x0b\x01\x09\x00\x42\x02\x24\x01\x23\x00\x1a\x0b",
-    // memory: (memory 1) (func (i64.store offset=8 align=8 (i32.const 0) (i64.load8_u (i32.const 0))) (drop (memory.grow (memory.size))))
+    // memory: (memory 1) (func (i64.store offset=8 align=8 (i32.const 0) (i64.load8_u (i32.const 0))) (drop
+    // (memory.grow (memory.size))))
     b"\x01\x04\x01\x60\x00\x00\x03\x02\x01\x00\x05\x03\x01\x00\x01\x0a\x13\x01\x11\x00\x41\x00\x41\x00\x31\x00\x00\x37\x03\x08\x3f\x00\x40\x00\x1a\x0b",
     // greatest alignment: (memory 1) (func (drop (i32.load16_u align=2 (i32.const 0))))
     b"\x01\x04\x01\x60\x00\x00\x03\x02\x01\x00\x05\x03\x01\x00\x01\x0a\x0a\x01\x08\x00\x41\x00\x2f\x01\x00\x1a\x0b",
@@ -33,7 +35,8 @@ const TYPED: [&[u8]; 38] = [
     b"\x01\x05\x01\x60\x00\x01\x7f\x03\x02\x01\x00\x0a\x09\x01\x07\x00\x02\x7f\x41\x01\x0b\x0b",
     // loop: (func (result i32) (loop (result i32) (br_if 0 (i32.const 0)) (i32.const 1)))
     b"\x01\x05\x01\x60\x00\x01\x7f\x03\x02\x01\x00\x0a\x0d\x01\x0b\x00\x03\x7f\x41\x00\x0d\x00\x41\x01\x0b\x0b",
-    // conditional branch to a loop with a value below: (func (result i32) (loop (result i32) (br_if 0 (i32.const 1) (i32.const 0))))
+    // conditional branch to a loop with a value below: (func (result i32) (loop (result i32) (br_if 0
+    // (i32.const 1) (i32.const 0))))
     b"\x01\x05\x01\x60\x00\x01\x7f\x03\x02\x01\x00\x0a\x0d\x01\x0b\x00\x03\x7f\x41\x01\x41\x00\x0d\x00\x0b\x0b",
     // if: (func (result i32) (if (result i32) (i32.const 1) (then (i32.const 2)) (else (i32.const 3))))
     b"\x01\x05\x01\x60\x00\x01\x7f\x03\x02\x01\x00\x0a\x0e\x01\x0c\x00\x41\x01\x04\x7f\x41\x02\x05\x41\x03\x0b\x0b",
@@ -43,15 +46,18 @@ const TYPED: [&[u8]; 38] = [
     b"\x01\x05\x01\x60\x00\x01\x7f\x03\x02\x01\x00\x0a\x0d\x01\x0b\x00\x02\x7f\x42\x05\x41\x01\x0c\x00\x0b\x0b",
     // branch to the function: (func (result i32) (block i32.const 1 br 1) i32.const 2)
     b"\x01\x05\x01\x60\x00\x01\x7f\x03\x02\x01\x00\x0a\x0d\x01\x0b\x00\x02\x40\x41\x01\x0c\x01\x0b\x41\x02\x0b",
-    // conditional branch leaves its value: (func (result i32) (block (result i32) (br_if 0 (i32.const 1) (i32.const 0))))
+    // conditional branch leaves its value: (func (result i32) (block (result i32) (br_if 0 (i32.const 1)
+    // (i32.const 0))))
     b"\x01\x05\x01\x60\x00\x01\x7f\x03\x02\x01\x00\x0a\x0d\x01\x0b\x00\x02\x7f\x41\x01\x41\x00\x0d\x00\x0b\x0b",
     // table of labels: (func (block (block (br_table 0 1 2 (i32.const 0)))))
     b"\x01\x04\x01\x60\x00\x00\x03\x02\x01\x00\x0a\x11\x01\x0f\x00\x02\x40\x02\x40\x41\x00\x0e\x02\x00\x01\x02\x0b\x0b\x0b",
     // return with values below: (func (result i32) i64.const 1 i32.const 1 return)
     b"\x01\x05\x01\x60\x00\x01\x7f\x03\x02\x01\x00\x0a\x09\x01\x07\x00\x42\x01\x41\x01\x0f\x0b",
-    // call: (func (param i32 i64) (result i64) local.get 1) (func (drop (call 0 (i32.const 1) (i64.const 2))))
+    // call: (func (param i32 i64) (result i64) local.get 1) (func (drop (call 0 (i32.const 1) (i64.const
+    // 2))))
     b"\x01\x0a\x02\x60\x02\x7f\x7e\x01\x7e\x60\x00\x00\x03\x03\x02\x00\x01\x0a\x10\x02\x04\x00\x20\x01\x0b\x09\x00\x41\x01\x42\x02\x10\x00\x1a\x0b",
-    // indirect call: (type (func (param i64) (result i32))) (table 1 funcref) (func (drop (call_indirect (type 0) (i64.const 1) (i32.const 0))))
+    // indirect call: (type (func (param i64) (result i32))) (table 1 funcref) (func (drop (call_indirect
+    // (type 0) (i64.const 1) (i32.const 0))))
     b"\x01\x09\x02\x60\x01\x7e\x01\x7f\x60\x00\x00\x03\x02\x01\x01\x04\x04\x01\x70\x00\x01\x0a\x0c\x01\x0a\x00\x42\x01\x41\x00\x11\x00\x00\x1a\x0b",
     // unreachable before an operation: (func unreachable i32.add drop)
     b"\x01\x04\x01\x60\x00\x00\x03\x02\x01\x00\x0a\x07\x01\x05\x00\x00\x6a\x1a\x0b",
@@ -65,7 +71,8 @@ const TYPED: [&[u8]; 38] = [
     b"\x01\x04\x01\x60\x00\x00\x03\x02\x01\x00\x0a\x0c\x01\x0a\x01\x01\x7e\x00\x21\x00\x22\x00\x1a\x0b",
     // unreachable before global.set: (global (mut i64) (i64.const 1)) (func unreachable global.set 0)
     b"\x01\x04\x01\x60\x00\x00\x03\x02\x01\x00\x06\x06\x01\x7e\x01\x42\x01\x0b\x0a\x07\x01\x05\x00\x00\x24\x00\x0b",
-    // unreachable before a store and a load: (memory 1) (func unreachable i64.store unreachable i32.load drop memory.grow drop)
+    // unreachable before a store and a load: (memory 1) (func unreachable i64.store unreachable i32.load drop
+    // memory.grow drop)
     b"\x01\x04\x01\x60\x00\x00\x03\x02\x01\x00\x05\x03\x01\x00\x01\x0a\x10\x01\x0e\x00\x00\x37\x03\x00\x00\x28\x02\x00\x1a\x40\x00\x1a\x0b",
     // unreachable before a block: (func unreachable (block (result i32) i32.const 1) drop)
     b"\x01\x04\x01\x60\x00\x00\x03\x02\x01\x00\x0a\x0b\x01\x09\x00\x00\x02\x7f\x41\x01\x0b\x1a\x0b",
@@ -77,15 +84,18 @@ const TYPED: [&[u8]; 38] = [
     b"\x01\x05\x01\x60\x00\x01\x7f\x03\x02\x01\x00\x0a\x0a\x01\x08\x00\x02\x7f\x00\x0d\x00\x0b\x0b",
     // unreachable before a table: (func (result i32) (block (result i32) unreachable br_table 0 0))
     b"\x01\x05\x01\x60\x00\x01\x7f\x03\x02\x01\x00\x0a\x0c\x01\x0a\x00\x02\x7f\x00\x0e\x01\x00\x00\x0b\x0b",
-    // unreachable before return and call: (func (param i32 i64)) (func (result i32) unreachable call 0 return)
+    // unreachable before return and call: (func (param i32 i64)) (func (result i32) unreachable call 0
+    // return)
     b"\x01\x0a\x02\x60\x02\x7f\x7e\x00\x60\x00\x01\x7f\x03\x03\x02\x00\x01\x0a\x0b\x02\x02\x00\x0b\x06\x00\x00\x10\x00\x0f\x0b",
-    // unreachable before an indirect call: (type (func (param i64))) (table 1 funcref) (func unreachable call_indirect (type 0))
+    // unreachable before an indirect call: (type (func (param i64))) (table 1 funcref) (func unreachable
+    // call_indirect (type 0))
     b"\x01\x08\x02\x60\x01\x7e\x00\x60\x00\x00\x03\x02\x01\x01\x04\x04\x01\x70\x00\x01\x0a\x08\x01\x06\x00\x00\x11\x00\x00\x0b",
     // values left under a branch: (func (block i32.const 1 i64.const 2 br 0))
     b"\x01\x04\x01\x60\x00\x00\x03\x02\x01\x00\x0a\x0d\x01\x0b\x00\x02\x40\x41\x01\x42\x02\x0c\x00\x0b\x0b",
     // conditional branch behind a branch: (func (block br 0 br_if 0))
     b"\x01\x04\x01\x60\x00\x00\x03\x02\x01\x00\x0a\x0b\x01\x09\x00\x02\x40\x0c\x00\x0d\x00\x0b\x0b",
-    // block with a result behind return: (func (result i32) i32.const 5 return (block (result i32) i32.const 1))
+    // block with a result behind return: (func (result i32) i32.const 5 return (block (result i32) i32.const
+    // 1))
     b"\x01\x05\x01\x60\x00\x01\x7f\x03\x02\x01\x00\x0a\x0c\x01\x0a\x00\x41\x05\x0f\x02\x7f\x41\x01\x0b\x0b",
     // loop behind a table: (func (br_table 0 (i32.const 0)) (loop (result i32) i32.const 1) drop)
     b"\x01\x04\x01\x60\x00\x00\x03\x02\x01\x00\x0a\x0f\x01\x0d\x00\x41\x00\x0e\x00\x00\x03\x7f\x41\x01\x0b\x1a\x0b",
@@ -148,15 +158,18 @@ const UNTYPED: [&[u8]; 46] = [
     b"\x01\x04\x01\x60\x00\x00\x03\x02\x01\x00\x0a\x06\x01\x04\x00\x0c\x01\x0b",
     // conditional branch with a value left: (func (block (br_if 0 (i32.const 1) (i32.const 0))))
     b"\x01\x04\x01\x60\x00\x00\x03\x02\x01\x00\x0a\x0d\x01\x0b\x00\x02\x40\x41\x01\x41\x00\x0d\x00\x0b\x0b",
-    // table of labels that differ: (func (block (result i32) (block (br_table 0 1 (i32.const 1) (i32.const 0))) (i32.const 1)) drop)
+    // table of labels that differ: (func (block (result i32) (block (br_table 0 1 (i32.const 1) (i32.const
+    // 0))) (i32.const 1)) drop)
     b"\x01\x04\x01\x60\x00\x00\x03\x02\x01\x00\x0a\x15\x01\x13\x00\x02\x7f\x02\x40\x41\x01\x41\x00\x0e\x01\x00\x01\x0b\x41\x01\x0b\x1a\x0b",
-    // table whose last label differs: (func (block (block (result i32) (br_table 1 1 0 (i32.const 1) (i32.const 0))) drop))
+    // table whose last label differs: (func (block (block (result i32) (br_table 1 1 0 (i32.const 1)
+    // (i32.const 0))) drop))
     b"\x01\x04\x01\x60\x00\x00\x03\x02\x01\x00\x0a\x14\x01\x12\x00\x02\x40\x02\x7f\x41\x01\x41\x00\x0e\x02\x01\x01\x00\x0b\x1a\x0b\x0b",
     // table of no label: (func (br_table 0 5 (i32.const 0)))
     b"\x01\x04\x01\x60\x00\x00\x03\x02\x01\x00\x0a\x0a\x01\x08\x00\x41\x00\x0e\x01\x00\x05\x0b",
     // return without its value: (func (result i32) return)
     b"\x01\x05\x01\x60\x00\x01\x7f\x03\x02\x01\x00\x0a\x05\x01\x03\x00\x0f\x0b",
-    // call with parameters in another order: (func (param i32 i64)) (func (call 0 (i64.const 1) (i32.const 2)))
+    // call with parameters in another order: (func (param i32 i64)) (func (call 0 (i64.const 1) (i32.const
+    // 2)))
     b"\x01\x09\x02\x60\x02\x7f\x7e\x00\x60\x00\x00\x03\x03\x02\x00\x01\x0a\x0d\x02\x02\x00\x0b\x08\x00\x42\x01\x41\x02\x10\x00\x0b",
     // call of no function: (func call 1)
     b"\x01\x04\x01\x60\x00\x00\x03\x02\x01\x00\x0a\x06\x01\x04\x00\x10\x01\x0b",
@@ -172,22 +185,27 @@ const UNTYPED: [&[u8]; 46] = [
     b"\x01\x04\x01\x60\x00\x00\x03\x02\x01\x00\x0a\x06\x01\x04\x00\x00\x6a\x0b",
     // select of unknown values left: (func unreachable select)
     b"\x01\x04\x01\x60\x00\x00\x03\x02\x01\x00\x0a\x06\x01\x04\x00\x00\x1b\x0b",
-    // select of one known value used as another: (func unreachable i64.const 1 i32.const 0 select i32.eqz drop)
+    // select of one known value used as another: (func unreachable i64.const 1 i32.const 0 select i32.eqz
+    // drop)
     b"\x01\x04\x01\x60\x00\x00\x03\x02\x01\x00\x0a\x0c\x01\x0a\x00\x00\x42\x01\x41\x00\x1b\x45\x1a\x0b",
     // unreachable outside of a block: (func unreachable (block drop))
     b"\x01\x04\x01\x60\x00\x00\x03\x02\x01\x00\x0a\x09\x01\x07\x00\x00\x02\x40\x1a\x0b\x0b",
-    // conditional branch leaves its type behind unreachable: (func (result i32) (block (result i32) unreachable br_if 0 i64.eqz))
+    // conditional branch leaves its type behind unreachable: (func (result i32) (block (result i32)
+    // unreachable br_if 0 i64.eqz))
     b"\x01\x05\x01\x60\x00\x01\x7f\x03\x02\x01\x00\x0a\x0b\x01\x09\x00\x02\x7f\x00\x0d\x00\x50\x0b\x0b",
-    // unreachable before a table of labels that differ: Core 1.0: (func (block (result i64) (block (result i32) unreachable br_table 0 1) drop i64.const 1) drop)
+    // unreachable before a table of labels that differ: Core 1.0: (func (block (result i64) (block (result
+    // i32) unreachable br_table 0 1) drop i64.const 1) drop)
     b"\x01\x04\x01\x60\x00\x00\x03\x02\x01\x00\x0a\x13\x01\x11\x00\x02\x7e\x02\x7f\x00\x0e\x01\x00\x01\x0b\x1a\x42\x01\x0b\x1a\x0b",
     // values left behind a branch: (func (block br 0 i32.const 1))
     b"\x01\x04\x01\x60\x00\x00\x03\x02\x01\x00\x0a\x0b\x01\x09\x00\x02\x40\x0c\x00\x41\x01\x0b\x0b",
-    // block with a wrong result behind return: (func (result i32) i32.const 5 return (block (result i64) i64.const 1))
+    // block with a wrong result behind return: (func (result i32) i32.const 5 return (block (result i64)
+    // i64.const 1))
     b"\x01\x05\x01\x60\x00\x01\x7f\x03\x02\x01\x00\x0a\x0c\x01\x0a\x00\x41\x05\x0f\x02\x7e\x42\x01\x0b\x0b",
 ];
 
 const VALID: [&[u8]; 9] = [
-    // imports first: (import "a" "f" (func (param i64))) (import "a" "g" (global i32)) (func (call 0 (i64.const 1))) (global i64 (i64.const 1)) (export "x" (global 1)) (export "y" (func 1))
+    // imports first: (import "a" "f" (func (param i64))) (import "a" "g" (global i32)) (func (call 0
+    // (i64.const 1))) (global i64 (i64.const 1)) (export "x" (global 1)) (export "y" (func 1))
     b"\x01\x08\x02\x60\x01\x7e\x00\x60\x00\x00\x02\x0e\x02\x01\x61\x01\x66\x00\x00\x01\x61\x01\x67\x03\x7f\x00\x03\x02\x01\x01\x06\x06\x01\x7e\x00\x42\x01\x0b\x07\x09\x02\x01\x78\x03\x01\x01\x79\x00\x01\x0a\x08\x01\x06\x00\x42\x01\x10\x00\x0b",
     // table limits: (table 1 1 funcref)
     b"\x04\x05\x01\x70\x01\x01\x01",
@@ -195,13 +213,15 @@ const VALID: [&[u8]; 9] = [
     b"\x05\x06\x01\x01\x00\x80\x80\x04",
     // global of an imported global: (import "a" "g" (global i64)) (global i64 (global.get 0))
     b"\x02\x08\x01\x01\x61\x01\x67\x03\x7e\x00\x06\x06\x01\x7e\x00\x23\x00\x0b",
-    // elements: (import "a" "g" (global i32)) (table 4 funcref) (func) (elem (i32.const 1) 0 0) (elem (global.get 0) 0)
+    // elements: (import "a" "g" (global i32)) (table 4 funcref) (func) (elem (i32.const 1) 0 0) (elem
+    // (global.get 0) 0)
     b"\x01\x04\x01\x60\x00\x00\x02\x08\x01\x01\x61\x01\x67\x03\x7f\x00\x03\x02\x01\x00\x04\x04\x01\x70\x00\x04\x09\x0e\x02\x00\x41\x01\x0b\x02\x00\x00\x00\x23\x00\x0b\x01\x00\x0a\x04\x01\x02\x00\x0b",
     // data: (memory 1) (data (i32.const 8) "abc")
     b"\x05\x03\x01\x00\x01\x0b\x09\x01\x00\x41\x08\x0b\x03\x61\x62\x63",
     // start: (func) (start 0)
     b"\x01\x04\x01\x60\x00\x00\x03\x02\x01\x00\x08\x01\x00\x0a\x04\x01\x02\x00\x0b",
-    // exports: (func) (table 1 funcref) (memory 1) (global i32 (i32.const 1)) (export "a" (func 0)) (export "b" (table 0)) (export "ab" (memory 0)) (export "" (global 0))
+    // exports: (func) (table 1 funcref) (memory 1) (global i32 (i32.const 1)) (export "a" (func 0)) (export
+    // "b" (table 0)) (export "ab" (memory 0)) (export "" (global 0))
     b"\x01\x04\x01\x60\x00\x00\x03\x02\x01\x00\x04\x04\x01\x70\x00\x01\x05\x03\x01\x00\x01\x06\x06\x01\x7f\x00\x41\x01\x0b\x07\x11\x04\x01\x61\x00\x00\x01\x62\x01\x00\x02\x61\x62\x02\x00\x00\x03\x00\x0a\x04\x01\x02\x00\x0b",
     // nothing: nothing
     b"",
@@ -260,7 +280,8 @@ const INVALID: [&[u8]; 29] = [
     b"\x07\x05\x01\x01\x61\x02\x00",
     // export of no global: (export "a" (global 0))
     b"\x07\x05\x01\x01\x61\x03\x00",
-    // exports of one name: (func) (memory 1) (export "a" (func 0)) (export "b" (func 0)) (export "a" (memory 0))
+    // exports of one name: (func) (memory 1) (export "a" (func 0)) (export "b" (func 0)) (export "a" (memory
+    // 0))
     b"\x01\x04\x01\x60\x00\x00\x03\x02\x01\x00\x05\x03\x01\x00\x01\x07\x0d\x03\x01\x61\x00\x00\x01\x62\x00\x00\x01\x61\x02\x00\x0a\x04\x01\x02\x00\x0b",
     // two tables: (import "a" "t" (table 1 funcref)) (table 1 funcref)
     b"\x02\x09\x01\x01\x61\x01\x74\x01\x70\x00\x01\x04\x04\x01\x70\x00\x01",

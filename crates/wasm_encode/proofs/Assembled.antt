@@ -5,7 +5,7 @@ use native.Mathlib.Decide.{dec_le}
 use Rattle.wasm_module.specs.Spelling.{Then, SpellsEach, each_none, each_next, SpellsBytes}
 use Rattle.wasm_module.specs.Sections.{Section, SpellsSection, AreOrdered, ordered_end, ordered_custom, ordered_part, content_of, Holds}
 use Rattle.wasm_module.proofs.Opcodes.{SpellsNothing}
-use Rattle.wasm_encode.specs.Parts.{SpellsPart, part_absent, part_present}
+use Rattle.wasm_encode.specs.inner.Parts.{SpellsPart, part_absent, part_present}
 
 -- The contents of sections by their numbers.
 abbrev pub Contents : Type 0

@@ -12,8 +12,8 @@ use Rattle.wasm_module.specs.declared.instr.Instr.{Instr}
 use Rattle.wasm_module.specs.declared.instr.Instrs.{Instrs}
 use Rattle.wasm_module.proofs.Views.{view_instrs}
 use Rattle.wasm_module.proofs.Opcodes.{SpellsNothing}
-use Rattle.wasm_encode.specs.Gains.{IsSpelled, Gains}
-use Rattle.wasm_encode.specs.Parts.{SpellsBranches, branches_one, branches_two}
+use Rattle.wasm_encode.specs.inner.Gains.{IsSpelled, Gains}
+use Rattle.wasm_encode.specs.inner.Parts.{SpellsBranches, branches_one, branches_two}
 use Rattle.wasm_encode.proofs.Shortest.{gains_then, second_spelled, joined}
 use Rattle.wasm_encode.proofs.Tagged.{IsTagged, gains_tagged, inner_spelled}
 use Rattle.wasm_encode.proofs.Ops.{if_tagged, load_tagged, store_tagged, float_memory_tagged, numeric_tagged, float_plain_tagged}

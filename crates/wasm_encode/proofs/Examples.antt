@@ -13,8 +13,8 @@ use Rattle.wasm_module.specs.declared.instr.Instr.TheVariants as code
 use Rattle.wasm_module.specs.declared.instr.Instrs.{Instrs}
 use Rattle.wasm_module.proofs.Views.{view_instrs, view_loop, view_br, view_if, view_nop}
 use Rattle.wasm_encode.specs.Encodable.{IsU32, AreLimits, AreInstructions, IsImported, IsExported, weight, IsEncodable}
-use Rattle.wasm_encode.specs.Gains.{IsSpelled}
-use Rattle.wasm_encode.specs.Samples.{nothing, one_function}
+use Rattle.wasm_encode.specs.inner.Gains.{IsSpelled}
+use Rattle.wasm_encode.specs.inner.Samples.{nothing, one_function}
 use Rattle.wasm_encode.proofs.Exists.{encodable_spelled}
 
 no_start : (func : ℕ) → ◌≡◌ {A = Option ℕ} None (Some func) → ⊥

@@ -22,8 +22,8 @@ use Rattle.wasm_module.specs.declared.exports.ExportDesc.TheVariants as export
 use Rattle.wasm_module.specs.declared.codes.LocalRun.{LocalRun}
 use Rattle.wasm_module.specs.declared.instr.FloatBytes.{FloatBytes}
 use Rattle.wasm_module.specs.declared.instr.FloatBytes.TheVariants.{Four, Eight}
-use Rattle.wasm_encode.specs.Gains.{IsSpelled}
-use Rattle.wasm_encode.specs.Parts.{SpellsBranches, branches_two, SpellsPart, part_absent, StartPart}
+use Rattle.wasm_encode.specs.inner.Gains.{IsSpelled}
+use Rattle.wasm_encode.specs.inner.Parts.{SpellsBranches, branches_two, SpellsPart, part_absent, StartPart}
 use Rattle.wasm_encode.specs.Encodable.{IsU32, IsFloat, AreLimits, IsInstruction, AreInstructions, IsImported, IsExported, op_weight, ops_weight, IsEncodable}
 use Rattle.wasm_encode.proofs.Types.{open_tagged, closed_tagged, import_func_tagged, import_table_tagged, import_memory_tagged, import_global_tagged, export_func_tagged, export_table_tagged, export_memory_tagged, export_global_tagged}
 use Rattle.wasm_encode.proofs.Ops.{br_tagged, br_if_tagged, call_tagged, local_get_tagged, local_set_tagged, local_tee_tagged, global_get_tagged, global_set_tagged, br_table_tagged, call_indirect_tagged, i32_const_tagged, i64_const_tagged, block_tagged, loop_tagged, if_tagged}

@@ -10,7 +10,7 @@ use Rattle.byte_fields.proofs.Signed.{signed_text, signed_range, IsWithin, same_
 use Rattle.byteorder.specs.Endian.{little_bytes}
 use Rattle.wasm_module.proofs.Opcodes.{SpellsLittle}
 use Rattle.wasm_module.specs.Spelling.{SpellsU32, SpellsBytes, SpellsSized}
-use Rattle.wasm_encode.specs.Gains.{IsSpelled, Gains}
+use Rattle.wasm_encode.specs.inner.Gains.{IsSpelled, Gains}
 use Rattle.wasm_encode.proofs.Shortest.{then_least}
 
 -- a smaller number has a spelling that is no longer

@@ -5,7 +5,7 @@ use Rattle.byte_fields.specs.Front.{SpellsShortest}
 use Rattle.byte_fields.proofs.Written.{unsigned_shortest_one}
 use Rattle.wasm_module.specs.Spelling.{SpellsU32, Then, SpellsMark, SpellsEach, each_none, each_next, SpellsList, SpellsBytes, SpellsSized}
 use Rattle.wasm_module.proofs.Opcodes.{SpellsNothing}
-use Rattle.wasm_encode.specs.Parts.{SpellsPart, part_absent, part_present}
+use Rattle.wasm_encode.specs.inner.Parts.{SpellsPart, part_absent, part_present}
 use Rattle.wasm_encode.proofs.Numbers.{unsigned_less}
 use Rattle.wasm_encode.proofs.Tagged.{IsTagged}
 use Rattle.wasm_encode.proofs.Assembled.{absent_part}

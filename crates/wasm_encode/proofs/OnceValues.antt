@@ -22,7 +22,7 @@ use Rattle.wasm_module.specs.declared.codes.LocalRun.{LocalRun}
 use Rattle.wasm_module.specs.declared.instr.FloatBytes.{FloatBytes}
 use Rattle.wasm_module.specs.declared.instr.FloatBytes.TheVariants.{Four, Eight}
 use Rattle.wasm_module.proofs.Opcodes.{SpellsLittle}
-use Rattle.wasm_encode.specs.Parts.{SpellsBranches, branches_one, branches_two, TypesPart, ImportsPart, FuncsPart, TablesPart, MemoriesPart, GlobalsPart, ExportsPart, StartPart, ElementsPart, CodesPart, SegmentsPart}
+use Rattle.wasm_encode.specs.inner.Parts.{SpellsBranches, branches_one, branches_two, TypesPart, ImportsPart, FuncsPart, TablesPart, MemoriesPart, GlobalsPart, ExportsPart, StartPart, ElementsPart, CodesPart, SegmentsPart}
 use Rattle.wasm_encode.proofs.Types.{open_tagged, closed_tagged, import_func_tagged, import_table_tagged, import_memory_tagged, import_global_tagged, export_func_tagged, export_table_tagged, export_memory_tagged, export_global_tagged}
 use Rattle.wasm_encode.proofs.Ops.{unreachable_tagged, nop_tagged, return_tagged, drop_tagged, select_tagged, br_tagged, br_if_tagged, call_tagged, local_get_tagged, local_set_tagged, local_tee_tagged, global_get_tagged, global_set_tagged, br_table_tagged, call_indirect_tagged, memory_size_tagged, memory_grow_tagged, i32_const_tagged, i64_const_tagged, f32_const_tagged, f64_const_tagged, load_tagged, store_tagged, float_memory_tagged, numeric_tagged, float_plain_tagged, block_tagged, loop_tagged, if_tagged}
 use Rattle.wasm_encode.proofs.Once.{IsOne, only_one, one_by, nothing_one, mark_one, u32_one, then_one, list_one, bytes_one, tagged_one, sized_one, part_one}

@@ -9,7 +9,7 @@ use Rattle.wasm_module.specs.Values.{SpellsBlockType}
 use Rattle.wasm_module.specs.Syntax.{Op, Ops, unreachable, nop, block, loop, if_else, br, br_if, br_table, return, call, call_indirect, drop_value, select, local_get, local_set, local_tee, global_get, global_set, load, store, memory_size, memory_grow, i32_const, i64_const, numeric, float_memory, float_const, float_plain}
 use Rattle.wasm_module.specs.Instructions.{SpellsOp, SpellsExpression, spells_unreachable, spells_nop, spells_block, spells_loop, spells_if, spells_if_else, spells_br, spells_br_if, spells_br_table, spells_return, spells_call, spells_call_indirect, spells_drop, spells_select, spells_local_get, spells_local_set, spells_local_tee, spells_global_get, spells_global_set, spells_memory, spells_memory_size, spells_memory_grow, spells_i32_const, spells_i64_const, spells_f32_const, spells_f64_const, spells_numeric, spells_float_plain, is_load, is_store, is_float_memory, IsLoad, IsStore, IsFloatMemory, IsNumeric, IsFloatPlain}
 use Rattle.wasm_module.proofs.Opcodes.{SpellsNothing, SpellsLittle}
-use Rattle.wasm_encode.specs.Parts.{SpellsBranches, branches_one, branches_two}
+use Rattle.wasm_encode.specs.inner.Parts.{SpellsBranches, branches_one, branches_two}
 use Rattle.wasm_encode.proofs.Tagged.{IsTagged}
 
 unreachable_only : (text : List ℕ) (inner : Unit {0}) → SpellsOp text unreachable → (behind : List ℕ) × SpellsNothing behind inner × (text ≡ 0x00 ∷ behind)

@@ -1,7 +1,7 @@
 -- Shortest spellings of values whose first byte says how the rest is read.
 use Rattle.std.proofs.Common.{◌≡◌, ℕ, List, [], ◌∷◌, ◌++◌, length, ap, sym, ◌∙◌, subst, append_assoc, arith}
 use Rattle.byte_fields.specs.Front.{SpellsShortest}
-use Rattle.wasm_encode.specs.Gains.{IsSpelled, Gains}
+use Rattle.wasm_encode.specs.inner.Gains.{IsSpelled, Gains}
 
 -- Behind this first byte stands another form, and the values that it makes are spelled in no other way.
 pub record IsTagged (V W : Type 0) (Spells : List ℕ → V → Type 0) (Inner : List ℕ → W → Type 0) (make : W → V) (tag : ℕ) : Type 0 where

@@ -16,7 +16,7 @@ use Rattle.wasm_module.specs.declared.imports.ImportDesc.TheVariants as import
 use Rattle.wasm_module.specs.declared.exports.ExportDesc.{ExportDesc}
 use Rattle.wasm_module.specs.declared.exports.ExportDesc.TheVariants as export
 use Rattle.wasm_module.proofs.Spelled.{open_bounds, closed_bounds}
-use Rattle.wasm_encode.specs.Gains.{IsSpelled, Gains}
+use Rattle.wasm_encode.specs.inner.Gains.{IsSpelled, Gains}
 use Rattle.wasm_encode.proofs.Tagged.{IsTagged}
 
 -- A name is spelled as its bytes.

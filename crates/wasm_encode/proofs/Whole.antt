@@ -12,8 +12,8 @@ use Rattle.wasm_module.specs.declared.types.Bounds.{Bounds}
 use Rattle.wasm_module.specs.declared.imports.Import.{Import}
 use Rattle.wasm_module.specs.declared.exports.Export.{Export}
 use Rattle.wasm_module.proofs.Opcodes.{SpellsNothing}
-use Rattle.wasm_encode.specs.Gains.{IsSpelled, Gains}
-use Rattle.wasm_encode.specs.Parts.{TypesPart, ImportsPart, FuncsPart, TablesPart, MemoriesPart, GlobalsPart, ExportsPart, StartPart, ElementsPart, CodesPart, SegmentsPart}
+use Rattle.wasm_encode.specs.inner.Gains.{IsSpelled, Gains}
+use Rattle.wasm_encode.specs.inner.Parts.{TypesPart, ImportsPart, FuncsPart, TablesPart, MemoriesPart, GlobalsPart, ExportsPart, StartPart, ElementsPart, CodesPart, SegmentsPart}
 use Rattle.wasm_encode.proofs.Shortest.{gains_then, first_spelled, second_spelled, joined_spelled}
 use Rattle.wasm_encode.proofs.Blocks.{gains_nothing}
 use Rattle.wasm_encode.proofs.Once.{IsOne, then_one, nothing_one}

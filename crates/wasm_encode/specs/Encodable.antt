@@ -1,4 +1,5 @@
--- Which modules have a binary form: as many functions as codes, names that are UTF-8, numbers in the ranges of their types,
+-- Which modules have a binary form: as many functions as codes, names that are UTF-8, numbers in the ranges
+-- of their types,
 -- opcodes that are those of their instructions, and sizes of 32 bits.
 use Rattle.std.specs.Prelude.{◌≡◌, ℕ, ◌+◌, ◌-◌, ◌*◌, ◌^◌, ◌<◌, ℤ, pos, ◌+ℤ◌, ◌<ℤ◌, ◌≤ℤ◌, length, sum_by, All, Some}
 use Rattle.std.specs.Str.{IsUtf8}
@@ -73,7 +74,8 @@ IsExported (export.Table index) = IsU32 index
 IsExported (export.Memory index) = IsU32 index
 IsExported (export.Global index) = IsU32 index
 
--- How many bytes instructions take at most: 16 each, and five for each label of a branch by an index. Few take as many.
+-- How many bytes instructions take at most: 16 each, and five for each label of a branch by an index. Few
+-- take as many.
 abbrev mutual
   pub op_weight : Op → ℕ
   op_weight (block kind ops) = 16 + ops_weight ops
@@ -86,7 +88,8 @@ abbrev mutual
   ops_weight no_ops = 0
   ops_weight (next op ops) = op_weight op + ops_weight ops
 
--- How many bytes a module takes at most: 32 for each entry of a list, and what its names, its bytes, its instructions and
+-- How many bytes a module takes at most: 32 for each entry of a list, and what its names, its bytes, its
+-- instructions and
 -- its own lists take.
 abbrev pub weight : Syntax Ops → ℕ
 weight m =
@@ -111,7 +114,8 @@ pub record IsEncodable (m : Syntax Ops) : Type 0 where
   pub globals : All (λ global. AreInstructions global.1) m.globals
   pub exports : All (λ entry. IsUtf8 entry.name × IsExported entry.desc) m.exports
   pub start : (func : ℕ) → m.start ≡ Some func → IsU32 func
-  pub elements : All (λ element. IsU32 element.0 × AreInstructions element.1.0 × All IsU32 element.1.1) m.elements
+  pub elements : All (λ element. IsU32 element.0 × AreInstructions element.1.0
+      × All IsU32 element.1.1) m.elements
   pub codes : All (λ code. All (λ run. IsU32 run.count) code.0 × AreInstructions code.1) m.codes
   pub segments : All (λ segment. IsU32 segment.0 × AreInstructions segment.1.0) m.segments
   pub small : weight m < 2 ^ 32

@@ -1,4 +1,2 @@
 pub mod Encodable
-pub mod Gains
-pub mod Parts
-pub mod Samples
+pub mod inner

@@ -1,6 +1,6 @@
 // When a module has a binary form.
 ghost use Rattle.wasm_encode.specs.Encodable.{IsEncodable};
-ghost use Rattle.wasm_encode.specs.Gains.{IsSpelled};
+ghost use Rattle.wasm_encode.specs.inner.Gains.{IsSpelled};
 ghost use Rattle.wasm_module.specs.Sections.{Spells, Syntax};
 ghost use Rattle.wasm_module.specs.Syntax.{Ops};
 

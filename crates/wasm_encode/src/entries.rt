@@ -1,6 +1,6 @@
 // Writers of the entries of lists.
 ghost use Rattle.std.specs.Prelude.{◌≡◌, ℕ, List, OnOk};
-ghost use Rattle.wasm_encode.specs.Gains.{Gains, IsSpelled};
+ghost use Rattle.wasm_encode.specs.inner.Gains.{Gains, IsSpelled};
 ghost use Rattle.wasm_module.specs.Entries.{SpellsLocalRun, code_view};
 ghost use Rattle.wasm_module.specs.Instructions.{SpellsExpression};
 ghost use Rattle.wasm_module.specs.Spelling.{SpellsList, Then};
@@ -213,7 +213,9 @@ impl Written for LocalEntry {
 /// Writes the locals and the body of a function.
 fn put_function(alloc: Global, out: &mut Vec<u8>, code: &Code) -> Result<(), NoMemory>
     requires { IsSpelled (Then (SpellsList SpellsLocalRun) SpellsExpression) (code_view code.now) }
-    ensures { OnOk result (Gains (Then (SpellsList SpellsLocalRun) SpellsExpression) (code_view code.now) out.old.items out.new.items) }
+    ensures { OnOk result
+        (Gains (Then (SpellsList SpellsLocalRun) SpellsExpression)
+        (code_view code.now) out.old.items out.new.items) }
 {
     put_list::<LocalEntry>(alloc, out, code.locals.as_slice())?;
     put_expression(alloc, out, &code.body)

@@ -1,6 +1,6 @@
 // Writers of instructions.
 ghost use Rattle.std.specs.Prelude.{◌≡◌, ◌∷◌, ◌++◌, [], OnOk};
-ghost use Rattle.wasm_encode.specs.Gains.{Gains, IsSpelled};
+ghost use Rattle.wasm_encode.specs.inner.Gains.{Gains, IsSpelled};
 ghost use Rattle.wasm_module.specs.Instructions.{SpellsExpression, SpellsOp, SpellsOps};
 ghost use Rattle.wasm_module.specs.Spelling.{SpellsU32, Then};
 ghost use Rattle.wasm_module.specs.Syntax.{br_table, float_const, i32_const, i64_const};
@@ -127,7 +127,8 @@ fn put_index(out: &mut Vec<u8>, op: u8, index: u32) -> Result<(), NoMemory>
 
 /// Writes an opcode, an alignment and an offset.
 fn put_memory(out: &mut Vec<u8>, op: u8, align: u32, offset: u32) -> Result<(), NoMemory>
-    ensures { OnOk result (Gains (Then SpellsU32 SpellsU32) (align, offset) (out.old.items ++ op ∷ []) out.new.items) }
+    ensures { OnOk result
+        (Gains (Then SpellsU32 SpellsU32) (align, offset) (out.old.items ++ op ∷ []) out.new.items) }
 {
     put_index(out, op, align)?;
     put_leb_u32(out, offset)

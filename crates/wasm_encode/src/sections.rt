@@ -1,8 +1,8 @@
 // Writers of sections, and of the module.
 ghost use Rattle.std.specs.Prelude.{◌≡◌, ◌^◌, ◌<◌, ℕ, List, [], ◌∷◌, ◌++◌, length, map, None, IfOk, OnOk};
 ghost use Rattle.byte_fields.specs.Front.{SpellsShortest};
-ghost use Rattle.wasm_encode.specs.Gains.{Gains, IsSpelled};
-ghost use Rattle.wasm_encode.specs.Parts.{SpellsPart};
+ghost use Rattle.wasm_encode.specs.inner.Gains.{Gains, IsSpelled};
+ghost use Rattle.wasm_encode.specs.inner.Parts.{SpellsPart};
 ghost use Rattle.wasm_module.specs.Sections.{Spells, SpellsStart, module_view};
 ghost use Rattle.wasm_module.specs.Spelling.{SpellsBytes, SpellsList};
 
@@ -28,7 +28,8 @@ const OPENING: [u8; 8] = [0x00, 0x61, 0x73, 0x6d, 0x01, 0x00, 0x00, 0x00];
 pub fn encode(alloc: Global, whole: &Module) -> Result<Vec<u8>, NoMemory>
     requires { (text : List ℕ) × Spells text (module_view whole.now) }
     ensures shortest { IfOk result (λ bytes. SpellsShortest Spells bytes.items (module_view whole.now)) }
-    ensures once { IfOk result (λ bytes. (other : List ℕ) → SpellsShortest Spells other (module_view whole.now) → other ≡ bytes.items) }
+    ensures once { IfOk result (λ bytes. (other : List ℕ)
+        → SpellsShortest Spells other (module_view whole.now) → other ≡ bytes.items) }
 {
     let mut out = OPENING.to_vec(alloc)?;
     put_part::<TypeEntry>(alloc, &mut out, 1, whole.types.as_slice())?;
@@ -62,7 +63,9 @@ fn put_part<W: Written>(
     list: &[W::Value],
 ) -> Result<(), NoMemory>
     requires { IsSpelled (SpellsPart number (SpellsList W.spells) []) (map W.seen list.now) }
-    ensures { OnOk result (Gains (SpellsPart number (SpellsList W.spells) []) (map W.seen list.now) out.old.items out.new.items) }
+    ensures { OnOk result
+        (Gains (SpellsPart number (SpellsList W.spells) [])
+        (map W.seen list.now) out.old.items out.new.items) }
 {
     if list.is_empty() {
         return Ok(());

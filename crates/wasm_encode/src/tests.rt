@@ -1,5 +1,5 @@
 ghost use Rattle.std.specs.Prelude.{◌≡◌, IfOk};
-ghost use Rattle.wasm_encode.specs.Samples.{nothing, one_function};
+ghost use Rattle.wasm_encode.specs.inner.Samples.{nothing, one_function};
 ghost use Rattle.wasm_module.specs.Sections.{module_view};
 ghost use Rattle.wasm_module.specs.View.{instrs_view};
 

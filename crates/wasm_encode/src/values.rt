@@ -1,6 +1,6 @@
 // Writers of names, types and descriptions.
 ghost use Rattle.std.specs.Prelude.{◌≡◌, ◌^◌, ◌<◌, [], ◌∷◌, length, OnOk};
-ghost use Rattle.wasm_encode.specs.Gains.{Gains, IsSpelled};
+ghost use Rattle.wasm_encode.specs.inner.Gains.{Gains, IsSpelled};
 ghost use Rattle.wasm_module.specs.Spelling.{SpellsBytes};
 ghost use Rattle.wasm_module.specs.Values.{SpellsBlockType, SpellsBounds, SpellsExportDesc, SpellsGlobalType, SpellsImportDesc, SpellsMutable, SpellsName, SpellsResult, SpellsTableType, SpellsValType};
 

@@ -1,6 +1,6 @@
 // Writers of values to the end of bytes, and of lists of them.
 ghost use Rattle.std.specs.Prelude.{◌≡◌, ℕ, List, map, OnOk};
-ghost use Rattle.wasm_encode.specs.Gains.{Gains, IsSpelled};
+ghost use Rattle.wasm_encode.specs.inner.Gains.{Gains, IsSpelled};
 ghost use Rattle.wasm_module.specs.Spelling.{SpellsEach, SpellsList};
 
 use crate::NoMemory;

@@ -12,7 +12,9 @@ use Rattle.wasm_link.specs.declared.stored.Stored.{Stored}
 -- It stands for the function.
 abbrev pub IsCallee : Function → Callee → Type 0
 IsCallee found (callee.Imported call kind) = found ≡ imported kind.now call
-IsCallee found (callee.Defined params more results body) = (type : FuncType) × (found ≡ defined type more (items_view body.now)) × (params ≡ length type.params) × (results ≡ arity type.result)
+IsCallee found (callee.Defined params more results body) =
+    (type : FuncType) × (found ≡ defined type more (items_view body.now)) × (params ≡ length type.params)
+    × (results ≡ arity type.result)
 
 -- A function of the module without parameters and result, as one that is invoked from outside.
 pub record IsEntry (program : Program) (func : ℕ) : Type 0 where

@@ -26,9 +26,12 @@ link_view kept = link_of (module_view kept.whole) kept.entries kept.main
 
 -- No imported function has more parameters.
 abbrev pub TakesAtMost : Program → ℕ → Type 0
-TakesAtMost program most = (func call : ℕ) (type : FuncType) → slice_get program.functions func ≡ Some (imported type call) → length type.params ≤ most
+TakesAtMost program most =
+    (func call : ℕ) (type : FuncType) → slice_get program.functions func ≡ Some (imported type call)
+    → length type.params ≤ most
 
-pub record IsKept (m : Syntax Ops) (functions : List Entry) (kinds : List ℕ) (greatest main : ℕ) : Type 0 where
+pub record IsKept (m : Syntax Ops) (functions : List Entry) (kinds : List ℕ)
+    (greatest main : ℕ) : Type 0 where
   pub sigs : List HostSig
   pub busy : AreBusy sigs
   pub linked : IsLinked sigs m (link_of m functions main)

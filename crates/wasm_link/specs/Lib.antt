@@ -2,4 +2,4 @@ pub mod Linking
 pub mod Callee
 pub mod Made
 pub mod Kept
-pub mod Learned
+pub mod inner

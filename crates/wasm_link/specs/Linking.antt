@@ -1,4 +1,5 @@
--- Whether a module links against the calls of a host, and what a run of it begins with: WebAssembly Core 1.0, chapter 4.5.4.
+-- Whether a module links against the calls of a host, and what a run of it begins with: WebAssembly Core 1.0,
+-- chapter 4.5.4.
 use Rattle.std.specs.Prelude.{◌≡◌, ℕ, ◌+◌, ◌<◌, ◌≤◌, List, [], ◌∷◌, ◌++◌, length, map, replicate, codes, Option, Some, None, slice_get, take, drop, All}
 use Rattle.std.specs.Option.{unwrap_or}
 use Rattle.std.specs.Int.{w32, w64, cast_unsigned}
@@ -26,7 +27,8 @@ pub record Names (sigs : List HostSig) (entry : Import) (number : ℕ) (sig : Ho
   pub stands : slice_get sigs number ≡ Some sig
   pub host : entry.module ≡ codes "screeps"
   pub name : entry.name ≡ sig.name.now
-  pub first : (earlier : ℕ) (other : HostSig) → earlier < number → slice_get sigs earlier ≡ Some other → entry.name ≡ other.name.now → ⊥
+  pub first : (earlier : ℕ) (other : HostSig) → earlier < number → slice_get sigs earlier ≡ Some other
+      → entry.name ≡ other.name.now → ⊥
 
 abbrev pub IsKnown : List HostSig → Import → Type 0
 IsKnown sigs entry = (number : ℕ) × (sig : HostSig) × Names sigs entry number sig
@@ -74,7 +76,9 @@ first_memory (bounds ∷ more) = fresh bounds.min (unwrap_or bounds.max most_pag
 
 -- the table with these functions from a place on, and the memory with these bytes
 abbrev pub filled : List (Option ℕ) → Elements Ops → List (Option ℕ)
-filled table segment = take (constant segment.1.0) table ++ (map Some segment.1.1 ++ drop (constant segment.1.0 + length segment.1.1) table)
+filled table segment =
+    take (constant segment.1.0) table
+    ++ (map Some segment.1.1 ++ drop (constant segment.1.0 + length segment.1.1) table)
 
 abbrev pub first_table : List (Option ℕ) → List (Elements Ops) → List (Option ℕ)
 first_table table [] = table
@@ -82,7 +86,8 @@ first_table table (segment ∷ segments) = first_table (filled table segment) se
 
 abbrev pub with_segments : Memory → List (Data Ops) → Memory
 with_segments memory [] = memory
-with_segments memory (segment ∷ segments) = with_segments (written memory (constant segment.1.0) segment.1.1) segments
+with_segments memory (segment ∷ segments) =
+    with_segments (written memory (constant segment.1.0) segment.1.1) segments
 
 abbrev pub first_store : Syntax Ops → Store
 first_store m = record {
@@ -100,10 +105,16 @@ pub record Span : Type 0 where
   pub size : ℕ
 
 abbrev pub table_span : Syntax Ops → Elements Ops → Span
-table_span m segment = record { offset = constant segment.1.0; count = length segment.1.1; size = table_size m.tables }
+table_span m segment =
+    record { offset = constant segment.1.0; count = length segment.1.1; size = table_size m.tables }
 
 abbrev pub memory_span : Syntax Ops → Data Ops → Span
-memory_span m segment = record { offset = constant segment.1.0; count = length segment.1.1; size = length (first_memory m.memories).bytes }
+memory_span m segment =
+    record {
+      offset = constant segment.1.0;
+      count = length segment.1.1;
+      size = length (first_memory m.memories).bytes;
+    }
 
 -- all segments, those of the table first
 abbrev pub spans : Syntax Ops → List Span
@@ -120,11 +131,14 @@ pub record IsProgram (sigs : List HostSig) (m : Syntax Ops) (program : Program) 
   pub types : program.types ≡ m.types
   pub count : length program.functions ≡ length m.imports + length m.codes
   pub imports : (i number index : ℕ) (entry : Import) (sig : HostSig) (type : FuncType)
-      → slice_get m.imports i ≡ Some entry → Names sigs entry number sig → entry.desc ≡ import.Func index → slice_get m.types index ≡ Some type
+      → slice_get m.imports i ≡ Some entry → Names sigs entry number sig → entry.desc ≡ import.Func index
+      → slice_get m.types index ≡ Some type
       → slice_get program.functions i ≡ Some (imported type number)
   pub own : (i index : ℕ) (type : FuncType) (function : Function Ops)
-      → slice_get m.funcs i ≡ Some index → slice_get m.types index ≡ Some type → slice_get m.codes i ≡ Some function
-      → slice_get program.functions (length m.imports + i) ≡ Some (defined type (length (locals_of function.0)) function.1)
+      → slice_get m.funcs i ≡ Some index → slice_get m.types index ≡ Some type
+      → slice_get m.codes i ≡ Some function
+      → slice_get program.functions (length m.imports + i)
+      ≡ Some (defined type (length (locals_of function.0)) function.1)
 
 -- A module with its program and its function `loop`.
 pub record Link : Type 0 where
@@ -148,12 +162,15 @@ pub record FirstNot {A : Type 0} (P : A → Type 0) (entries : List A) (place : 
   pub refused : P entry → ⊥
   pub before : (earlier : ℕ) (other : A) → earlier < place → slice_get entries earlier ≡ Some other → P other
 
--- The reasons in their order: an import that no call has, one of another kind or type, no `loop`, a segment past the end.
+-- The reasons in their order: an import that no call has, one of another kind or type, no `loop`, a segment
+-- past the end.
 abbrev pub IsFault : List HostSig → Syntax Ops → LinkFault → Type 0
 IsFault sigs m (fault.UnknownImport place) = FirstNot (IsKnown sigs) m.imports place
-IsFault sigs m (fault.ImportKind place) = All (IsKnown sigs) m.imports × FirstNot (IsOfKind sigs m.types) m.imports place
+IsFault sigs m (fault.ImportKind place) =
+    All (IsKnown sigs) m.imports × FirstNot (IsOfKind sigs m.types) m.imports place
 IsFault sigs m fault.NoLoop = All (IsOfKind sigs m.types) m.imports × ((func : ℕ) → HasLoop m func → ⊥)
-IsFault sigs m (fault.Segment place) = All (IsOfKind sigs m.types) m.imports × (func : ℕ) × HasLoop m func × FirstNot Fits (spans m) place
+IsFault sigs m (fault.Segment place) =
+    All (IsOfKind sigs m.types) m.imports × (func : ℕ) × HasLoop m func × FirstNot Fits (spans m) place
 IsFault sigs m fault.Memory = Unit {0}
 
 -- The module links.

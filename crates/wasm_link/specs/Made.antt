@@ -35,19 +35,22 @@ pub record EachAt {A : Type 0} (P : ℕ → A → Type 0) (entries : List A) : T
 
 -- A call has this name.
 abbrev pub HasName : List HostSig → List ℕ → Type 0
-HasName sigs name = (number : ℕ) × (sig : HostSig) × (slice_get sigs number ≡ Some sig) × (name ≡ sig.name.now)
+HasName sigs name =
+    (number : ℕ) × (sig : HostSig) × (slice_get sigs number ≡ Some sig) × (name ≡ sig.name.now)
 
 -- It is the number of the first call of the name.
 abbrev pub IsFirstOf : List HostSig → List ℕ → ℕ → Type 0
 IsFirstOf sigs name number = (sig : HostSig) × (slice_get sigs number ≡ Some sig) × (name ≡ sig.name.now)
-    × ((earlier : ℕ) (other : HostSig) → earlier < number → slice_get sigs earlier ≡ Some other → name ≡ other.name.now → ⊥)
+    × ((earlier : ℕ) (other : HostSig) → earlier < number → slice_get sigs earlier ≡ Some other
+    → name ≡ other.name.now → ⊥)
 
 -- The import names the call of this number.
 abbrev pub IsNamed : List HostSig → Import → ℕ → Type 0
 IsNamed sigs entry number = (sig : HostSig) × Names sigs entry number sig
 
 abbrev pub IsNamedAt : List HostSig → List Import → ℕ → ℕ → Type 0
-IsNamedAt sigs imports place number = (entry : Import) × (slice_get imports place ≡ Some entry) × IsNamed sigs entry number
+IsNamedAt sigs imports place number =
+    (entry : Import) × (slice_get imports place ≡ Some entry) × IsNamed sigs entry number
 
 -- The imports name the calls of these numbers.
 pub record AreNamed (sigs : List HostSig) (imports : List Import) (numbers : List ℕ) : Type 0 where
@@ -71,9 +74,12 @@ pub record HasKind (types : List FuncType) (desc : ImportDesc) (sig : HostSig) (
 
 abbrev pub IsImportedAt : List HostSig → List FuncType → List Import → ℕ → Entry → Type 0
 IsImportedAt sigs types imports place made =
-    (entry : Import) × (slice_get imports place ≡ Some entry) × (number : ℕ) × (sig : HostSig) × Names sigs entry number sig × (kind : ℕ) × HasKind types entry.desc sig kind × (made ≡ code.Imported kind number)
+    (entry : Import) × (slice_get imports place ≡ Some entry) × (number : ℕ) × (sig : HostSig)
+    × Names sigs entry number sig × (kind : ℕ) × HasKind types entry.desc sig kind
+    × (made ≡ code.Imported kind number)
 
-pub record AreImported (sigs : List HostSig) (types : List FuncType) (imports : List Import) (functions : List Entry) : Type 0 where
+pub record AreImported (sigs : List HostSig) (types : List FuncType) (imports : List Import)
+    (functions : List Entry) : Type 0 where
   pub count : length functions ≡ length imports
   pub imported : EachAt (IsImportedAt sigs types imports) functions
 
@@ -90,10 +96,14 @@ kind_of (code.Defined kind place params more results) = kind
 
 -- the entry of a function of this type and this code
 abbrev pub own_entry : ℕ → ℕ → FuncType → Function Ops → Entry
-own_entry place index type function = code.Defined index place (length type.params) (length (locals_of function.0)) (arity type.result)
+own_entry place index type function =
+    code.Defined index place (length type.params) (length (locals_of function.0)) (arity type.result)
 
 abbrev pub IsOwnAt : Syntax Ops → ℕ → Entry → Type 0
-IsOwnAt m place made = (index : ℕ) × (type : FuncType) × (function : Function Ops) × (slice_get m.funcs place ≡ Some index) × (slice_get m.types index ≡ Some type) × (slice_get m.codes place ≡ Some function) × (made ≡ own_entry place index type function)
+IsOwnAt m place made =
+    (index : ℕ) × (type : FuncType) × (function : Function Ops) × (slice_get m.funcs place ≡ Some index)
+    × (slice_get m.types index ≡ Some type) × (slice_get m.codes place ≡ Some function)
+    × (made ≡ own_entry place index type function)
 
 pub record AreOwn (m : Syntax Ops) (functions : List Entry) : Type 0 where
   pub count : length functions ≡ length m.codes
@@ -103,18 +113,24 @@ pub record AreOwn (m : Syntax Ops) (functions : List Entry) : Type 0 where
 
 -- The function has no parameters and no result, among functions of types of these indices.
 abbrev pub IsPlain : List FuncType → List ℕ → ℕ → Type 0
-IsPlain types kinds func = (type : FuncType) × ((index : ℕ) × (slice_get kinds func ≡ Some index) × (slice_get types index ≡ Some type)) × (type.params ≡ []) × (type.result ≡ None)
+IsPlain types kinds func =
+    (type : FuncType)
+    × ((index : ℕ) × (slice_get kinds func ≡ Some index) × (slice_get types index ≡ Some type))
+    × (type.params ≡ []) × (type.result ≡ None)
 
 abbrev pub IsLoop : List FuncType → List ℕ → Export → ℕ → Type 0
-IsLoop types kinds entry func = (entry.name ≡ codes "loop") × (entry.desc ≡ export.Func func) × IsPlain types kinds func
+IsLoop types kinds entry func =
+    (entry.name ≡ codes "loop") × (entry.desc ≡ export.Func func) × IsPlain types kinds func
 
 -- ---- segments
 
 abbrev pub element_span : ℕ → Element → Span
-element_span size segment = record { offset = constant (instrs_view segment.offset); count = length segment.funcs; size = size }
+element_span size segment =
+    record { offset = constant (instrs_view segment.offset); count = length segment.funcs; size = size }
 
 abbrev pub data_span : ℕ → Segment → Span
-data_span size segment = record { offset = constant (instrs_view segment.offset); count = length segment.bytes; size = size }
+data_span size segment =
+    record { offset = constant (instrs_view segment.offset); count = length segment.bytes; size = size }
 
 -- A memory that may be made: no more than 256 pages at first, and no more than its most.
 abbrev pub IsSmall : Bounds → Type 0
@@ -139,8 +155,11 @@ text_of type = result_code type.result ∷ map code_of type.params
 -- Two entries have one class exactly where they are equal.
 pub record AreClasses {A : Type 0} (entries : List A) (classes : List ℕ) : Type 0 where
   pub count : length classes ≡ length entries
-  pub equal : (i j class : ℕ) (one other : A) → slice_get entries i ≡ Some one → slice_get entries j ≡ Some other → slice_get classes i ≡ Some class → slice_get classes j ≡ Some class → one ≡ other
-  pub same : (i j class other : ℕ) (one : A) → slice_get entries i ≡ Some one → slice_get entries j ≡ Some one → slice_get classes i ≡ Some class → slice_get classes j ≡ Some other → class ≡ other
+  pub equal : (i j class : ℕ) (one other : A) → slice_get entries i ≡ Some one
+      → slice_get entries j ≡ Some other → slice_get classes i ≡ Some class → slice_get classes j ≡ Some class
+      → one ≡ other
+  pub same : (i j class other : ℕ) (one : A) → slice_get entries i ≡ Some one → slice_get entries j ≡ Some one
+      → slice_get classes i ≡ Some class → slice_get classes j ≡ Some other → class ≡ other
 
 -- ---- the whole
 
@@ -154,7 +173,8 @@ body_in (Some function) = function.1
 
 abbrev pub function_of : Syntax Ops → Entry → steps.Function
 function_of m (code.Imported kind call) = imported (unwrap_or (slice_get m.types kind) no_type) call
-function_of m (code.Defined kind place params more results) = defined (unwrap_or (slice_get m.types kind) no_type) more (body_in (slice_get m.codes place))
+function_of m (code.Defined kind place params more results) =
+    defined (unwrap_or (slice_get m.types kind) no_type) more (body_in (slice_get m.codes place))
 
 abbrev pub program_of : Syntax Ops → List Entry → Program
 program_of m entries = record { types = m.types; functions = map (function_of m) entries }
@@ -163,7 +183,9 @@ program_of m entries = record { types = m.types; functions = map (function_of m)
 abbrev pub IsEntryOf : Syntax Ops → Entry → Type 0
 IsEntryOf m (code.Imported kind call) = (type : FuncType) × (slice_get m.types kind ≡ Some type)
 IsEntryOf m (code.Defined kind place params more results) =
-    (type : FuncType) × (function : Function Ops) × (slice_get m.types kind ≡ Some type) × (slice_get m.codes place ≡ Some function) × (params ≡ length type.params) × (results ≡ arity type.result)
+    (type : FuncType) × (function : Function Ops) × (slice_get m.types kind ≡ Some type)
+    × (slice_get m.codes place ≡ Some function) × (params ≡ length type.params)
+    × (results ≡ arity type.result)
 
 -- The lists are short enough to count their entries by 32 bits.
 pub record IsCounted (m : Syntax Ops) : Type 0 where
@@ -181,4 +203,6 @@ IsNumberOf sigs place number = number < length sigs
 
 -- The calls of these numbers have no more parameters than this.
 abbrev pub HaveAtMost : List HostSig → List ℕ → ℕ → Type 0
-HaveAtMost sigs numbers most = EachAt (λ place number. (sig : HostSig) → slice_get sigs number ≡ Some sig → length sig.params.now ≤ most) numbers
+HaveAtMost sigs numbers most =
+    EachAt (λ place number. (sig : HostSig) → slice_get sigs number ≡ Some sig
+    → length sig.params.now ≤ most) numbers

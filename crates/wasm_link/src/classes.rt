@@ -1,6 +1,6 @@
 // Which types of a module are equal: each has the least index of a type that is equal to it, its class.
 ghost use Rattle.std.specs.Prelude.{◌≡◌, ◌<◌, ◌^◌, length, map, IfOk};
-ghost use Rattle.wasm_link.specs.Learned.{Learns};
+ghost use Rattle.wasm_link.specs.inner.Learned.{Learns};
 ghost use Rattle.wasm_link.specs.Made.{code_of, result_code, text_of, AreClasses};
 
 use std::alloc::{AllocError, Global};

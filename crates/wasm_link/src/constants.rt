@@ -10,7 +10,8 @@ use wasm_module::{Instr, Instrs};
 
 fn value_of_one(instr: &Instr) -> u64
     ensures value { result ≡ constant (next (instr_view instr.now) no_ops) }
-    ensures typed { (kind : _) → IsConstant [] (next (instr_view instr.now) no_ops) kind → IsValue kind result }
+    ensures typed { (kind : _) → IsConstant [] (next (instr_view instr.now) no_ops) kind
+        → IsValue kind result }
 {
     match instr {
         Instr::I32Const(number) => u64::from(number.cast_unsigned()),

@@ -8,7 +8,8 @@ pub(crate) enum Entry {
         kind: u32,
         call: u32,
     },
-    /// A function of the module: the index of its type, the place of its code, and how many parameters it has, how many locals more and
+    /// A function of the module: the index of its type, the place of its code, and how many parameters it
+    /// has, how many locals more and
     /// how many results.
     Defined {
         kind: u32,

@@ -1,6 +1,6 @@
 // The function that is exported as `loop`.
 ghost use Rattle.std.specs.Prelude.{◌≡◌, ℕ, map, slice_get, Some, MatchOption};
-ghost use Rattle.wasm_validate.specs.Stands.{Exactly};
+ghost use Rattle.wasm_validate.specs.inner.Stands.{Exactly};
 ghost use Rattle.wasm_link.specs.Made.{kind_of, IsPlain, IsLoop};
 
 use crate::entries::Entry;
@@ -27,7 +27,8 @@ fn is_plain(types: &[FuncType], functions: &[Entry], func: u32) -> bool
 
 /// The function, where it is one of no parameters and no result that is exported as `loop`.
 fn as_loop(types: &[FuncType], functions: &[Entry], export: &Export) -> Option<u32>
-    ensures { MatchOption result ((func : _) → IsLoop types.now (map kind_of functions.now) export.now func → ⊥) (IsLoop types.now (map kind_of functions.now) export.now) }
+    ensures { MatchOption result ((func : _) → IsLoop types.now (map kind_of functions.now) export.now func
+        → ⊥) (IsLoop types.now (map kind_of functions.now) export.now) }
 {
     if export.name.as_slice() != b"loop".as_slice() {
         return None;
@@ -44,7 +45,10 @@ fn as_loop(types: &[FuncType], functions: &[Entry], export: &Export) -> Option<u
 
 /// The function of no parameters and no result that is exported as `loop`.
 pub(crate) fn find_loop(types: &[FuncType], functions: &[Entry], exports: &[Export]) -> Option<u32>
-    ensures { MatchOption result ((place func : ℕ) (entry : _) → slice_get exports.now place ≡ Some entry → IsLoop types.now (map kind_of functions.now) entry func → ⊥) (λ func. (place : ℕ) × (entry : _) × (slice_get exports.now place ≡ Some entry) × IsLoop types.now (map kind_of functions.now) entry func) }
+    ensures { MatchOption result ((place func : ℕ) (entry : _) → slice_get exports.now place ≡ Some entry
+        → IsLoop types.now (map kind_of functions.now) entry func → ⊥)
+        (λ func. (place : ℕ) × (entry : _) × (slice_get exports.now place ≡ Some entry)
+        × IsLoop types.now (map kind_of functions.now) entry func) }
 {
     let mut at = 0usize;
     while at < exports.len() {

@@ -2,7 +2,7 @@
 ghost use Rattle.std.specs.Prelude.{◌≡◌, ◌<◌, ◌^◌, length, map, IfOk, IfErr, MatchOption};
 ghost use Rattle.std.specs.List.{filter_map};
 ghost use Rattle.wasm_validate.specs.Context.{imported_func};
-ghost use Rattle.wasm_validate.specs.Stands.{Exactly};
+ghost use Rattle.wasm_validate.specs.inner.Stands.{Exactly};
 ghost use Rattle.wasm_link.specs.Linking.{IsKnown};
 ghost use Rattle.wasm_link.specs.Made.{kind_of, IsNamed, IsFirstOf, HasName, AreNamed, HasKind, AreImported, IsUnknown, IsOtherKind, EachAt, IsNumberOf, HaveAtMost};
 
@@ -74,7 +74,8 @@ fn is_same(one: Option<ValType>, other: Option<ValType>) -> bool
 
 /// The index of the type of what is imported, where it is a function of the type of a call.
 fn kind_among(types: &[FuncType], desc: ImportDesc, sig: &HostSig) -> Option<u32>
-    ensures { MatchOption result ((kind : _) → HasKind types.now desc sig.now kind → ⊥) (HasKind types.now desc sig.now) }
+    ensures { MatchOption result ((kind : _) → HasKind types.now desc sig.now kind → ⊥)
+        (HasKind types.now desc sig.now) }
 {
     let ImportDesc::Func(kind) = desc else {
         return None;
@@ -101,7 +102,9 @@ pub(crate) fn imported_functions(
     requires imports { length imports.now < 2 ^ 32 }
     requires named { AreNamed sigs.now imports.now calls.now }
     ensures imported { IfOk result (λ functions. AreImported sigs.now types.now imports.now functions.items) }
-    ensures kinds { IfOk result (λ functions. map kind_of functions.items ≡ filter_map (λ entry. imported_func entry.desc) imports.now) }
+    ensures kinds { IfOk result
+        (λ functions.
+        map kind_of functions.items ≡ filter_map (λ entry. imported_func entry.desc) imports.now) }
     ensures fault { IfErr result (IsOtherKind sigs.now types.now imports.now) }
 {
     let mut functions = Vec::new(alloc);

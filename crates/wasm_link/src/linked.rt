@@ -28,7 +28,8 @@ pub enum Callee<'a> {
         call: u32,
         kind: &'a FuncType,
     },
-    /// A function of the module: how many parameters it has, how many locals more, how many results, and its body.
+    /// A function of the module: how many parameters it has, how many locals more, how many results, and its
+    /// body.
     Defined {
         params: usize,
         more: usize,
@@ -46,7 +47,8 @@ struct Parts {
     main: u32,
 }
 
-/// A module that links against the calls of a host. Contracts see the module, its functions and its function `loop`.
+/// A module that links against the calls of a host. Contracts see the module, its functions and its function
+/// `loop`.
 #[derive(Drop)]
 pub struct Linked {
     valid: Valid,
@@ -67,9 +69,15 @@ impl Model for Linked {
 
     ghost coded = { Prim.hlevel (codes, whole_row.the_row.coded, entry_row.the_row.coded) };
 
-    ghost view = { λ linked. record { whole = linked.valid; entries = linked.functions.items; main = linked.main } };
+    ghost view = { λ linked. record {
+      whole = linked.valid;
+      entries = linked.functions.items;
+      main = linked.main;
+    } };
 
-    ghost invariant = { λ linked. IsKept (module_view linked.valid) linked.functions.items linked.classes.items linked.most linked.main };
+    ghost invariant = { λ linked. IsKept (module_view linked.valid) linked.functions.items
+        linked.classes.items
+        linked.most linked.main };
 }
 
 /// The parts of a module, each looked at in the order of the refusals.
@@ -79,8 +87,12 @@ fn parts_of(alloc: Global, whole: &Module, sigs: &[HostSig]) -> Result<Parts, Li
     requires counted { IsCounted (module_view whole.now) }
     requires few { length sigs.now < 2 ^ 32 }
     requires busy { AreBusy sigs.now }
-    ensures kept { IfOk result (λ parts. IsKept (module_view whole.now) parts.functions.items parts.classes.items parts.most parts.main) }
-    ensures linked { IfOk result (λ parts. IsLinked sigs.now (module_view whole.now) (link_of (module_view whole.now) parts.functions.items parts.main)) }
+    ensures kept { IfOk result
+        (λ parts. IsKept
+        (module_view whole.now) parts.functions.items parts.classes.items parts.most parts.main) }
+    ensures linked { IfOk result
+        (λ parts. IsLinked sigs.now (module_view whole.now)
+        (link_of (module_view whole.now) parts.functions.items parts.main)) }
     ensures fault { IfErr result (IsFault sigs.now (module_view whole.now)) }
 {
     let types = whole.types.as_slice();
@@ -105,9 +117,11 @@ fn parts_of(alloc: Global, whole: &Module, sigs: &[HostSig]) -> Result<Parts, Li
     })
 }
 
-/// Links a module against the calls that a host offers: WebAssembly Core 1.0, chapter 4.5.4, where imports are the host's alone.
+/// Links a module against the calls that a host offers: WebAssembly Core 1.0, chapter 4.5.4, where imports
+/// are the host's alone.
 ///
-/// All imports are looked at for their names first, then all of them for their types; then the export `loop`, then the segments of the
+/// All imports are looked at for their names first, then all of them for their types; then the export `loop`,
+/// then the segments of the
 /// table, then those of the memory. The first that is refused says the fault.
 pub fn link(alloc: Global, valid: Valid, sigs: &[HostSig]) -> Result<Linked, LinkFault>
     requires within { IsWithin (module_view valid) }
@@ -148,7 +162,8 @@ impl Linked {
     pub fn main(&self) -> u32
         ensures main { result ≡ (link_view self.now).main }
         ensures entry { IsEntry (link_view self.now).program (link_view self.now).main }
-        ensures typed { IsTypedProgram (module_context (link_view self.now).whole) (link_view self.now).program }
+        ensures typed { IsTypedProgram (module_context (link_view self.now).whole)
+            (link_view self.now).program }
     {
         let _valid = self.valid.module();
         self.main
@@ -158,7 +173,8 @@ impl Linked {
     #[inline]
     pub fn callee(&self, func: u32) -> Callee<'_>
         requires { func < length (link_view self.now).program.functions }
-        ensures { (found : Function) × (slice_get (link_view self.now).program.functions func ≡ Some found) × IsCallee found result }
+        ensures { (found : Function) × (slice_get (link_view self.now).program.functions func ≡ Some found)
+            × IsCallee found result }
     {
         let whole = self.valid.module();
         match self.functions[func as usize] {
@@ -186,7 +202,9 @@ impl Linked {
     pub fn has_type(&self, func: u32, index: u32) -> bool
         requires func { func < length (link_view self.now).program.functions }
         requires index { index < length (link_view self.now).program.types }
-        ensures { IsTrue result ↔ ((found : Function) → slice_get (link_view self.now).program.functions func ≡ Some found → slice_get (link_view self.now).program.types index ≡ Some (type_of found)) }
+        ensures { IsTrue result
+            ↔ ((found : Function) → slice_get (link_view self.now).program.functions func ≡ Some found
+            → slice_get (link_view self.now).program.types index ≡ Some (type_of found)) }
     {
         let kind = self.functions[func as usize].kind();
         self.classes[kind as usize] == self.classes[index as usize]
@@ -194,16 +212,20 @@ impl Linked {
 
     /// The most parameters of an imported function.
     pub fn most_arguments(&self) -> usize
-        ensures { (func call : ℕ) (type : FuncType) → slice_get (link_view self.now).program.functions func ≡ Some (imported type call) → length type.params ≤ result }
+        ensures { (func call : ℕ) (type : FuncType)
+            → slice_get (link_view self.now).program.functions func ≡ Some (imported type call)
+            → length type.params ≤ result }
     {
         self.most
     }
 
-    /// A new store with the segments in it: the memory of the module's least size, zeros but for the data; the table, empty but for the
+    /// A new store with the segments in it: the memory of the module's least size, zeros but for the data;
+    /// the table, empty but for the
     /// elements; the globals. No page past the least size is touched.
     pub fn store(&self, alloc: Global) -> Result<Stored, NoMemory>
         ensures store { IfOk result (λ stored. store_view stored ≡ first_store (link_view self.now).whole) }
-        ensures typed { IfOk result (λ stored. IsTypedStore (module_context (link_view self.now).whole) (store_view stored)) }
+        ensures typed { IfOk result
+            (λ stored. IsTypedStore (module_context (link_view self.now).whole) (store_view stored)) }
     {
         let whole = self.valid.module();
         let pages = memory_of(alloc, whole.memories.as_slice(), whole.segments.as_slice())?;

@@ -1,6 +1,6 @@
 // Whether the segments of a module are within its table and its memory.
 ghost use Rattle.std.specs.Prelude.{◌≡◌, ◌+◌, ◌≤◌, ℕ, MatchOption, All};
-ghost use Rattle.wasm_validate.specs.Stands.{Exactly};
+ghost use Rattle.wasm_validate.specs.inner.Stands.{Exactly};
 ghost use Rattle.wasm_module.specs.Sections.{module_view};
 ghost use Rattle.wasm_link.specs.Linking.{Span, Fits, FirstNot, table_size, spans};
 ghost use Rattle.wasm_link.specs.Made.{IsCounted};
@@ -57,7 +57,8 @@ impl Placed for Segment {
 
 /// The place of the first segment that passes the end.
 fn first_past<S: Placed>(segments: &[S], size: u64) -> Option<usize>
-    ensures { MatchOption result (All (λ segment. Fits (S.span size segment)) segments.now) (FirstNot (λ segment. Fits (S.span size segment)) segments.now) }
+    ensures { MatchOption result (All (λ segment. Fits (S.span size segment)) segments.now)
+        (FirstNot (λ segment. Fits (S.span size segment)) segments.now) }
 {
     let mut at = 0usize;
     while at < segments.len() {
@@ -72,7 +73,8 @@ fn first_past<S: Placed>(segments: &[S], size: u64) -> Option<usize>
 /// The place of the first segment that passes the end of the table or the memory, those of the table first.
 pub(crate) fn first_misfit(whole: &Module) -> Option<u32>
     requires { IsCounted (module_view whole.now) }
-    ensures { MatchOption result (All Fits (spans (module_view whole.now))) (FirstNot Fits (spans (module_view whole.now))) }
+    ensures { MatchOption result (All Fits (spans (module_view whole.now)))
+        (FirstNot Fits (spans (module_view whole.now))) }
 {
     let elements = whole.elements.as_slice();
     let entries = u64::from(least_size(whole.tables.as_slice()));

@@ -48,8 +48,10 @@ pub(crate) fn memory_of(
     segments: &[Segment],
 ) -> Result<Pages, AllocError>
     requires small { All IsSmall memories.now }
-    requires fit { All (λ segment. Fits (data_span (length (first_memory memories.now).bytes) segment)) segments.now }
-    ensures { IfOk result (λ pages. pages ≡ with_segments (first_memory memories.now) (map segment_view segments.now)) }
+    requires fit { All
+        (λ segment. Fits (data_span (length (first_memory memories.now).bytes) segment)) segments.now }
+    ensures { IfOk result
+        (λ pages. pages ≡ with_segments (first_memory memories.now) (map segment_view segments.now)) }
 {
     let mut pages = first_pages(alloc, memories)?;
     let mut at = 0usize;
@@ -64,9 +66,12 @@ pub(crate) fn memory_of(
 /// The globals with the values that they begin with.
 pub(crate) fn globals_of(alloc: Global, globals: &[GlobalDef]) -> Result<GlobalValues, AllocError>
     requires few { length globals.now < 2 ^ 32 }
-    requires constants { All (λ global. IsConstant [] (instrs_view global.init) global.kind.value) globals.now }
-    ensures values { IfOk result (λ values. values ≡ map (λ global. constant global.1) (map global_view globals.now)) }
-    ensures typed { OnOk result (All (λ global. IsValue global.kind.value (constant (instrs_view global.init))) globals.now) }
+    requires constants { All
+        (λ global. IsConstant [] (instrs_view global.init) global.kind.value) globals.now }
+    ensures values { IfOk result
+        (λ values. values ≡ map (λ global. constant global.1) (map global_view globals.now)) }
+    ensures typed { OnOk result
+        (All (λ global. IsValue global.kind.value (constant (instrs_view global.init))) globals.now) }
 {
     let mut values = GlobalValues::new(alloc, globals.len() as u32)?;
     let mut at = 0usize;
@@ -82,7 +87,8 @@ pub(crate) fn globals_of(alloc: Global, globals: &[GlobalDef]) -> Result<GlobalV
 fn fill(table: &mut FuncTable, offset: u32, funcs: &[u32])
     requires within { offset + length funcs.now ≤ length table.old }
     requires small { length table.old < 2 ^ 32 }
-    ensures { table.new ≡ take offset table.old ++ (map Some funcs.now ++ drop (offset + length funcs.now) table.old) }
+    ensures { table.new ≡ take offset table.old
+        ++ (map Some funcs.now ++ drop (offset + length funcs.now) table.old) }
 {
     let mut at = 0usize;
     while at < funcs.len() {
@@ -99,7 +105,9 @@ pub(crate) fn table_of(
 ) -> Result<FuncTable, AllocError>
     requires small { table_size tables.now < 2 ^ 32 }
     requires fit { All (λ segment. Fits (element_span (table_size tables.now) segment)) elements.now }
-    ensures { IfOk result (λ table. table ≡ first_table (replicate (table_size tables.now) None) (map element_view elements.now)) }
+    ensures { IfOk result
+        (λ table. table ≡ first_table (replicate (table_size tables.now) None)
+        (map element_view elements.now)) }
 {
     let mut table = FuncTable::new(alloc, least_size(tables))?;
     let mut at = 0usize;

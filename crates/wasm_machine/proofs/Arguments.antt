@@ -8,7 +8,7 @@ use Rattle.wasm_module.specs.declared.types.ValType.TheVariants.{I32, I64, F32, 
 use Rattle.wasm_validate.specs.Typing.{types_of}
 use Rattle.wasm_steps.specs.Steps.{argument, answered}
 use Rattle.wasm_soundness.specs.Typed.{IsValue, AreValues, no_values, next_value}
-use Rattle.wasm_machine.specs.Calls.{arguments_of}
+use Rattle.wasm_machine.specs.inner.Calls.{arguments_of}
 
 more : (kinds : List ValType) (operands : List ℕ) (n : ℕ) (d : ValType) → n < length kinds → n < length operands
     → arguments_of (take (suc n) kinds) (take (suc n) operands) ≡ arguments_of (take n kinds) (take n operands) ++ argument (get_or kinds n d) (get_or operands n 0) ∷ []

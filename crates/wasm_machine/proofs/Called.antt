@@ -15,7 +15,7 @@ use Rattle.wasm_stack.specs.Held.{Held, running, called, without}
 use Rattle.wasm_stack.specs.View.{ops_at}
 use Rattle.wasm_stack.specs.declared.place.Place.{Place}
 use Rattle.wasm_machine.specs.Machine.{state_of, IsSoundAt, Stopped, Executes}
-use Rattle.wasm_machine.specs.Calls.{IsEntered, IsNotEntered, IsAnswered, MayCall, CallRuns, CallIsTyped, arguments_of}
+use Rattle.wasm_machine.specs.inner.Calls.{IsEntered, IsNotEntered, IsAnswered, MayCall, CallRuns, CallIsTyped, arguments_of}
 use Rattle.wasm_machine.proofs.Rooms.{has_room}
 
 -- one function stands at an index

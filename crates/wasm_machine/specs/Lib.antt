@@ -1,4 +1,4 @@
 pub mod Machine
-pub mod Calls
 pub mod Runs
 pub mod Fresh
+pub mod inner

@@ -32,16 +32,20 @@ abbrev pub IsRunnable : Op → Ops → Held → Type 0
 IsRunnable op rest held = (base : Context) × IsTyped base (running (next op rest) held)
 
 -- By one step that costs 1 from one state to another, which is typed again.
-pub record Ran (program : Program) {S : Type 0} (H : Meaning S) (base : Context) (code : Ops) (old : Held) (before : Store) (host : S) (after : Ops) (new : Held) (kept : Store) (later : S) : Type 0 where
+pub record Ran (program : Program) {S : Type 0} (H : Meaning S) (base : Context) (code : Ops) (old : Held)
+    (before : Store) (host : S) (after : Ops) (new : Held) (kept : Store) (later : S) : Type 0 where
   pub step : Step program H (state_of code old before host) 1 (state_of after new kept later)
   pub sound : IsSoundAt base after new kept
 
 -- The instruction trapped, with the host as it was.
-pub record Stopped (program : Program) {S : Type 0} (code : Ops) (old : Held) (before : Store) (host : S) (trap : Trap) (later : S) : Type 0 where
+pub record Stopped (program : Program) {S : Type 0} (code : Ops) (old : Held) (before : Store) (host : S)
+    (trap : Trap) (later : S) : Type 0 where
   pub stops : Stops program (state_of code old before host) trap
   pub kept : later ≡ host
 
 -- The instruction was run and led to a place, or trapped.
-abbrev pub Executes : Program → {S : Type 0} → Meaning S → Context → Ops → Held → Store → S → Result Place Trap → Held → Store → S → Type 0
+abbrev pub Executes : Program → {S : Type 0} → Meaning S → Context → Ops → Held → Store → S
+    → Result Place Trap → Held → Store → S → Type 0
 Executes program H base code old before host result new kept later =
-    MatchResult result (λ place. Ran program H base code old before host (ops_at place) new kept later) (λ trap. Stopped program code old before host trap later)
+    MatchResult result (λ place. Ran program H base code old before host (ops_at place) new kept later)
+    (λ trap. Stopped program code old before host trap later)

@@ -16,12 +16,16 @@ Leaves outcome store kept = Unit {0}
 
 -- The run from this state ends so, with the host as it is then, and the store too where it was finished.
 abbrev pub EndsSo : Program → {S : Type 0} → Meaning S → State S → ℕ → Outcome → Store → S → Type 0
-EndsSo program {S} H first fuel outcome kept later = (last : State S) × EndsFrom program H first fuel outcome last × (last.host ≡ later) × Leaves outcome last.store kept
+EndsSo program {S} H first fuel outcome kept later =
+    (last : State S) × EndsFrom program H first fuel outcome last × (last.host ≡ later)
+    × Leaves outcome last.store kept
 
--- The run of a fresh instance of the module: its start function first, where it has one, and then `loop`. The host is then in this state.
+-- The run of a fresh instance of the module: its start function first, where it has one, and then `loop`. The
+-- host is then in this state.
 abbrev pub Runs : Kept → {S : Type 0} → Meaning S → S → ℕ → Outcome → S → Type 0
 Runs linked {S} H host fuel outcome later =
-    (last : State S) × Ends (program_of linked) H (link_view linked).main (link_view linked).whole.start (first_store (link_view linked).whole) host fuel outcome last × (last.host ≡ later)
+    (last : State S) × Ends (program_of linked) H (link_view linked).main (link_view linked).whole.start
+    (first_store (link_view linked).whole) host fuel outcome last × (last.host ≡ later)
 
 -- how many instructions were executed
 abbrev pub used_of : Outcome → ℕ

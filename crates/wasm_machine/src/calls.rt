@@ -10,7 +10,7 @@ ghost use Rattle.wasm_stack.specs.View.{ops_at};
 ghost use Rattle.wasm_link.specs.Kept.{TakesAtMost};
 ghost use Rattle.wasm_soundness.specs.Typed.{IsTypedProgram};
 ghost use Rattle.wasm_machine.specs.Machine.{base_of, program_of, IsSoundAt, Executes};
-ghost use Rattle.wasm_machine.specs.Calls.{IsEntered, IsNotEntered, MayCall, CallRuns, CallIsTyped};
+ghost use Rattle.wasm_machine.specs.inner.Calls.{IsEntered, IsNotEntered, MayCall, CallRuns, CallIsTyped};
 
 use crate::host_calls::call_host;
 use wasm_link::{Callee, Linked};
@@ -38,9 +38,14 @@ fn enter_function<'a>(
     requires there { params ≤ length (held stack.old).operands }
     requires results { results ≤ 1 }
     requires within { size (running no_ops (held stack.old)) ≤ most_values }
-    requires levels { frame_count (held stack.old).levels < most_frames → size (running no_ops (held stack.old)) + more ≤ most_values → length (held stack.old).levels < 201000 }
-    ensures inside { MatchResult result (λ place. ops_at place ≡ items_view body.entry.now) (λ _. held stack.new ≡ held stack.old) }
-    ensures entered { MatchResult result (λ _. IsEntered params more results (ops_at here.entry) (held stack.old) (held stack.new)) (IsNotEntered more (ops_at here.entry) (held stack.old)) }
+    requires levels { frame_count (held stack.old).levels < most_frames
+        → size (running no_ops (held stack.old)) + more ≤ most_values
+        → length (held stack.old).levels < 201000 }
+    ensures inside { MatchResult result (λ place. ops_at place ≡ items_view body.entry.now)
+        (λ _. held stack.new ≡ held stack.old) }
+    ensures entered { MatchResult result
+        (λ _. IsEntered params more results (ops_at here.entry) (held stack.old) (held stack.new))
+        (IsNotEntered more (ops_at here.entry) (held stack.old)) }
 {
     if stack.frame_count() >= MOST_FRAMES {
         return Err(Trap::CallDepth);
@@ -64,10 +69,15 @@ pub(crate) fn call_function<'a, H: Host>(
     func: u32,
 ) -> Result<Place<'a>, Trap>
     requires known { func < length (program_of linked.now).functions }
-    requires ready { (found : Function) → slice_get (program_of linked.now).functions func ≡ Some found → MayCall found (ops_at here) (held stack.old) }
+    requires ready { (found : Function) → slice_get (program_of linked.now).functions func ≡ Some found
+        → MayCall found (ops_at here) (held stack.old) }
     requires room { TakesAtMost (program_of linked.now) (vec_capacity arguments.old) }
-    ensures runs { (found : Function) (before : Store) → slice_get (program_of linked.entry.now).functions func ≡ Some found → before.memory ≡ pages.old → CallRuns H.answers found (ops_at here.entry) (held stack.old) before host.old result (held stack.new) pages.new host.new }
-    ensures typed { (found : Function) → slice_get (program_of linked.entry.now).functions func ≡ Some found → CallIsTyped found (ops_at here.entry) (held stack.old) result (held stack.new) }
+    ensures runs { (found : Function) (before : Store)
+        → slice_get (program_of linked.entry.now).functions func ≡ Some found → before.memory ≡ pages.old
+        → CallRuns H.answers found (ops_at here.entry) (held stack.old) before host.old result
+        (held stack.new) pages.new host.new }
+    ensures typed { (found : Function) → slice_get (program_of linked.entry.now).functions func ≡ Some found
+        → CallIsTyped found (ops_at here.entry) (held stack.old) result (held stack.new) }
     ensures capacity { vec_capacity arguments.new ≡ vec_capacity arguments.old }
 {
     match linked.callee(func) {
@@ -99,11 +109,15 @@ pub(crate) fn call_by_index<'a, H: Host>(
     index: u32,
 ) -> Result<Place<'a>, Trap>
     requires typed { IsTypedProgram (base_of linked.now) (program_of linked.now) }
-    requires sound { (store : Store) × (store.table ≡ table.now) × IsSoundAt (base_of linked.now) (next (call_indirect index) (ops_at here)) (held stack.old) store }
+    requires sound { (store : Store) × (store.table ≡ table.now) × IsSoundAt (base_of linked.now)
+        (next (call_indirect index) (ops_at here)) (held stack.old) store }
     requires room { TakesAtMost (program_of linked.now) (vec_capacity arguments.old) }
     ensures runs { (store : Store) → store.table ≡ table.now → store.memory ≡ pages.old
-        → IsSoundAt (base_of linked.entry.now) (next (call_indirect index) (ops_at here.entry)) (held stack.old) store
-        → Executes (program_of linked.entry.now) H.answers (base_of linked.entry.now) (next (call_indirect index) (ops_at here.entry)) (held stack.old) store host.old result (held stack.new) (record store { memory = pages.new }) host.new }
+        → IsSoundAt (base_of linked.entry.now) (next (call_indirect index) (ops_at here.entry))
+        (held stack.old) store
+        → Executes (program_of linked.entry.now) H.answers (base_of linked.entry.now)
+        (next (call_indirect index) (ops_at here.entry)) (held stack.old) store host.old result
+        (held stack.new) (record store { memory = pages.new }) host.new }
     ensures capacity { vec_capacity arguments.new ≡ vec_capacity arguments.old }
 {
     let entry = stack.operand(0);

@@ -23,7 +23,8 @@ pub(crate) fn enter_block<'a>(
 ) -> Place<'a>
     requires { IsRunnable (block_op kind (instrs_view body.now)) (ops_at here) (held stack.old) }
     ensures inside { ops_at result ≡ instrs_view body.entry.now }
-    ensures opened { held stack.new ≡ opened (arity kind) (ops_at here.entry) (ops_at here.entry) (held stack.old) }
+    ensures opened { held stack.new ≡ opened (arity kind) (ops_at here.entry) (ops_at here.entry)
+        (held stack.old) }
 {
     stack.enter(here, false, kind.is_some());
     Place {
@@ -34,9 +35,11 @@ pub(crate) fn enter_block<'a>(
 /// Enters the loop that stands at `again`, where a branch to it leads.
 #[inline]
 pub(crate) fn enter_loop<'a>(stack: &mut Stack<'a>, again: Place<'a>, body: &'a Instrs) -> Place<'a>
-    requires { (kind : Option ValType) × (rest : Ops) × IsRunnable (loop_op kind (instrs_view body.now)) rest (held stack.old) }
+    requires { (kind : Option ValType) × (rest : Ops) × IsRunnable (loop_op kind (instrs_view body.now)) rest
+        (held stack.old) }
     ensures inside { ops_at result ≡ instrs_view body.entry.now }
-    ensures opened { held stack.new ≡ opened 0 (ops_at again.entry) (rest_of true again.entry) (held stack.old) }
+    ensures opened { held stack.new ≡ opened 0 (ops_at again.entry) (rest_of true again.entry)
+        (held stack.old) }
 {
     stack.enter(again, true, false);
     Place {
@@ -53,9 +56,12 @@ pub(crate) fn enter_choice<'a>(
     first: &'a Instrs,
     second: &'a Instrs,
 ) -> Place<'a>
-    requires { IsRunnable (if_else kind (instrs_view first.now) (instrs_view second.now)) (ops_at here) (held stack.old) }
-    ensures inside { ops_at result ≡ (if slice_index (held stack.old).operands 0 == 0 then instrs_view second.entry.now else instrs_view first.entry.now) }
-    ensures opened { held stack.new ≡ opened (arity kind) (ops_at here.entry) (ops_at here.entry) (without 1 (held stack.old)) }
+    requires { IsRunnable (if_else kind (instrs_view first.now) (instrs_view second.now)) (ops_at here)
+        (held stack.old) }
+    ensures inside { ops_at result ≡ (if slice_index (held stack.old).operands 0 == 0
+        then instrs_view second.entry.now else instrs_view first.entry.now) }
+    ensures opened { held stack.new ≡ opened (arity kind) (ops_at here.entry) (ops_at here.entry)
+        (without 1 (held stack.old)) }
 {
     let condition = stack.operand(0);
     stack.discard(1);
@@ -74,8 +80,10 @@ pub(crate) fn enter_choice<'a>(
 #[inline]
 pub(crate) fn branch_if<'a>(stack: &mut Stack<'a>, here: Place<'a>, to: u32) -> Place<'a>
     requires { IsRunnable (br_if to) (ops_at here) (held stack.old) }
-    ensures taken { slice_index (held stack.old).operands 0 ≢ 0 → (code : Ops) → Branches to (running code (without 1 (held stack.old))) (running (ops_at result) (held stack.new)) }
-    ensures passed { slice_index (held stack.old).operands 0 ≡ 0 → (held stack.new ≡ without 1 (held stack.old)) × (ops_at result ≡ ops_at here.entry) }
+    ensures taken { slice_index (held stack.old).operands 0 ≢ 0 → (code : Ops)
+        → Branches to (running code (without 1 (held stack.old))) (running (ops_at result) (held stack.new)) }
+    ensures passed { slice_index (held stack.old).operands 0 ≡ 0
+        → (held stack.new ≡ without 1 (held stack.old)) × (ops_at result ≡ ops_at here.entry) }
 {
     let condition = stack.operand(0);
     stack.discard(1);
@@ -89,7 +97,9 @@ pub(crate) fn branch_if<'a>(stack: &mut Stack<'a>, here: Place<'a>, to: u32) -> 
 #[inline]
 pub(crate) fn branch_by_index<'a>(stack: &mut Stack<'a>, several: &Indices, last: u32) -> Place<'a>
     requires { (rest : Ops) × IsRunnable (br_table several.now last) rest (held stack.old) }
-    ensures { (code : Ops) → Branches (target_of several.now last (slice_index (held stack.old).operands 0)) (running code (without 1 (held stack.old))) (running (ops_at result) (held stack.new)) }
+    ensures { (code : Ops)
+        → Branches (target_of several.now last (slice_index (held stack.old).operands 0))
+        (running code (without 1 (held stack.old))) (running (ops_at result) (held stack.new)) }
 {
     let index = stack.operand(0);
     stack.discard(1);
@@ -108,7 +118,8 @@ fn nth(several: &[u32], index: u64) -> Option<u32>
 #[inline]
 pub(crate) fn leave_function<'a>(stack: &mut Stack<'a>) -> Place<'a>
     requires { (rest : Ops) × IsRunnable return_op rest (held stack.old) }
-    ensures { (code : Ops) → Returns (running code (held stack.old)) (running (ops_at result) (held stack.new)) }
+    ensures { (code : Ops)
+        → Returns (running code (held stack.old)) (running (ops_at result) (held stack.new)) }
 {
     let to = stack.open_labels();
     stack.branch(to)

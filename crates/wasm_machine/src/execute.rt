@@ -25,7 +25,8 @@ use wasm_steps::{Host, Trap};
 /// A place to go on from, where there was no trap.
 #[inline]
 fn onward<'a>(ran: Result<(), Trap>, here: Place<'a>) -> Result<Place<'a>, Trap>
-    ensures { MatchResult ran (λ _. MatchResult result (λ place. place ≡ here.entry) (λ _. ⊥)) (λ trap. MatchResult result (λ _. ⊥) (λ seen. seen ≡ trap)) }
+    ensures { MatchResult ran (λ _. MatchResult result (λ place. place ≡ here.entry) (λ _. ⊥))
+        (λ trap. MatchResult result (λ _. ⊥) (λ seen. seen ≡ trap)) }
 {
     match ran {
         Ok(()) => Ok(here),
@@ -46,11 +47,14 @@ pub(crate) fn execute<'a, H: Host>(
     instr: &'a Instr,
 ) -> Result<Place<'a>, Trap>
     requires typed { IsTypedProgram (base_of linked.now) (program_of linked.now) }
-    requires sound { IsSoundAt (base_of linked.now) (next (instr_view instr.now) (ops_at here)) (held stack.old) (store_view stored.old) }
+    requires sound { IsSoundAt (base_of linked.now) (next (instr_view instr.now) (ops_at here))
+        (held stack.old) (store_view stored.old) }
     requires room { TakesAtMost (program_of linked.now) (vec_capacity arguments.old) }
     requires again { ops_at again ≡ next (instr_view instr.now) (ops_at here) }
     requires behind { ops_at here ≡ rest_of true again }
-    ensures executes { Executes (program_of linked.entry.now) H.answers (base_of linked.entry.now) (next (instr_view instr.entry.now) (ops_at here.entry)) (held stack.old) (store_view stored.old) host.old result (held stack.new) (store_view stored.new) host.new }
+    ensures executes { Executes (program_of linked.entry.now) H.answers (base_of linked.entry.now)
+        (next (instr_view instr.entry.now) (ops_at here.entry)) (held stack.old)
+        (store_view stored.old) host.old result (held stack.new) (store_view stored.new) host.new }
     ensures capacity { vec_capacity arguments.new ≡ vec_capacity arguments.old }
 {
     match instr {

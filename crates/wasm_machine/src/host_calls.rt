@@ -7,7 +7,7 @@ ghost use Rattle.wasm_module.specs.Syntax.{no_ops};
 ghost use Rattle.wasm_soundness.specs.Typed.{IsValue, AreValues};
 ghost use Rattle.wasm_stack.specs.Held.{running};
 ghost use Rattle.wasm_stack.specs.Standing.{held};
-ghost use Rattle.wasm_machine.specs.Calls.{arguments_of, IsAnswered};
+ghost use Rattle.wasm_machine.specs.inner.Calls.{arguments_of, IsAnswered};
 
 use wasm_module::{FuncType, ValType};
 use wasm_stack::Stack;
@@ -46,7 +46,8 @@ fn write_arguments(arguments: &mut Vec<i64>, kinds: &[ValType], operands: &[u64]
 /// Pushes what a host answered: of an i32 the low 32 bits.
 fn push_answer(stack: &mut Stack<'_>, kind: Option<ValType>, answer: i64)
     requires { size (running no_ops (held stack.old)) + arity kind ≤ most_values }
-    ensures { held stack.new ≡ record (held stack.old) { operands = answered kind answer ++ (held stack.old).operands } }
+    ensures { held stack.new
+        ≡ record (held stack.old) { operands = answered kind answer ++ (held stack.old).operands } }
 {
     let value = answer.cast_unsigned();
     let _room = match kind {
@@ -66,10 +67,18 @@ pub(crate) fn call_host<H: Host>(
     kind: &FuncType,
 ) -> Result<(), Trap>
     requires there { length kind.now.params ≤ length (held stack.old).operands }
-    requires values { AreValues kind.now.params (reverse (take (length kind.now.params) (held stack.old).operands)) }
+    requires values { AreValues kind.now.params
+        (reverse (take (length kind.now.params) (held stack.old).operands)) }
     requires room { length kind.now.params ≤ vec_capacity arguments.old }
-    ensures answered { MatchResult result (λ _. IsAnswered H.answers kind.now call (held stack.old) (held stack.new) pages.old pages.new host.old host.new) (λ trap. (trap ≡ Trap.StackFull) × (host.new ≡ host.old)) }
-    ensures fits { MatchResult result (λ _. size (running no_ops (held stack.old)) - length kind.now.params + arity kind.now.result ≤ most_values) (λ _. most_values < size (running no_ops (held stack.old)) - length kind.now.params + arity kind.now.result) }
+    ensures answered { MatchResult result
+        (λ _. IsAnswered H.answers kind.now call (held stack.old)
+        (held stack.new) pages.old pages.new host.old host.new) (λ trap. (trap ≡ Trap.StackFull)
+        × (host.new ≡ host.old)) }
+    ensures fits { MatchResult result
+        (λ _. size (running no_ops (held stack.old)) - length kind.now.params + arity kind.now.result
+        ≤ most_values)
+        (λ _. most_values < size (running no_ops (held stack.old)) - length kind.now.params
+        + arity kind.now.result) }
     ensures capacity { vec_capacity arguments.new ≡ vec_capacity arguments.old }
 {
     let params = kind.params.as_slice().len();

@@ -28,8 +28,10 @@ pub struct Instance<'a> {
 impl<'a> Instance<'a> {
     ghost use Rattle.wasm_machine.specs.Fresh.{IsFresh};
 
-    /// A fresh instance: WebAssembly Core 1.0, chapter 4.5.4. It reserves all memory that a run of it may need: the pages of its memory, at most
-    /// 256, and room for 65,536 locals and operands and for 1,000 frames with their blocks. No page past the memory's least size is touched.
+    /// A fresh instance: WebAssembly Core 1.0, chapter 4.5.4. It reserves all memory that a run of it may
+    /// need: the pages of its memory, at most
+    /// 256, and room for 65,536 locals and operands and for 1,000 frames with their blocks. No page past the
+    /// memory's least size is touched.
     pub fn new(alloc: Global, linked: &'a Linked) -> Result<Instance<'a>, NoMemory>
         ensures fresh { IfOk result IsFresh }
         ensures linked { IfOk result (λ instance. instance.linked.now ≡ linked.entry.now) }
@@ -50,8 +52,12 @@ impl<'a> Instance<'a> {
         requires typed { IsTypedProgram (base_of self.old.linked.now) (program_of self.old.linked.now) }
         requires entry { IsEntry (program_of self.old.linked.now) func }
         requires stored { IsTypedStore (base_of self.old.linked.now) (store_view self.old.stored) }
-        ensures ends { (thread : Thread) × IsInvoked (program_of self.old.linked.now) func thread × EndsSo (program_of self.old.linked.now) H.answers (record { thread = thread; store = store_view self.old.stored; host = host.old }) fuel result (store_view self.new.stored) host.new }
-        ensures kept { (used : ℕ) → result ≡ Outcome.Finished used → IsTypedStore (base_of self.old.linked.now) (store_view self.new.stored) }
+        ensures ends { (thread : Thread) × IsInvoked (program_of self.old.linked.now) func thread
+            × EndsSo (program_of self.old.linked.now) H.answers
+            (record { thread = thread; store = store_view self.old.stored; host = host.old }) fuel result
+            (store_view self.new.stored) host.new }
+        ensures kept { (used : ℕ) → result ≡ Outcome.Finished used
+            → IsTypedStore (base_of self.old.linked.now) (store_view self.new.stored) }
         ensures linked { self.new.linked.now ≡ self.old.linked.now }
     {
         self.stack.reset();
@@ -72,7 +78,8 @@ impl<'a> Instance<'a> {
         )
     }
 
-    /// Runs a fresh instance for a budget of instructions: its start function first, where it has one, and then `loop`. Every instruction that
+    /// Runs a fresh instance for a budget of instructions: its start function first, where it has one, and
+    /// then `loop`. Every instruction that
     /// is executed costs 1, a call of the host and one that traps included. It takes no memory.
     pub fn run<H: Host>(&mut self, host: &mut H, fuel: u64) -> Outcome
         requires { IsFresh self.old }

@@ -26,8 +26,11 @@ pub(crate) fn run_from<'a, H: Host>(
     requires typed { IsTypedProgram (base_of linked.now) (program_of linked.now) }
     requires sound { IsSoundAt (base_of linked.now) (ops_at first) (held stack.old) (store_view stored.old) }
     requires room { TakesAtMost (program_of linked.now) (vec_capacity arguments.old) }
-    ensures ends { EndsSo (program_of linked.entry.now) H.answers (state_of (ops_at first.entry) (held stack.old) (store_view stored.old) host.old) fuel result (store_view stored.new) host.new }
-    ensures typed { (used : ℕ) → result ≡ Outcome.Finished used → IsTypedStore (base_of linked.entry.now) (store_view stored.new) }
+    ensures ends { EndsSo (program_of linked.entry.now) H.answers
+        (state_of (ops_at first.entry) (held stack.old) (store_view stored.old) host.old) fuel result
+        (store_view stored.new) host.new }
+    ensures typed { (used : ℕ) → result ≡ Outcome.Finished used
+        → IsTypedStore (base_of linked.entry.now) (store_view stored.new) }
     ensures capacity { vec_capacity arguments.new ≡ vec_capacity arguments.old }
 {
     let mut here = first;

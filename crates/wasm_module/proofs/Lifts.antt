@@ -9,7 +9,7 @@ use Rattle.wasm_module.specs.Instructions.{SpellsExpression}
 use Rattle.wasm_module.specs.Entries.{SpellsGlobal, SpellsElement, SpellsLocalRun, SpellsCode, SpellsSegment}
 use Rattle.wasm_module.specs.Sections.{Syntax, Section, content_of, Holds, AreOf}
 use Rattle.wasm_module.specs.Limits.{WithinNesting}
-use Rattle.wasm_module.specs.Nested.{SpellsLimited}
+use Rattle.wasm_module.specs.inner.Nested.{SpellsLimited}
 
 -- Each text of the first form is one of the second, of some value.
 abbrev pub Lifts : {V W : Type 0} → (List ℕ → V → Type 0) → (List ℕ → W → Type 0) → Type 0

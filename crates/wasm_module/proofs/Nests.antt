@@ -6,7 +6,7 @@ use Rattle.wasm_module.specs.Values.{SpellsBlockType}
 use Rattle.wasm_module.specs.Syntax.{Op, Ops, block, loop, if_else, no_ops}
 use Rattle.wasm_module.specs.View.{instrs_view, ops_of, instr_view}
 use Rattle.wasm_module.specs.Instructions.{spells_block, spells_loop, spells_if, spells_if_else, spells_memory, spells_numeric, spells_float_plain}
-use Rattle.wasm_module.specs.Nested.{SpellsShallow, SpellsInner, SpellsBranches, branches_one, branches_two, SpellsBody}
+use Rattle.wasm_module.specs.inner.Nested.{SpellsShallow, SpellsInner, SpellsBranches, branches_one, branches_two, SpellsBody}
 use Rattle.wasm_module.specs.declared.types.ValType.{ValType}
 use Rattle.wasm_module.specs.declared.instr.Instrs.{Instrs}
 use Rattle.wasm_module.proofs.Fronts.{begins_along}

@@ -5,7 +5,7 @@ use Rattle.wasm_module.specs.Spelling.{SpellsU32, Then}
 use Rattle.wasm_module.specs.Syntax.{Op, Ops, no_ops, next, nesting, ops_nesting}
 use Rattle.wasm_module.specs.Values.{SpellsBlockType}
 use Rattle.wasm_module.specs.Instructions.{SpellsOp, spells_unreachable, spells_nop, spells_block, spells_loop, spells_if, spells_if_else, spells_br, spells_br_if, spells_br_table, spells_return, spells_call, spells_call_indirect, spells_drop, spells_select, spells_local_get, spells_local_set, spells_local_tee, spells_global_get, spells_global_set, spells_memory, spells_memory_size, spells_memory_grow, spells_i32_const, spells_i64_const, spells_f32_const, spells_f64_const, spells_numeric, spells_float_plain, SpellsOps, spells_none, spells_next, SpellsExpression, IsMemory}
-use Rattle.wasm_module.specs.Nested.{SpellsShallow, SpellsInner, IsEnd, SpellsBody}
+use Rattle.wasm_module.specs.inner.Nested.{SpellsShallow, SpellsInner, IsEnd, SpellsBody}
 use Rattle.wasm_module.specs.declared.types.ValType.{ValType}
 use Rattle.wasm_module.proofs.Fronts.{then_only}
 use Rattle.wasm_module.proofs.Tags.{IsTag, tag_only}

@@ -6,9 +6,9 @@ use Rattle.wasm_module.specs.Spelling.{Then}
 use Rattle.wasm_module.specs.Values.{SpellsBlockType}
 use Rattle.wasm_module.specs.Syntax.{Op, Ops, block, loop, nesting}
 use Rattle.wasm_module.specs.Instructions.{SpellsOp, SpellsOps, spells_none, spells_next, spells_block, spells_loop, spells_if, spells_if_else}
-use Rattle.wasm_module.specs.Nested.{IsEnd, SpellsShallow, SpellsInner, SpellsBranches, branches_one, branches_two}
-use Rattle.wasm_module.specs.Skimmed.{SpellsSome}
-use Rattle.wasm_module.specs.Opens.{Closes, closes_all, closes_block, closes_first, closes_second, ClosesBefore, ClosesAlike}
+use Rattle.wasm_module.specs.inner.Nested.{IsEnd, SpellsShallow, SpellsInner, SpellsBranches, branches_one, branches_two}
+use Rattle.wasm_module.specs.inner.Skimmed.{SpellsSome}
+use Rattle.wasm_module.specs.inner.Opens.{Closes, closes_all, closes_block, closes_first, closes_second, ClosesBefore, ClosesAlike}
 use Rattle.wasm_module.specs.declared.types.ValType.{ValType}
 use Rattle.wasm_module.specs.declared.skim.Open.{Open}
 use Rattle.wasm_module.specs.declared.skim.Open.TheVariants.{Block, First}

@@ -6,7 +6,7 @@ use Rattle.std.specs.Str.{IsUtf8}
 use Rattle.byte_fields.specs.Front.{Begins, BeginsOnly, BeginsNone}
 use Rattle.wasm_module.specs.Spelling.{SpellsBytes, SpellsEach, each_none, each_next}
 use Rattle.wasm_module.specs.Sections.{Section, SpellsSection, IsCustom, AreOrdered, ordered_end, ordered_custom, ordered_part}
-use Rattle.wasm_module.specs.Parts.{section_view}
+use Rattle.wasm_module.specs.inner.Parts.{section_view}
 use Rattle.wasm_module.specs.declared.sections.Section.{Section as Found}
 use Rattle.wasm_module.proofs.Lists.{Later}
 

@@ -2,8 +2,8 @@
 use Rattle.std.proofs.Common.{◌≡◌, ℕ, ◌<◌, ◌≤◌, List, length, refl, ◌∙◌, subst, arith}
 use Rattle.wasm_module.specs.Syntax.{Ops}
 use Rattle.wasm_module.specs.Instructions.{SpellsExpression}
-use Rattle.wasm_module.specs.Nested.{SpellsLimited}
-use Rattle.wasm_module.specs.Skimmed.{SpellsSome}
+use Rattle.wasm_module.specs.inner.Nested.{SpellsLimited}
+use Rattle.wasm_module.specs.inner.Skimmed.{SpellsSome}
 use Rattle.wasm_module.specs.Sections.{Syntax, Section, AreSections, AreOf, Spells}
 use Rattle.wasm_module.specs.Limits.{WithinBytes, IsWithin, PassesFirst, IsTooLarge}
 use Rattle.wasm_module.specs.Faults.{decode_fault}

@@ -1,4 +1,5 @@
--- Which bytes spell the entries that hold instructions: WebAssembly Core 1.0, chapters 5.5.9, 5.5.12, 5.5.13 and 5.5.14.
+-- Which bytes spell the entries that hold instructions: WebAssembly Core 1.0, chapters 5.5.9, 5.5.12, 5.5.13
+-- and 5.5.14.
 -- They are stated for any form of expressions.
 use Rattle.std.specs.Prelude.{ℕ, List}
 use Rattle.wasm_module.specs.Spelling.{SpellsU32, Then, SpellsList, SpellsBytes, SpellsSized}

@@ -28,7 +28,8 @@ pub data IsFloatMemory : ℕ → Type 0 where
 pub data IsMemory : ℕ → ℕ → ℕ → Op → Type 0 where
   is_load : {op align offset : ℕ} → IsLoad op → IsMemory op align offset (load op align offset)
   is_store : {op align offset : ℕ} → IsStore op → IsMemory op align offset (store op align offset)
-  is_float_memory : {op align offset : ℕ} → IsFloatMemory op → IsMemory op align offset (float_memory op align offset)
+  is_float_memory : {op align offset : ℕ} → IsFloatMemory op
+      → IsMemory op align offset (float_memory op align offset)
 
 -- The opcodes of the operations on integers: tests and comparisons, arithmetic, and the three
 -- conversions between integers.
@@ -70,32 +71,47 @@ mutual
         → SpellsOps more second
         → SpellsOp (0x04 ∷ (type ++ (bytes ++ 0x05 ∷ (more ++ 0x0b ∷ [])))) (if_else kind first second)
     spells_br : {bytes : List ℕ} {label : ℕ} → SpellsU32 bytes label → SpellsOp (0x0c ∷ bytes) (br label)
-    spells_br_if : {bytes : List ℕ} {label : ℕ} → SpellsU32 bytes label → SpellsOp (0x0d ∷ bytes) (br_if label)
-    spells_br_table : {bytes labels : List ℕ} {last : ℕ} → Then (SpellsList SpellsU32) SpellsU32 bytes (labels, last) → SpellsOp (0x0e ∷ bytes) (br_table labels last)
+    spells_br_if : {bytes : List ℕ} {label : ℕ} → SpellsU32 bytes label
+        → SpellsOp (0x0d ∷ bytes) (br_if label)
+    spells_br_table : {bytes labels : List ℕ} {last : ℕ}
+        → Then (SpellsList SpellsU32) SpellsU32 bytes (labels, last)
+        → SpellsOp (0x0e ∷ bytes) (br_table labels last)
     spells_return : SpellsOp (0x0f ∷ []) return
     spells_call : {bytes : List ℕ} {func : ℕ} → SpellsU32 bytes func → SpellsOp (0x10 ∷ bytes) (call func)
-    spells_call_indirect : {bytes : List ℕ} {kind : ℕ} → Then SpellsU32 (SpellsMark 0x00) bytes (kind, tt) → SpellsOp (0x11 ∷ bytes) (call_indirect kind)
+    spells_call_indirect : {bytes : List ℕ} {kind : ℕ} → Then SpellsU32 (SpellsMark 0x00) bytes (kind, tt)
+        → SpellsOp (0x11 ∷ bytes) (call_indirect kind)
     spells_drop : SpellsOp (0x1a ∷ []) drop_value
     spells_select : SpellsOp (0x1b ∷ []) select
-    spells_local_get : {bytes : List ℕ} {local : ℕ} → SpellsU32 bytes local → SpellsOp (0x20 ∷ bytes) (local_get local)
-    spells_local_set : {bytes : List ℕ} {local : ℕ} → SpellsU32 bytes local → SpellsOp (0x21 ∷ bytes) (local_set local)
-    spells_local_tee : {bytes : List ℕ} {local : ℕ} → SpellsU32 bytes local → SpellsOp (0x22 ∷ bytes) (local_tee local)
-    spells_global_get : {bytes : List ℕ} {global : ℕ} → SpellsU32 bytes global → SpellsOp (0x23 ∷ bytes) (global_get global)
-    spells_global_set : {bytes : List ℕ} {global : ℕ} → SpellsU32 bytes global → SpellsOp (0x24 ∷ bytes) (global_set global)
-    spells_memory : {bytes : List ℕ} {code align offset : ℕ} {op : Op} → IsMemory code align offset op → Then SpellsU32 SpellsU32 bytes (align, offset) → SpellsOp (code ∷ bytes) op
+    spells_local_get : {bytes : List ℕ} {local : ℕ} → SpellsU32 bytes local
+        → SpellsOp (0x20 ∷ bytes) (local_get local)
+    spells_local_set : {bytes : List ℕ} {local : ℕ} → SpellsU32 bytes local
+        → SpellsOp (0x21 ∷ bytes) (local_set local)
+    spells_local_tee : {bytes : List ℕ} {local : ℕ} → SpellsU32 bytes local
+        → SpellsOp (0x22 ∷ bytes) (local_tee local)
+    spells_global_get : {bytes : List ℕ} {global : ℕ} → SpellsU32 bytes global
+        → SpellsOp (0x23 ∷ bytes) (global_get global)
+    spells_global_set : {bytes : List ℕ} {global : ℕ} → SpellsU32 bytes global
+        → SpellsOp (0x24 ∷ bytes) (global_set global)
+    spells_memory : {bytes : List ℕ} {code align offset : ℕ} {op : Op} → IsMemory code align offset op
+        → Then SpellsU32 SpellsU32 bytes (align, offset) → SpellsOp (code ∷ bytes) op
     spells_memory_size : SpellsOp (0x3f ∷ 0x00 ∷ []) memory_size
     spells_memory_grow : SpellsOp (0x40 ∷ 0x00 ∷ []) memory_grow
-    spells_i32_const : {bytes : List ℕ} {number : ℤ} → SpellsSigned 32 bytes number → SpellsOp (0x41 ∷ bytes) (i32_const number)
-    spells_i64_const : {bytes : List ℕ} {number : ℤ} → SpellsSigned 64 bytes number → SpellsOp (0x42 ∷ bytes) (i64_const number)
-    spells_f32_const : {number : ℕ} → number < 2 ^ 32 → SpellsOp (0x43 ∷ little_bytes 4 number) (float_const (Four number))
-    spells_f64_const : {number : ℕ} → number < 2 ^ 64 → SpellsOp (0x44 ∷ little_bytes 8 number) (float_const (Eight number))
+    spells_i32_const : {bytes : List ℕ} {number : ℤ} → SpellsSigned 32 bytes number
+        → SpellsOp (0x41 ∷ bytes) (i32_const number)
+    spells_i64_const : {bytes : List ℕ} {number : ℤ} → SpellsSigned 64 bytes number
+        → SpellsOp (0x42 ∷ bytes) (i64_const number)
+    spells_f32_const : {number : ℕ} → number < 2 ^ 32
+        → SpellsOp (0x43 ∷ little_bytes 4 number) (float_const (Four number))
+    spells_f64_const : {number : ℕ} → number < 2 ^ 64
+        → SpellsOp (0x44 ∷ little_bytes 8 number) (float_const (Eight number))
     spells_numeric : {op : ℕ} → IsNumeric op → SpellsOp (op ∷ []) (numeric op)
     spells_float_plain : {op : ℕ} → IsFloatPlain op → SpellsOp (op ∷ []) (float_plain op)
 
   -- The bytes spell the instructions, one behind the other.
   pub data SpellsOps : List ℕ → Ops → Type 0 where
     spells_none : SpellsOps [] no_ops
-    spells_next : {text more : List ℕ} {op : Op} {ops : Ops} → SpellsOp text op → SpellsOps more ops → SpellsOps (text ++ more) (next op ops)
+    spells_next : {text more : List ℕ} {op : Op} {ops : Ops} → SpellsOp text op → SpellsOps more ops
+        → SpellsOps (text ++ more) (next op ops)
 
 -- An expression: instructions, and 0B.
 abbrev pub SpellsExpression : List ℕ → Ops → Type 0

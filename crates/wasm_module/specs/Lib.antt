@@ -1,5 +1,4 @@
 pub mod formers
-pub mod Listed
 pub mod Spelling
 pub mod Syntax
 pub mod View
@@ -8,8 +7,5 @@ pub mod Instructions
 pub mod Entries
 pub mod Sections
 pub mod Limits
-pub mod Nested
-pub mod Skimmed
-pub mod Parts
 pub mod Faults
-pub mod Opens
+pub mod inner

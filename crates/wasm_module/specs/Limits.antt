@@ -55,7 +55,8 @@ PassesFirst Functions m = WithinFunctions m → ⊥
 PassesFirst Nesting m = WithinFunctions m × (WithinNesting m → ⊥)
 PassesFirst Locals m = WithinFunctions m × WithinNesting m × (WithinLocals m → ⊥)
 PassesFirst Pages m = WithinFunctions m × WithinNesting m × WithinLocals m × (WithinPages m → ⊥)
-PassesFirst TableEntries m = WithinFunctions m × WithinNesting m × WithinLocals m × WithinPages m × (WithinTableEntries m → ⊥)
+PassesFirst TableEntries m =
+    WithinFunctions m × WithinNesting m × WithinLocals m × WithinPages m × (WithinTableEntries m → ⊥)
 
 -- At most 1 MiB.
 abbrev pub WithinBytes : List ℕ → Type 0

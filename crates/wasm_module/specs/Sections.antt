@@ -1,5 +1,6 @@
 -- Which bytes spell a module: WebAssembly Core 1.0, chapters 5.5.2 to 5.5.15.
--- The forms are stated for any form of expressions, since readers use them with narrower ones than the standard's.
+-- The forms are stated for any form of expressions, since readers use them with narrower ones than the
+-- standard's.
 use Rattle.std.specs.Prelude.{◌≡◌, ℕ, ◌<◌, ◌≤◌, List, [], ◌∷◌, ◌++◌, length, map, Option, Some, None, cond, nat_eq}
 use Rattle.byte_fields.specs.Front.{Begins}
 use Rattle.wasm_module.specs.Spelling.{SpellsU32, SpellsByte, Then, SpellsEach, SpellsList, SpellsBytes}
@@ -58,8 +59,10 @@ IsCustom content = (name : List ℕ) × (rest : List ℕ) × Begins SpellsName c
 -- Custom sections, of number 0, stand anywhere. The numbers of the others rise above `last`, up to 11.
 pub data AreOrdered : ℕ → List Section → Type 0 where
   ordered_end : {last : ℕ} → AreOrdered last []
-  ordered_custom : {last : ℕ} {content : List ℕ} {more : List Section} → IsCustom content → AreOrdered last more → AreOrdered last ((0, content) ∷ more)
-  ordered_part : {last number : ℕ} {content : List ℕ} {more : List Section} → last < number → number ≤ 11 → AreOrdered number more → AreOrdered last ((number, content) ∷ more)
+  ordered_custom : {last : ℕ} {content : List ℕ} {more : List Section} → IsCustom content
+      → AreOrdered last more → AreOrdered last ((0, content) ∷ more)
+  ordered_part : {last number : ℕ} {content : List ℕ} {more : List Section} → last < number → number ≤ 11
+      → AreOrdered number more → AreOrdered last ((number, content) ∷ more)
 
 -- The content of the first section of a number, if there is one.
 abbrev pub content_of : ℕ → List Section → Option (List ℕ)
@@ -76,7 +79,8 @@ abbrev pub SpellsStart : List ℕ → Option ℕ → Type 0
 SpellsStart bytes start = (func : ℕ) × SpellsU32 bytes func × (start ≡ Some func)
 
 -- What the sections hold, with expressions of a form.
-pub record AreOf {X : Type 0} (Expression : List ℕ → X → Type 0) (sections : List Section) (m : Syntax X) : Type 0 where
+pub record AreOf {X : Type 0} (Expression : List ℕ → X → Type 0) (sections : List Section)
+    (m : Syntax X) : Type 0 where
   pub types : Holds (SpellsList SpellsFuncType) [] (content_of 1 sections) m.types
   pub imports : Holds (SpellsList SpellsImport) [] (content_of 2 sections) m.imports
   pub funcs : Holds (SpellsList SpellsU32) [] (content_of 3 sections) m.funcs
@@ -103,7 +107,8 @@ pub record AreSections (bytes : List ℕ) (sections : List Section) : Type 0 whe
 
 -- The bytes spell a module with expressions of a form.
 abbrev pub SpellsWith : {X : Type 0} → (List ℕ → X → Type 0) → List ℕ → Syntax X → Type 0
-SpellsWith Expression bytes m = (sections : List Section) × AreSections bytes sections × AreOf Expression sections m
+SpellsWith Expression bytes m =
+    (sections : List Section) × AreSections bytes sections × AreOf Expression sections m
 
 -- The bytes spell the module.
 abbrev pub Spells : List ℕ → Syntax Ops → Type 0

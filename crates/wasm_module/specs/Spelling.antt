@@ -31,7 +31,8 @@ pub data SpellsEach {V : Type 0} (Spells : List ℕ → V → Type 0) : List ℕ
 -- A list: the count of its entries, and their texts.
 abbrev pub SpellsList : {V : Type 0} → (List ℕ → V → Type 0) → List ℕ → List V → Type 0
 SpellsList Spells bytes values =
-    (count : List ℕ) × (texts : List ℕ) × SpellsU32 count (length values) × SpellsEach Spells texts values × (bytes ≡ count ++ texts)
+    (count : List ℕ) × (texts : List ℕ) × SpellsU32 count (length values) × SpellsEach Spells texts values
+    × (bytes ≡ count ++ texts)
 
 -- A list of bytes: their count, and the bytes themselves.
 abbrev pub SpellsBytes : List ℕ → List ℕ → Type 0

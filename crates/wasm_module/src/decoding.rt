@@ -2,11 +2,11 @@
 ghost use Rattle.std.specs.Prelude.{◌≡◌, ◌++◌, ◌⊎◌, List, ℕ, length, map, IfOk, IfErr, MatchOption};
 ghost use Rattle.wasm_module.specs.Syntax.{Ops};
 ghost use Rattle.wasm_module.specs.Instructions.{SpellsExpression};
-ghost use Rattle.wasm_module.specs.Nested.{SpellsLimited};
-ghost use Rattle.wasm_module.specs.Skimmed.{SpellsSome};
+ghost use Rattle.wasm_module.specs.inner.Nested.{SpellsLimited};
+ghost use Rattle.wasm_module.specs.inner.Skimmed.{SpellsSome};
 ghost use Rattle.wasm_module.specs.Sections.{AreOf, AreSections, Section as SectionView, Spells, Syntax, module_view, opening};
 ghost use Rattle.wasm_module.specs.Limits.{IsTooLarge, IsWithin, PassesFirst, WithinBytes};
-ghost use Rattle.wasm_module.specs.Parts.{section_view};
+ghost use Rattle.wasm_module.specs.inner.Parts.{section_view};
 ghost use Rattle.wasm_module.specs.declared.module.Limit.{Limit};
 
 use crate::expressions::{Limited, Skimmed};
@@ -46,9 +46,12 @@ impl From<ReadFault> for DecodeFault {
 pub fn decode(alloc: Global, bytes: &[u8]) -> Result<Module, DecodeFault>
     ensures found { IfOk result (λ found. Spells bytes.now (module_view found)) }
     ensures within { IfOk result (λ found. WithinBytes bytes.now × IsWithin (module_view found)) }
-    ensures malformed { IfErr result (λ e. e ≡ DecodeFault.Malformed → WithinBytes bytes.now × ((m : Syntax Ops) → Spells bytes.now m → ⊥)) }
-    ensures too_large { IfErr result (λ e. (limit : Limit) → e ≡ DecodeFault.TooLarge limit → IsTooLarge bytes.now limit) }
-    ensures complete { (m : Syntax Ops) → Spells bytes.now m → WithinBytes bytes.now → IsWithin m → IfErr result (λ e. e ≡ DecodeFault.Memory) }
+    ensures malformed { IfErr result (λ e. e ≡ DecodeFault.Malformed
+        → WithinBytes bytes.now × ((m : Syntax Ops) → Spells bytes.now m → ⊥)) }
+    ensures too_large { IfErr result (λ e. (limit : Limit) → e ≡ DecodeFault.TooLarge limit
+        → IsTooLarge bytes.now limit) }
+    ensures complete { (m : Syntax Ops) → Spells bytes.now m → WithinBytes bytes.now → IsWithin m
+        → IfErr result (λ e. e ≡ DecodeFault.Memory) }
     ensures once { (m n : Syntax Ops) → Spells bytes.now m → Spells bytes.now n → m ≡ n }
 {
     if bytes.len() > MOST_BYTES {
@@ -68,7 +71,8 @@ pub fn decode(alloc: Global, bytes: &[u8]) -> Result<Module, DecodeFault>
 
 // The bytes behind the opening.
 fn behind_opening(bytes: &[u8]) -> Option<&[u8]>
-    ensures { MatchOption result ((text : List ℕ) → bytes.now ≡ opening ++ text → ⊥) (λ text. bytes.now ≡ opening ++ text.now) }
+    ensures { MatchOption result ((text : List ℕ) → bytes.now ≡ opening ++ text → ⊥)
+        (λ text. bytes.now ≡ opening ++ text.now) }
 {
     if bytes.len() >= OPENING.len() && &bytes[..OPENING.len()] == OPENING.as_slice() {
         Some(&bytes[OPENING.len()..])
@@ -80,8 +84,10 @@ fn behind_opening(bytes: &[u8]) -> Option<&[u8]>
 // The sections that the bytes are, in their order.
 fn sections_of<'a>(alloc: Global, bytes: &'a [u8]) -> Result<Vec<Section<'a>>, ReadFault>
     ensures found { IfOk result (λ list. AreSections bytes.entry.now (map section_view list.items)) }
-    ensures only { IfOk result (λ list. (other : List SectionView) → AreSections bytes.entry.now other → other ≡ map section_view list.items) }
-    ensures malformed { IfErr result (λ e. e ≡ ReadFault.Malformed → (other : List SectionView) → AreSections bytes.entry.now other → ⊥) }
+    ensures only { IfOk result (λ list. (other : List SectionView) → AreSections bytes.entry.now other
+        → other ≡ map section_view list.items) }
+    ensures malformed { IfErr result (λ e. e ≡ ReadFault.Malformed → (other : List SectionView)
+        → AreSections bytes.entry.now other → ⊥) }
 {
     let Some(text) = behind_opening(bytes) else {
         return Err(ReadFault::Malformed);
@@ -96,8 +102,10 @@ fn sections_of<'a>(alloc: Global, bytes: &'a [u8]) -> Result<Vec<Section<'a>>, R
 
 // Reads what the sections hold, with blocks within the limit of nesting.
 fn module_of(alloc: Global, sections: &[Section]) -> Result<Module, ReadFault>
-    ensures found { IfOk result (λ found. AreOf SpellsLimited (map section_view sections.now) (module_view found)) }
-    ensures malformed { IfErr result (λ e. e ≡ ReadFault.Malformed → (m : Syntax Ops) → AreOf SpellsLimited (map section_view sections.now) m → ⊥) }
+    ensures found { IfOk result
+        (λ found. AreOf SpellsLimited (map section_view sections.now) (module_view found)) }
+    ensures malformed { IfErr result (λ e. e ≡ ReadFault.Malformed → (m : Syntax Ops)
+        → AreOf SpellsLimited (map section_view sections.now) m → ⊥) }
 {
     let parts = parts_of::<Limited>(alloc, sections)?;
     Ok(Module {
@@ -117,8 +125,11 @@ fn module_of(alloc: Global, sections: &[Section]) -> Result<Module, ReadFault>
 
 // Passes over what the sections hold, and counts the codes.
 fn skim_module(alloc: Global, sections: &[Section]) -> Result<u64, ReadFault>
-    ensures found { IfOk result (λ count. (m : Syntax (Unit {0})) × AreOf SpellsSome (map section_view sections.now) m × (length m.codes ≡ count)) }
-    ensures malformed { IfErr result (λ e. e ≡ ReadFault.Malformed → (m : Syntax (Unit {0})) → AreOf SpellsSome (map section_view sections.now) m → ⊥) }
+    ensures found { IfOk result
+        (λ count. (m : Syntax (Unit {0})) × AreOf SpellsSome (map section_view sections.now) m
+        × (length m.codes ≡ count)) }
+    ensures malformed { IfErr result (λ e. e ≡ ReadFault.Malformed → (m : Syntax (Unit {0}))
+        → AreOf SpellsSome (map section_view sections.now) m → ⊥) }
 {
     let parts = parts_of::<Skimmed>(alloc, sections)?;
     Ok(parts.codes.len())
@@ -127,8 +138,10 @@ fn skim_module(alloc: Global, sections: &[Section]) -> Result<u64, ReadFault>
 // Why sections are refused that hold no module within the limit of nesting.
 fn refusal(alloc: Global, sections: &[Section]) -> DecodeFault
     requires { (m : Syntax Ops) → AreOf SpellsLimited (map section_view sections.now) m → ⊥ }
-    ensures malformed { result ≡ DecodeFault.Malformed → (m : Syntax Ops) → AreOf SpellsExpression (map section_view sections.now) m → ⊥ }
-    ensures too_large { (limit : Limit) → result ≡ DecodeFault.TooLarge limit → (m : Syntax Ops) × AreOf SpellsExpression (map section_view sections.now) m × PassesFirst limit m }
+    ensures malformed { result ≡ DecodeFault.Malformed → (m : Syntax Ops)
+        → AreOf SpellsExpression (map section_view sections.now) m → ⊥ }
+    ensures too_large { (limit : Limit) → result ≡ DecodeFault.TooLarge limit
+        → (m : Syntax Ops) × AreOf SpellsExpression (map section_view sections.now) m × PassesFirst limit m }
     ensures not_bytes { result ≡ DecodeFault.TooLarge Limit.Bytes → ⊥ }
 {
     match skim_module(alloc, sections) {

@@ -22,7 +22,7 @@ pub type Blob = Entries<u8>;
 
 impl<E> Model for Entries<E> {
     ghost use Rattle.std.specs.Prelude.{List};
-    ghost use Rattle.wasm_module.specs.Listed.{listed};
+    ghost use Rattle.wasm_module.specs.inner.Listed.{listed};
 
     ghost Value = { List E };
 

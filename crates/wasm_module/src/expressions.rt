@@ -99,7 +99,7 @@ impl Expression for Limited {
     type Segment = Segment;
 
     ghost use Rattle.wasm_module.specs.Entries.{code_view, element_view, global_view, segment_view};
-    ghost use Rattle.wasm_module.specs.Nested.{SpellsLimited};
+    ghost use Rattle.wasm_module.specs.inner.Nested.{SpellsLimited};
     ghost use Rattle.wasm_module.specs.Syntax.{Ops};
     ghost use Rattle.wasm_module.specs.View.{instrs_view};
 
@@ -160,7 +160,7 @@ impl Expression for Skimmed {
 
     type Segment = (u32, Blob);
 
-    ghost use Rattle.wasm_module.specs.Skimmed.{SpellsSome};
+    ghost use Rattle.wasm_module.specs.inner.Skimmed.{SpellsSome};
 
     ghost Seen = { Unit {0} };
 

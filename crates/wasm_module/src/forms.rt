@@ -50,8 +50,10 @@ fn at_most_one(list: &[ValType]) -> Option<Option<ValType>>
 // Reads a list of value types.
 fn value_types(alloc: Global, cursor: &mut Cursor) -> Result<ValTypes, ReadFault>
     ensures found { IfOk result (λ value. Begins (SpellsList SpellsValType) cursor.old.0 value cursor.new.0) }
-    ensures only { IfOk result (λ value. BeginsOnly (SpellsList SpellsValType) cursor.old.0 value cursor.new.0) }
-    ensures malformed { IfErr result (λ e. e ≡ ReadFault.Malformed → BeginsNone (SpellsList SpellsValType) cursor.old.0) }
+    ensures only { IfOk result
+        (λ value. BeginsOnly (SpellsList SpellsValType) cursor.old.0 value cursor.new.0) }
+    ensures malformed { IfErr result (λ e. e ≡ ReadFault.Malformed
+        → BeginsNone (SpellsList SpellsValType) cursor.old.0) }
 {
     let list = entries::<ValueType>(alloc, cursor)?;
     let kept = Entries::of(list)?;

@@ -1,4 +1,5 @@
-// The tree of instructions: WebAssembly Core 1.0, chapter 2.4, with the instructions on floats as marked leaves.
+// The tree of instructions: WebAssembly Core 1.0, chapter 2.4, with the instructions on floats as marked
+// leaves.
 ghost use Rattle.std.specs.Prelude.{◌≡◌, [], ◌∷◌, ◌++◌, length, slice_get, option_copied, OnOk, OnErr};
 
 use crate::entry_lists::{Entries, Indices};

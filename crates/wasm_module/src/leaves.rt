@@ -17,10 +17,13 @@ use std::alloc::Global;
 pub(crate) fn variable(cursor: &mut Cursor, code: u8) -> Result<Instr, ReadFault>
     requires low { 0x20 ≤ code }
     requires high { code ≤ 0x24 }
-    ensures found { IfOk result (λ instr. Begins SpellsOp (code ∷ cursor.old.0) (instr_view instr) cursor.new.0) }
-    ensures only { IfOk result (λ instr. BeginsOnly SpellsOp (code ∷ cursor.old.0) (instr_view instr) cursor.new.0) }
+    ensures found { IfOk result
+        (λ instr. Begins SpellsOp (code ∷ cursor.old.0) (instr_view instr) cursor.new.0) }
+    ensures only { IfOk result
+        (λ instr. BeginsOnly SpellsOp (code ∷ cursor.old.0) (instr_view instr) cursor.new.0) }
     ensures flat { IfOk result (λ instr. nesting (instr_view instr) ≡ 0) }
-    ensures malformed { IfErr result (λ e. e ≡ ReadFault.Malformed → BeginsNone SpellsOp (code ∷ cursor.old.0)) }
+    ensures malformed { IfErr result (λ e. e ≡ ReadFault.Malformed
+        → BeginsNone SpellsOp (code ∷ cursor.old.0)) }
     ensures cause { IfErr result (λ e. e ≡ ReadFault.Malformed) }
 {
     match code {
@@ -51,7 +54,8 @@ pub(crate) fn variable(cursor: &mut Cursor, code: u8) -> Result<Instr, ReadFault
 pub(crate) fn indices(alloc: Global, cursor: &mut Cursor) -> Result<Indices, ReadFault>
     ensures found { IfOk result (λ list. Begins (SpellsList SpellsU32) cursor.old.0 list cursor.new.0) }
     ensures only { IfOk result (λ list. BeginsOnly (SpellsList SpellsU32) cursor.old.0 list cursor.new.0) }
-    ensures malformed { IfErr result (λ e. e ≡ ReadFault.Malformed → BeginsNone (SpellsList SpellsU32) cursor.old.0) }
+    ensures malformed { IfErr result (λ e. e ≡ ReadFault.Malformed
+        → BeginsNone (SpellsList SpellsU32) cursor.old.0) }
 {
     let list = entries::<Index>(alloc, cursor)?;
     let kept = Entries::of(list)?;
@@ -66,10 +70,13 @@ pub(crate) fn control(alloc: Global, cursor: &mut Cursor, code: u8) -> Result<In
     requires not_block { code ≢ 0x02 }
     requires not_loop { code ≢ 0x03 }
     requires not_if { code ≢ 0x04 }
-    ensures found { IfOk result (λ instr. Begins SpellsOp (code ∷ cursor.old.0) (instr_view instr) cursor.new.0) }
-    ensures only { IfOk result (λ instr. BeginsOnly SpellsOp (code ∷ cursor.old.0) (instr_view instr) cursor.new.0) }
+    ensures found { IfOk result
+        (λ instr. Begins SpellsOp (code ∷ cursor.old.0) (instr_view instr) cursor.new.0) }
+    ensures only { IfOk result
+        (λ instr. BeginsOnly SpellsOp (code ∷ cursor.old.0) (instr_view instr) cursor.new.0) }
     ensures flat { IfOk result (λ instr. nesting (instr_view instr) ≡ 0) }
-    ensures malformed { IfErr result (λ e. e ≡ ReadFault.Malformed → BeginsNone SpellsOp (code ∷ cursor.old.0)) }
+    ensures malformed { IfErr result (λ e. e ≡ ReadFault.Malformed
+        → BeginsNone SpellsOp (code ∷ cursor.old.0)) }
 {
     match code {
         0x00 => Ok(Instr::Unreachable),
@@ -120,10 +127,13 @@ fn memory_instr(op: u8, align: u32, offset: u32) -> Instr
 pub(crate) fn memory(cursor: &mut Cursor, code: u8) -> Result<Instr, ReadFault>
     requires low { 0x28 ≤ code }
     requires high { code ≤ 0x3e }
-    ensures found { IfOk result (λ instr. Begins SpellsOp (code ∷ cursor.old.0) (instr_view instr) cursor.new.0) }
-    ensures only { IfOk result (λ instr. BeginsOnly SpellsOp (code ∷ cursor.old.0) (instr_view instr) cursor.new.0) }
+    ensures found { IfOk result
+        (λ instr. Begins SpellsOp (code ∷ cursor.old.0) (instr_view instr) cursor.new.0) }
+    ensures only { IfOk result
+        (λ instr. BeginsOnly SpellsOp (code ∷ cursor.old.0) (instr_view instr) cursor.new.0) }
     ensures flat { IfOk result (λ instr. nesting (instr_view instr) ≡ 0) }
-    ensures malformed { IfErr result (λ e. e ≡ ReadFault.Malformed → BeginsNone SpellsOp (code ∷ cursor.old.0)) }
+    ensures malformed { IfErr result (λ e. e ≡ ReadFault.Malformed
+        → BeginsNone SpellsOp (code ∷ cursor.old.0)) }
     ensures cause { IfErr result (λ e. e ≡ ReadFault.Malformed) }
 {
     let align = cursor.leb_u32()?;
@@ -135,10 +145,13 @@ pub(crate) fn memory(cursor: &mut Cursor, code: u8) -> Result<Instr, ReadFault>
 pub(crate) fn constant(cursor: &mut Cursor, code: u8) -> Result<Instr, ReadFault>
     requires low { 0x3f ≤ code }
     requires high { code ≤ 0x44 }
-    ensures found { IfOk result (λ instr. Begins SpellsOp (code ∷ cursor.old.0) (instr_view instr) cursor.new.0) }
-    ensures only { IfOk result (λ instr. BeginsOnly SpellsOp (code ∷ cursor.old.0) (instr_view instr) cursor.new.0) }
+    ensures found { IfOk result
+        (λ instr. Begins SpellsOp (code ∷ cursor.old.0) (instr_view instr) cursor.new.0) }
+    ensures only { IfOk result
+        (λ instr. BeginsOnly SpellsOp (code ∷ cursor.old.0) (instr_view instr) cursor.new.0) }
     ensures flat { IfOk result (λ instr. nesting (instr_view instr) ≡ 0) }
-    ensures malformed { IfErr result (λ e. e ≡ ReadFault.Malformed → BeginsNone SpellsOp (code ∷ cursor.old.0)) }
+    ensures malformed { IfErr result (λ e. e ≡ ReadFault.Malformed
+        → BeginsNone SpellsOp (code ∷ cursor.old.0)) }
     ensures cause { IfErr result (λ e. e ≡ ReadFault.Malformed) }
 {
     match code {
@@ -188,10 +201,13 @@ pub(crate) fn leaf(alloc: Global, cursor: &mut Cursor, code: u8) -> Result<Instr
     requires not_block { code ≢ 0x02 }
     requires not_loop { code ≢ 0x03 }
     requires not_if { code ≢ 0x04 }
-    ensures found { IfOk result (λ instr. Begins SpellsOp (code ∷ cursor.old.0) (instr_view instr) cursor.new.0) }
-    ensures only { IfOk result (λ instr. BeginsOnly SpellsOp (code ∷ cursor.old.0) (instr_view instr) cursor.new.0) }
+    ensures found { IfOk result
+        (λ instr. Begins SpellsOp (code ∷ cursor.old.0) (instr_view instr) cursor.new.0) }
+    ensures only { IfOk result
+        (λ instr. BeginsOnly SpellsOp (code ∷ cursor.old.0) (instr_view instr) cursor.new.0) }
     ensures flat { IfOk result (λ instr. nesting (instr_view instr) ≡ 0) }
-    ensures malformed { IfErr result (λ e. e ≡ ReadFault.Malformed → BeginsNone SpellsOp (code ∷ cursor.old.0)) }
+    ensures malformed { IfErr result (λ e. e ≡ ReadFault.Malformed
+        → BeginsNone SpellsOp (code ∷ cursor.old.0)) }
 {
     match code {
         0x00..=0x1f => control(alloc, cursor, code),

@@ -19,7 +19,8 @@ const MOST_TABLE_ENTRIES: u32 = 65_536;
 /// The first limit that a module passes which nests within its limit.
 pub(crate) fn passed_limit(whole: &Module) -> Option<Limit>
     requires { WithinNesting (module_view whole.now) }
-    ensures { MatchOption result (IsWithin (module_view whole.now)) (λ limit. PassesFirst limit (module_view whole.now)) }
+    ensures { MatchOption result (IsWithin (module_view whole.now))
+        (λ limit. PassesFirst limit (module_view whole.now)) }
 {
     if whole.codes.len() > MOST_FUNCTIONS {
         return Some(Limit::Functions);
@@ -57,7 +58,9 @@ fn locals_within(whole: &Module) -> bool
 
 // Whether a function has few enough locals, whose code stands at this place.
 fn function_within(whole: &Module, at: usize, code: &Code) -> bool
-    ensures { IsTrue result ↔ ((index : ℕ) → slice_get whole.now.funcs at ≡ Some index → locals_of whole.now.types index (code_view code.now) ≤ 65536) }
+    ensures { IsTrue result
+        ↔ ((index : ℕ) → slice_get whole.now.funcs at ≡ Some index
+        → locals_of whole.now.types index (code_view code.now) ≤ 65536) }
 {
     match whole.funcs.nth(at as u64) {
         Some(index) => runs_within(params(&whole.types, *index), code.locals.as_slice()),

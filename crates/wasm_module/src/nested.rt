@@ -2,7 +2,7 @@
 ghost use Rattle.std.specs.Prelude.{◌≡◌, ◌≤◌, ◌<◌, List, ℕ, ◌∷◌, length, IfOk, OnOk, IfErr};
 ghost use Rattle.byte_fields.specs.Front.{Begins, BeginsNone, BeginsOnly};
 ghost use Rattle.wasm_module.specs.View.{instr_view, instrs_view};
-ghost use Rattle.wasm_module.specs.Nested.{SpellsBody, SpellsBranches, SpellsInner, SpellsShallow};
+ghost use Rattle.wasm_module.specs.inner.Nested.{SpellsBody, SpellsBranches, SpellsInner, SpellsShallow};
 
 use crate::entry_lists::Entries;
 use crate::instr::{Instr, Instrs};
@@ -29,9 +29,13 @@ struct Parts {
 // The instructions up to 0B or 05, which is taken too.
 #[cycle(read)]
 fn body(alloc: Global, cursor: &mut Cursor, depth: u32) -> Result<Ended, ReadFault>
-    ensures found { IfOk result (λ value. Begins (SpellsBody depth) cursor.old.0 (instrs_view value.instrs, value.end) cursor.new.0) }
-    ensures only { IfOk result (λ value. BeginsOnly (SpellsBody depth) cursor.old.0 (instrs_view value.instrs, value.end) cursor.new.0) }
-    ensures malformed { IfErr result (λ e. e ≡ ReadFault.Malformed → BeginsNone (SpellsBody depth) cursor.old.0) }
+    ensures found { IfOk result
+        (λ value. Begins (SpellsBody depth) cursor.old.0 (instrs_view value.instrs, value.end) cursor.new.0) }
+    ensures only { IfOk result
+        (λ value. BeginsOnly (SpellsBody depth) cursor.old.0
+        (instrs_view value.instrs, value.end) cursor.new.0) }
+    ensures malformed { IfErr result (λ e. e ≡ ReadFault.Malformed
+        → BeginsNone (SpellsBody depth) cursor.old.0) }
 {
     let mut list = Vec::new(alloc);
     loop {
@@ -52,9 +56,12 @@ fn body(alloc: Global, cursor: &mut Cursor, depth: u32) -> Result<Ended, ReadFau
 /// counted.
 #[cycle(read)]
 pub(crate) fn inner(alloc: Global, cursor: &mut Cursor, depth: u32) -> Result<Instrs, ReadFault>
-    ensures found { IfOk result (λ value. Begins (SpellsInner depth) cursor.old.0 (instrs_view value) cursor.new.0) }
-    ensures only { IfOk result (λ value. BeginsOnly (SpellsInner depth) cursor.old.0 (instrs_view value) cursor.new.0) }
-    ensures malformed { IfErr result (λ e. e ≡ ReadFault.Malformed → BeginsNone (SpellsInner depth) cursor.old.0) }
+    ensures found { IfOk result
+        (λ value. Begins (SpellsInner depth) cursor.old.0 (instrs_view value) cursor.new.0) }
+    ensures only { IfOk result
+        (λ value. BeginsOnly (SpellsInner depth) cursor.old.0 (instrs_view value) cursor.new.0) }
+    ensures malformed { IfErr result (λ e. e ≡ ReadFault.Malformed
+        → BeginsNone (SpellsInner depth) cursor.old.0) }
 {
     if depth == 0 {
         return Err(ReadFault::Malformed);
@@ -70,9 +77,14 @@ pub(crate) fn inner(alloc: Global, cursor: &mut Cursor, depth: u32) -> Result<In
 // The two parts of an `if`. Up to `depth` blocks stand within one another, this one counted.
 #[cycle(read)]
 fn branches(alloc: Global, cursor: &mut Cursor, depth: u32) -> Result<Parts, ReadFault>
-    ensures found { IfOk result (λ value. Begins (SpellsBranches depth) cursor.old.0 (instrs_view value.first, instrs_view value.second) cursor.new.0) }
-    ensures only { IfOk result (λ value. BeginsOnly (SpellsBranches depth) cursor.old.0 (instrs_view value.first, instrs_view value.second) cursor.new.0) }
-    ensures malformed { IfErr result (λ e. e ≡ ReadFault.Malformed → BeginsNone (SpellsBranches depth) cursor.old.0) }
+    ensures found { IfOk result
+        (λ value. Begins (SpellsBranches depth) cursor.old.0
+        (instrs_view value.first, instrs_view value.second) cursor.new.0) }
+    ensures only { IfOk result
+        (λ value. BeginsOnly (SpellsBranches depth) cursor.old.0
+        (instrs_view value.first, instrs_view value.second) cursor.new.0) }
+    ensures malformed { IfErr result (λ e. e ≡ ReadFault.Malformed
+        → BeginsNone (SpellsBranches depth) cursor.old.0) }
 {
     if depth == 0 {
         return Err(ReadFault::Malformed);
@@ -94,9 +106,12 @@ fn branches(alloc: Global, cursor: &mut Cursor, depth: u32) -> Result<Parts, Rea
 // The instruction whose opcode was read. Up to `depth` blocks stand within one another.
 #[cycle(read)]
 fn instr(alloc: Global, cursor: &mut Cursor, code: u8, depth: u32) -> Result<Instr, ReadFault>
-    ensures found { IfOk result (λ value. Begins (SpellsShallow depth) (code ∷ cursor.old.0) (instr_view value) cursor.new.0) }
-    ensures only { IfOk result (λ value. BeginsOnly (SpellsShallow depth) (code ∷ cursor.old.0) (instr_view value) cursor.new.0) }
-    ensures malformed { IfErr result (λ e. e ≡ ReadFault.Malformed → BeginsNone (SpellsShallow depth) (code ∷ cursor.old.0)) }
+    ensures found { IfOk result
+        (λ value. Begins (SpellsShallow depth) (code ∷ cursor.old.0) (instr_view value) cursor.new.0) }
+    ensures only { IfOk result
+        (λ value. BeginsOnly (SpellsShallow depth) (code ∷ cursor.old.0) (instr_view value) cursor.new.0) }
+    ensures malformed { IfErr result (λ e. e ≡ ReadFault.Malformed
+        → BeginsNone (SpellsShallow depth) (code ∷ cursor.old.0)) }
 {
     match code {
         0x02 => {

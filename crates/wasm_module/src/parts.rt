@@ -1,7 +1,7 @@
 // What the sections of a module hold, for any form of expressions.
 ghost use Rattle.std.specs.Prelude.{◌≡◌, map, IfOk, IfErr};
 ghost use Rattle.wasm_module.specs.Sections.{AreOf, Syntax};
-ghost use Rattle.wasm_module.specs.Parts.{parts_view, section_view};
+ghost use Rattle.wasm_module.specs.inner.Parts.{parts_view, section_view};
 
 use crate::entry_lists::{Entries, Indices};
 use crate::exports::Exports;
@@ -44,8 +44,11 @@ pub(crate) fn parts_of<X: Expression>(
     alloc: Global,
     sections: &[Section],
 ) -> Result<PartsOf<X>, ReadFault>
-    ensures found { IfOk result (λ parts. AreOf X.spells (map section_view sections.now) (parts_view X.global_seen X.element_seen X.code_seen X.segment_seen parts)) }
-    ensures malformed { IfErr result (λ e. e ≡ ReadFault.Malformed → (m : Syntax X.Seen) → AreOf X.spells (map section_view sections.now) m → ⊥) }
+    ensures found { IfOk result
+        (λ parts. AreOf X.spells (map section_view sections.now)
+        (parts_view X.global_seen X.element_seen X.code_seen X.segment_seen parts)) }
+    ensures malformed { IfErr result (λ e. e ≡ ReadFault.Malformed → (m : Syntax X.Seen)
+        → AreOf X.spells (map section_view sections.now) m → ⊥) }
 {
     let types = held::<FunctionType>(alloc, sections, 1)?;
     let imports = held::<ImportEntry>(alloc, sections, 2)?;

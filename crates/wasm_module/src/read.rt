@@ -100,9 +100,12 @@ pub(crate) fn entries<F: Form>(
     alloc: Global,
     cursor: &mut Cursor,
 ) -> Result<Vec<F::Value>, ReadFault>
-    ensures found { IfOk result (λ list. Begins (SpellsList F.spells) cursor.old.0 (map F.seen list.items) cursor.new.0) }
-    ensures only { IfOk result (λ list. BeginsOnly (SpellsList F.spells) cursor.old.0 (map F.seen list.items) cursor.new.0) }
-    ensures malformed { IfErr result (λ e. e ≡ ReadFault.Malformed → BeginsNone (SpellsList F.spells) cursor.old.0) }
+    ensures found { IfOk result
+        (λ list. Begins (SpellsList F.spells) cursor.old.0 (map F.seen list.items) cursor.new.0) }
+    ensures only { IfOk result
+        (λ list. BeginsOnly (SpellsList F.spells) cursor.old.0 (map F.seen list.items) cursor.new.0) }
+    ensures malformed { IfErr result (λ e. e ≡ ReadFault.Malformed
+        → BeginsNone (SpellsList F.spells) cursor.old.0) }
 {
     let count = cursor.leb_u32()?;
     let mut list = Vec::new(alloc);

@@ -3,7 +3,7 @@ ghost use Rattle.std.specs.Prelude.{◌≡◌, ◌↔◌, List, ℕ, map, IfOk, 
 ghost use Rattle.byte_fields.specs.Front.{Begins, BeginsNone, BeginsOnly};
 ghost use Rattle.wasm_module.specs.Spelling.{SpellsEach};
 ghost use Rattle.wasm_module.specs.Sections.{AreOrdered, IsCustom, SpellsSection, content_of as content_of_number};
-ghost use Rattle.wasm_module.specs.Parts.{section_view};
+ghost use Rattle.wasm_module.specs.inner.Parts.{section_view};
 
 use crate::read::ReadFault;
 use crate::values::counted;
@@ -20,8 +20,10 @@ pub(crate) struct Section<'a> {
 
 // Reads the section at the front.
 fn next_section<'a>(cursor: &mut Cursor<'a>) -> Result<Section<'a>, ReadFault>
-    ensures found { IfOk result (λ section. Begins SpellsSection cursor.old.0 (section_view section) cursor.new.0) }
-    ensures only { IfOk result (λ section. BeginsOnly SpellsSection cursor.old.0 (section_view section) cursor.new.0) }
+    ensures found { IfOk result
+        (λ section. Begins SpellsSection cursor.old.0 (section_view section) cursor.new.0) }
+    ensures only { IfOk result
+        (λ section. BeginsOnly SpellsSection cursor.old.0 (section_view section) cursor.new.0) }
     ensures malformed { IfErr result (λ e. e ≡ ReadFault.Malformed → BeginsNone SpellsSection cursor.old.0) }
     ensures cause { IfErr result (λ e. e ≡ ReadFault.Malformed) }
 {
@@ -32,9 +34,12 @@ fn next_section<'a>(cursor: &mut Cursor<'a>) -> Result<Section<'a>, ReadFault>
 
 /// Splits the bytes into sections.
 pub(crate) fn split<'a>(alloc: Global, bytes: &'a [u8]) -> Result<Vec<Section<'a>>, ReadFault>
-    ensures found { IfOk result (λ list. SpellsEach SpellsSection bytes.entry.now (map section_view list.items)) }
-    ensures only { IfOk result (λ list. (other : List (ℕ × List ℕ)) → SpellsEach SpellsSection bytes.entry.now other → other ≡ map section_view list.items) }
-    ensures malformed { IfErr result (λ e. e ≡ ReadFault.Malformed → (other : List (ℕ × List ℕ)) → SpellsEach SpellsSection bytes.entry.now other → ⊥) }
+    ensures found { IfOk result
+        (λ list. SpellsEach SpellsSection bytes.entry.now (map section_view list.items)) }
+    ensures only { IfOk result (λ list. (other : List (ℕ × List ℕ))
+        → SpellsEach SpellsSection bytes.entry.now other → other ≡ map section_view list.items) }
+    ensures malformed { IfErr result (λ e. e ≡ ReadFault.Malformed → (other : List (ℕ × List ℕ))
+        → SpellsEach SpellsSection bytes.entry.now other → ⊥) }
 {
     let mut cursor = Cursor::over(bytes);
     let mut list = Vec::new(alloc);
@@ -81,7 +86,8 @@ pub(crate) fn are_ordered(sections: &[Section]) -> bool
 
 /// The content of the section of a number.
 pub(crate) fn content_of<'a>(sections: &[Section<'a>], number: u8) -> Option<&'a [u8]>
-    ensures { MatchOption result (content_of_number number (map section_view sections.entry.now) ≡ None) (λ content. content_of_number number (map section_view sections.entry.now) ≡ Some content.now) }
+    ensures { MatchOption result (content_of_number number (map section_view sections.entry.now) ≡ None)
+        (λ content. content_of_number number (map section_view sections.entry.now) ≡ Some content.now) }
 {
     for section in sections {
         if section.number == number {

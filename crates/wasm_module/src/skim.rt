@@ -1,8 +1,8 @@
 // The reader that passes over expressions, however deep they nest, and keeps nothing of them.
 ghost use Rattle.std.specs.Prelude.{◌≡◌, ◌<◌, List, ℕ, ◌∷◌, length, reverse, IfOk, OnOk, IfErr};
 ghost use Rattle.byte_fields.specs.Front.{Begins, BeginsNone, BeginsOnly};
-ghost use Rattle.wasm_module.specs.Skimmed.{SpellsSome};
-ghost use Rattle.wasm_module.specs.Opens.{ClosesAlike, ClosesBefore, after, opens};
+ghost use Rattle.wasm_module.specs.inner.Skimmed.{SpellsSome};
+ghost use Rattle.wasm_module.specs.inner.Opens.{ClosesAlike, ClosesBefore, after, opens};
 ghost use Rattle.wasm_module.specs.declared.skim.Open.{Open};
 
 use crate::leaves::leaf;
@@ -36,9 +36,11 @@ enum Turn {
 // Reads the opcode of an instruction that holds others and its type, or a whole instruction of
 // another kind, or the byte behind instructions.
 fn read_turn(alloc: Global, cursor: &mut Cursor, top: Open) -> Result<Turn, ReadFault>
-    ensures alike { IfOk result (λ turn. (outer : List Open) → ClosesAlike (top ∷ outer) cursor.old.0 (after turn top outer) cursor.new.0) }
+    ensures alike { IfOk result (λ turn. (outer : List Open)
+        → ClosesAlike (top ∷ outer) cursor.old.0 (after turn top outer) cursor.new.0) }
     ensures shorter { OnOk result (length cursor.new.0 < length cursor.old.0) }
-    ensures malformed { IfErr result (λ e. e ≡ ReadFault.Malformed → (outer : List Open) (rest : List ℕ) → ClosesBefore (top ∷ outer) cursor.old.0 rest → ⊥) }
+    ensures malformed { IfErr result (λ e. e ≡ ReadFault.Malformed → (outer : List Open) (rest : List ℕ)
+        → ClosesBefore (top ∷ outer) cursor.old.0 rest → ⊥) }
 {
     let code = cursor.u8()?;
     match code {

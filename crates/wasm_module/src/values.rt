@@ -18,7 +18,8 @@ use std::str;
 pub(crate) fn mark(cursor: &mut Cursor, byte: u8) -> Result<(), ReadFault>
     ensures found { OnOk result (Begins (SpellsMark byte) cursor.old.0 tt cursor.new.0) }
     ensures only { OnOk result (BeginsOnly (SpellsMark byte) cursor.old.0 tt cursor.new.0) }
-    ensures malformed { IfErr result (λ e. e ≡ ReadFault.Malformed → BeginsNone (SpellsMark byte) cursor.old.0) }
+    ensures malformed { IfErr result (λ e. e ≡ ReadFault.Malformed
+        → BeginsNone (SpellsMark byte) cursor.old.0) }
     ensures cause { IfErr result (λ e. e ≡ ReadFault.Malformed) }
 {
     if cursor.u8()? == byte {
@@ -60,7 +61,8 @@ pub(crate) fn val_type(cursor: &mut Cursor) -> Result<ValType, ReadFault>
 pub(crate) fn block_type(cursor: &mut Cursor) -> Result<Option<ValType>, ReadFault>
     ensures found { IfOk result (λ kind. Begins SpellsBlockType cursor.old.0 kind cursor.new.0) }
     ensures only { IfOk result (λ kind. BeginsOnly SpellsBlockType cursor.old.0 kind cursor.new.0) }
-    ensures malformed { IfErr result (λ e. e ≡ ReadFault.Malformed → BeginsNone SpellsBlockType cursor.old.0) }
+    ensures malformed { IfErr result (λ e. e ≡ ReadFault.Malformed
+        → BeginsNone SpellsBlockType cursor.old.0) }
     ensures cause { IfErr result (λ e. e ≡ ReadFault.Malformed) }
 {
     let byte = cursor.u8()?;
@@ -102,7 +104,8 @@ pub(crate) fn bounds(cursor: &mut Cursor) -> Result<Bounds, ReadFault>
 pub(crate) fn table_type(cursor: &mut Cursor) -> Result<Bounds, ReadFault>
     ensures found { IfOk result (λ bounds. Begins SpellsTableType cursor.old.0 bounds cursor.new.0) }
     ensures only { IfOk result (λ bounds. BeginsOnly SpellsTableType cursor.old.0 bounds cursor.new.0) }
-    ensures malformed { IfErr result (λ e. e ≡ ReadFault.Malformed → BeginsNone SpellsTableType cursor.old.0) }
+    ensures malformed { IfErr result (λ e. e ≡ ReadFault.Malformed
+        → BeginsNone SpellsTableType cursor.old.0) }
     ensures cause { IfErr result (λ e. e ≡ ReadFault.Malformed) }
 {
     mark(cursor, 0x70)?;
@@ -129,7 +132,8 @@ fn mutable(cursor: &mut Cursor) -> Result<bool, ReadFault>
 pub(crate) fn global_type(cursor: &mut Cursor) -> Result<GlobalType, ReadFault>
     ensures found { IfOk result (λ value. Begins SpellsGlobalType cursor.old.0 value cursor.new.0) }
     ensures only { IfOk result (λ value. BeginsOnly SpellsGlobalType cursor.old.0 value cursor.new.0) }
-    ensures malformed { IfErr result (λ e. e ≡ ReadFault.Malformed → BeginsNone SpellsGlobalType cursor.old.0) }
+    ensures malformed { IfErr result (λ e. e ≡ ReadFault.Malformed
+        → BeginsNone SpellsGlobalType cursor.old.0) }
     ensures cause { IfErr result (λ e. e ≡ ReadFault.Malformed) }
 {
     let value = val_type(cursor)?;
@@ -141,7 +145,8 @@ pub(crate) fn global_type(cursor: &mut Cursor) -> Result<GlobalType, ReadFault>
 pub(crate) fn import_desc(cursor: &mut Cursor) -> Result<ImportDesc, ReadFault>
     ensures found { IfOk result (λ value. Begins SpellsImportDesc cursor.old.0 value cursor.new.0) }
     ensures only { IfOk result (λ value. BeginsOnly SpellsImportDesc cursor.old.0 value cursor.new.0) }
-    ensures malformed { IfErr result (λ e. e ≡ ReadFault.Malformed → BeginsNone SpellsImportDesc cursor.old.0) }
+    ensures malformed { IfErr result (λ e. e ≡ ReadFault.Malformed
+        → BeginsNone SpellsImportDesc cursor.old.0) }
     ensures cause { IfErr result (λ e. e ≡ ReadFault.Malformed) }
 {
     let tag = cursor.u8()?;
@@ -170,7 +175,8 @@ pub(crate) fn import_desc(cursor: &mut Cursor) -> Result<ImportDesc, ReadFault>
 pub(crate) fn export_desc(cursor: &mut Cursor) -> Result<ExportDesc, ReadFault>
     ensures found { IfOk result (λ value. Begins SpellsExportDesc cursor.old.0 value cursor.new.0) }
     ensures only { IfOk result (λ value. BeginsOnly SpellsExportDesc cursor.old.0 value cursor.new.0) }
-    ensures malformed { IfErr result (λ e. e ≡ ReadFault.Malformed → BeginsNone SpellsExportDesc cursor.old.0) }
+    ensures malformed { IfErr result (λ e. e ≡ ReadFault.Malformed
+        → BeginsNone SpellsExportDesc cursor.old.0) }
     ensures cause { IfErr result (λ e. e ≡ ReadFault.Malformed) }
 {
     let tag = cursor.u8()?;

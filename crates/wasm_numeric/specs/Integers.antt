@@ -1,4 +1,5 @@
--- The integer operators of WebAssembly Core 1.0, chapters 4.3.2 and 4.3.4, each stated once for every width N.
+-- The integer operators of WebAssembly Core 1.0, chapters 4.3.2 and 4.3.4, each stated once for every width
+-- N.
 -- N bits are a whole number below 2 ^ N, and the names are those of the chapters.
 use Rattle.std.specs.Prelude.{ℕ, zero, suc, ◌+◌, ◌-◌, ◌*◌, ◌/◌, ◌%◌, ◌^◌, ◌==◌, ◌&&◌, Bool, not, nat_lt, nat_le, if◌then◌else◌, Option, Some, None, List, [], ◌∷◌, count_by, bit_and, bit_or, bit_xor, ℤ, pos, negsuc, ◌-ℤ◌, int_lt, int_le, int_div, int_rem}
 use Rattle.std.specs.List.{prefix_len, suffix_len}
@@ -62,7 +63,8 @@ imul N i j = (i * j) % 2 ^ N
 abbrev pub idiv_u : ℕ → ℕ → ℕ → Option ℕ
 idiv_u N i j = if j == 0 then None else Some (i / j)
 
--- the same of the signed numbers: none by 0, and none of the least number by -1, since 2 ^ (N - 1) is no signed number
+-- the same of the signed numbers: none by 0, and none of the least number by -1, since 2 ^ (N - 1) is no
+-- signed number
 abbrev pub idiv_s : ℕ → ℕ → ℕ → Option ℕ
 idiv_s N i j =
     if j == 0 then None
@@ -88,7 +90,8 @@ ior N i j = bit_or i j
 abbrev pub ixor : ℕ → ℕ → ℕ → ℕ
 ixor N i j = bit_xor i j
 
--- shifts by j modulo N places: to the left modulo 2 ^ N, to the right with zeros, and to the right with copies of the highest bit, which rounds down
+-- shifts by j modulo N places: to the left modulo 2 ^ N, to the right with zeros, and to the right with
+-- copies of the highest bit, which rounds down
 abbrev pub ishl : ℕ → ℕ → ℕ → ℕ
 ishl N i j = (i * 2 ^ (j % N)) % 2 ^ N
 

@@ -15,7 +15,8 @@ pub enum NumFault {
     Overflow,
 }
 
-/// Counts bits, by opcode 67 to 69 (`i32`) or 79 to 7B (`i64`). An `i32` stands in the low 32 bits, the others 0.
+/// Counts bits, by opcode 67 to 69 (`i32`) or 79 to 7B (`i64`). An `i32` stands in the low 32 bits, the
+/// others 0.
 #[inline]
 pub fn unary(op: u8, a: u64) -> u64
     requires group { IsUnary op }
@@ -33,7 +34,8 @@ pub fn unary(op: u8, a: u64) -> u64
     }
 }
 
-/// Calculates with two operands, by opcode 6A to 78 (`i32`) or 7C to 8A (`i64`). An `i32` stands in the low 32 bits, the others 0.
+/// Calculates with two operands, by opcode 6A to 78 (`i32`) or 7C to 8A (`i64`). An `i32` stands in the low
+/// 32 bits, the others 0.
 #[inline]
 pub fn binary(op: u8, a: u64, b: u64) -> Result<u64, NumFault>
     requires group { IsBinary op }
@@ -166,7 +168,8 @@ fn remainder_signed_64(a: u64, b: u64) -> Result<u64, NumFault>
     )
 }
 
-/// Compares, by opcode 45 to 4F (`i32`) or 50 to 5A (`i64`); 45 and 50 look at `a` alone. An `i32` stands in the low 32 bits, the others 0.
+/// Compares, by opcode 45 to 4F (`i32`) or 50 to 5A (`i64`); 45 and 50 look at `a` alone. An `i32` stands in
+/// the low 32 bits, the others 0.
 #[inline]
 pub fn compare(op: u8, a: u64, b: u64) -> bool
     requires group { IsCompare op }

@@ -1,5 +1,7 @@
-// The calls at the edges of their operands: 0, 1, -1, the least and the greatest number, powers of two and their neighbours.
-// The expected answers are worked out from the formulas of WebAssembly Core 1.0, chapters 4.3.2 and 4.3.4, in unbounded integers, and not by this crate.
+// The calls at the edges of their operands: 0, 1, -1, the least and the greatest number, powers of two and
+// their neighbours.
+// The expected answers are worked out from the formulas of WebAssembly Core 1.0, chapters 4.3.2 and 4.3.4, in
+// unbounded integers, and not by this crate.
 use super::*;
 
 /// Opcode, operand and count.

@@ -26,15 +26,19 @@ pub record IsDone (op : Op) (old : Held) (before : Store) (new : Held) (after : 
   pub does : Does op (data_of old before) (data_of new after)
   pub levels : new.levels ≡ old.levels
   pub room : size (running no_ops new) ≤ most_values
-  pub thread : (base : Context) (rest : Ops) → IsTyped base (running (next op rest) old) → IsTypedStore base before → IsTyped base (running rest new)
-  pub store : (base : Context) (rest : Ops) → IsTyped base (running (next op rest) old) → IsTypedStore base before → IsTypedStore base after
+  pub thread : (base : Context) (rest : Ops) → IsTyped base (running (next op rest) old)
+      → IsTypedStore base before → IsTyped base (running rest new)
+  pub store : (base : Context) (rest : Ops) → IsTyped base (running (next op rest) old)
+      → IsTypedStore base before → IsTypedStore base after
 
 -- There is no room for what the instruction pushes.
 pub record IsFull (op : Op) (old : Held) (before : Store) : Type 0 where
   pub result : Data
   pub does : Does op (data_of old before) result
-  pub full : most_values < size (running no_ops (record old { operands = result.operands; locals = result.locals }))
+  pub full : most_values
+      < size (running no_ops (record old { operands = result.operands; locals = result.locals }))
 
 -- The instruction trapped.
 abbrev pub IsStopped : Op → Held → Store → Trap → Type 0
-IsStopped op old before trap = Fails op (data_of old before) trap ⊎ ((trap ≡ traps.StackFull) × IsFull op old before)
+IsStopped op old before trap =
+    Fails op (data_of old before) trap ⊎ ((trap ≡ traps.StackFull) × IsFull op old before)

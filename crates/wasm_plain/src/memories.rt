@@ -17,7 +17,8 @@ use wasm_store::Pages;
 // -1 as an i32: the answer of a growth that is refused.
 const REFUSED: u32 = 0xffff_ffff;
 
-/// Runs a load: WebAssembly Core 1.0, chapter 4.4.4. The value goes in the place of the address. It traps with
+/// Runs a load: WebAssembly Core 1.0, chapter 4.4.4. The value goes in the place of the address. It traps
+/// with
 /// `MemoryBounds` where the bytes pass the memory's end.
 #[inline]
 pub fn load(
@@ -27,8 +28,12 @@ pub fn load(
     align: u32,
     offset: u32,
 ) -> Result<(), Trap>
-    requires { (store : Store) × (store.memory ≡ pages.now) × IsNext (op_load op align offset) (held stack.old) store }
-    ensures { (store : Store) → store.memory ≡ pages.now → MatchResult result (λ _. IsDone (op_load op align offset) (held stack.old) store (held stack.new) store) (IsStopped (op_load op align offset) (held stack.old) store) }
+    requires { (store : Store) × (store.memory ≡ pages.now) × IsNext (op_load op align offset)
+        (held stack.old) store }
+    ensures { (store : Store) → store.memory ≡ pages.now
+        → MatchResult result
+        (λ _. IsDone (op_load op align offset) (held stack.old) store (held stack.new) store)
+        (IsStopped (op_load op align offset) (held stack.old) store) }
 {
     let address = stack.operand(0) + u64::from(offset);
     let Some(value) = value_at(pages, op, address) else {
@@ -42,7 +47,11 @@ pub fn load(
 #[inline]
 fn value_at(pages: &Pages, op: u8, address: u64) -> Option<u64>
     requires { (access : Access) × (load_of op ≡ Some access) }
-    ensures { (access : Access) → load_of op ≡ Some access → MatchOption result (length pages.now.bytes < address + access.bytes) (λ value. (address + access.bytes ≤ length pages.now.bytes) × (value ≡ loaded op access.bytes (le_number (span pages.now address access.bytes))) × IsValue access.value value) }
+    ensures { (access : Access) → load_of op ≡ Some access
+        → MatchOption result (length pages.now.bytes < address + access.bytes)
+        (λ value. (address + access.bytes ≤ length pages.now.bytes)
+        × (value ≡ loaded op access.bytes (le_number (span pages.now address access.bytes)))
+        × IsValue access.value value) }
 {
     match op {
         0x28 | 0x35 => pages.load(address, 4),
@@ -107,7 +116,8 @@ fn signed_32_as_64(found: Option<u64>) -> Option<u64>
     Some(i64::from(word.cast_signed()).cast_unsigned())
 }
 
-/// Runs a store: WebAssembly Core 1.0, chapter 4.4.4. It takes the value and the address below it. It traps with
+/// Runs a store: WebAssembly Core 1.0, chapter 4.4.4. It takes the value and the address below it. It traps
+/// with
 /// `MemoryBounds` where the bytes pass the memory's end.
 #[inline]
 pub fn store(
@@ -117,8 +127,12 @@ pub fn store(
     align: u32,
     offset: u32,
 ) -> Result<(), Trap>
-    requires { (store : Store) × (store.memory ≡ pages.old) × IsNext (op_store op align offset) (held stack.old) store }
-    ensures { (store : Store) → store.memory ≡ pages.old → MatchResult result (λ _. IsDone (op_store op align offset) (held stack.old) store (held stack.new) (record store { memory = pages.new })) (IsStopped (op_store op align offset) (held stack.old) store) }
+    requires { (store : Store) × (store.memory ≡ pages.old) × IsNext (op_store op align offset)
+        (held stack.old) store }
+    ensures { (store : Store) → store.memory ≡ pages.old
+        → MatchResult result
+        (λ _. IsDone (op_store op align offset) (held stack.old) store (held stack.new)
+        (record store { memory = pages.new })) (IsStopped (op_store op align offset) (held stack.old) store) }
 {
     let value = stack.operand(0);
     let address = stack.operand(1) + u64::from(offset);
@@ -145,12 +159,15 @@ fn stored_width(op: u8) -> u8
     }
 }
 
-/// Pushes the size of the memory in pages: `memory.size` of WebAssembly Core 1.0, chapter 4.4.4. It traps with
+/// Pushes the size of the memory in pages: `memory.size` of WebAssembly Core 1.0, chapter 4.4.4. It traps
+/// with
 /// `StackFull` where the stack has no room.
 #[inline]
 pub fn memory_size(stack: &mut Stack<'_>, pages: &Pages) -> Result<(), Trap>
     requires { (store : Store) × (store.memory ≡ pages.now) × IsNext op_memory_size (held stack.old) store }
-    ensures { (store : Store) → store.memory ≡ pages.now → MatchResult result (λ _. IsDone op_memory_size (held stack.old) store (held stack.new) store) (IsStopped op_memory_size (held stack.old) store) }
+    ensures { (store : Store) → store.memory ≡ pages.now
+        → MatchResult result (λ _. IsDone op_memory_size (held stack.old) store (held stack.new) store)
+        (IsStopped op_memory_size (held stack.old) store) }
 {
     if !stack.push(u64::from(pages.size())) {
         return Err(Trap::StackFull);
@@ -158,12 +175,15 @@ pub fn memory_size(stack: &mut Stack<'_>, pages: &Pages) -> Result<(), Trap>
     Ok(())
 }
 
-/// Grows the memory by so many pages, and gives its size before, or -1 where it may not grow so far: `memory.grow` of WebAssembly Core 1.0,
+/// Grows the memory by so many pages, and gives its size before, or -1 where it may not grow so far:
+/// `memory.grow` of WebAssembly Core 1.0,
 /// chapter 4.4.4. It never traps.
 #[inline]
 pub fn memory_grow(stack: &mut Stack<'_>, pages: &mut Pages)
     requires { (store : Store) × (store.memory ≡ pages.old) × IsNext op_memory_grow (held stack.old) store }
-    ensures { (store : Store) → store.memory ≡ pages.old → IsDone op_memory_grow (held stack.old) store (held stack.new) (record store { memory = pages.new }) }
+    ensures { (store : Store) → store.memory ≡ pages.old
+        → IsDone op_memory_grow (held stack.old) store (held stack.new)
+        (record store { memory = pages.new }) }
 {
     let by = stack.operand(0) as u32;
     let answer = pages.grow(by).unwrap_or(REFUSED);

@@ -15,7 +15,9 @@ use wasm_steps::Trap;
 /// `i32.const`, chapter 4.4.1: pushes a number. It traps where there is no room.
 #[inline]
 pub fn i32_const(stack: &mut Stack<'_>, number: i32) -> Result<(), Trap>
-    ensures { (store : Store) → MatchResult result (λ _. IsDone (i32_const_op number) (held stack.old) store (held stack.new) store) (IsStopped (i32_const_op number) (held stack.old) store) }
+    ensures { (store : Store)
+        → MatchResult result (λ _. IsDone (i32_const_op number) (held stack.old) store (held stack.new) store)
+        (IsStopped (i32_const_op number) (held stack.old) store) }
 {
     push(stack, u64::from(number.cast_unsigned()))
 }
@@ -23,7 +25,9 @@ pub fn i32_const(stack: &mut Stack<'_>, number: i32) -> Result<(), Trap>
 /// `i64.const`, chapter 4.4.1: pushes a number. It traps where there is no room.
 #[inline]
 pub fn i64_const(stack: &mut Stack<'_>, number: i64) -> Result<(), Trap>
-    ensures { (store : Store) → MatchResult result (λ _. IsDone (i64_const_op number) (held stack.old) store (held stack.new) store) (IsStopped (i64_const_op number) (held stack.old) store) }
+    ensures { (store : Store)
+        → MatchResult result (λ _. IsDone (i64_const_op number) (held stack.old) store (held stack.new) store)
+        (IsStopped (i64_const_op number) (held stack.old) store) }
 {
     push(stack, number.cast_unsigned())
 }
@@ -33,7 +37,9 @@ pub fn i64_const(stack: &mut Stack<'_>, number: i64) -> Result<(), Trap>
 fn unary(stack: &mut Stack<'_>, op: u8) -> Result<(), Trap>
     requires group { IsUnary op }
     requires is_next { (store : Store) × IsNext (numeric_op op) (held stack.old) store }
-    ensures { (store : Store) → MatchResult result (λ _. IsDone (numeric_op op) (held stack.old) store (held stack.new) store) (IsStopped (numeric_op op) (held stack.old) store) }
+    ensures { (store : Store)
+        → MatchResult result (λ _. IsDone (numeric_op op) (held stack.old) store (held stack.new) store)
+        (IsStopped (numeric_op op) (held stack.old) store) }
 {
     let operand = stack.operand(0);
     stack.replace(1, wasm_numeric::unary(op, operand));
@@ -45,7 +51,9 @@ fn unary(stack: &mut Stack<'_>, op: u8) -> Result<(), Trap>
 fn binary(stack: &mut Stack<'_>, op: u8) -> Result<(), Trap>
     requires group { IsBinary op }
     requires is_next { (store : Store) × IsNext (numeric_op op) (held stack.old) store }
-    ensures { (store : Store) → MatchResult result (λ _. IsDone (numeric_op op) (held stack.old) store (held stack.new) store) (IsStopped (numeric_op op) (held stack.old) store) }
+    ensures { (store : Store)
+        → MatchResult result (λ _. IsDone (numeric_op op) (held stack.old) store (held stack.new) store)
+        (IsStopped (numeric_op op) (held stack.old) store) }
 {
     let second = stack.operand(0);
     let first = stack.operand(1);
@@ -64,7 +72,9 @@ fn binary(stack: &mut Stack<'_>, op: u8) -> Result<(), Trap>
 fn test(stack: &mut Stack<'_>, op: u8) -> Result<(), Trap>
     requires group { IsTest op }
     requires is_next { (store : Store) × IsNext (numeric_op op) (held stack.old) store }
-    ensures { (store : Store) → MatchResult result (λ _. IsDone (numeric_op op) (held stack.old) store (held stack.new) store) (IsStopped (numeric_op op) (held stack.old) store) }
+    ensures { (store : Store)
+        → MatchResult result (λ _. IsDone (numeric_op op) (held stack.old) store (held stack.new) store)
+        (IsStopped (numeric_op op) (held stack.old) store) }
 {
     let operand = stack.operand(0);
     stack.replace(1, u64::from(wasm_numeric::compare(op, operand, 0)));
@@ -77,7 +87,9 @@ fn compare(stack: &mut Stack<'_>, op: u8) -> Result<(), Trap>
     requires group { IsCompare op }
     requires two { IsTest op → ⊥ }
     requires is_next { (store : Store) × IsNext (numeric_op op) (held stack.old) store }
-    ensures { (store : Store) → MatchResult result (λ _. IsDone (numeric_op op) (held stack.old) store (held stack.new) store) (IsStopped (numeric_op op) (held stack.old) store) }
+    ensures { (store : Store)
+        → MatchResult result (λ _. IsDone (numeric_op op) (held stack.old) store (held stack.new) store)
+        (IsStopped (numeric_op op) (held stack.old) store) }
 {
     let second = stack.operand(0);
     let first = stack.operand(1);
@@ -90,14 +102,17 @@ fn compare(stack: &mut Stack<'_>, op: u8) -> Result<(), Trap>
 fn convert(stack: &mut Stack<'_>, op: u8) -> Result<(), Trap>
     requires group { IsConvert op }
     requires is_next { (store : Store) × IsNext (numeric_op op) (held stack.old) store }
-    ensures { (store : Store) → MatchResult result (λ _. IsDone (numeric_op op) (held stack.old) store (held stack.new) store) (IsStopped (numeric_op op) (held stack.old) store) }
+    ensures { (store : Store)
+        → MatchResult result (λ _. IsDone (numeric_op op) (held stack.old) store (held stack.new) store)
+        (IsStopped (numeric_op op) (held stack.old) store) }
 {
     let operand = stack.operand(0);
     stack.replace(1, wasm_numeric::convert(op, operand));
     Ok(())
 }
 
-/// A match with an arm for each opcode of these lists, and the last for the opcode that is left, so that one jump leads to an operation.
+/// A match with an arm for each opcode of these lists, and the last for the opcode that is left, so that one
+/// jump leads to an operation.
 macro_rules! by_opcode {
     ($stack:ident, $op:ident; binary $($binary:literal)*; compare $($compare:literal)*; unary $($unary:literal)*; test $($test:literal)*; convert $($convert:literal)*; last $last:literal) => {
         match $op {
@@ -111,12 +126,15 @@ macro_rules! by_opcode {
     };
 }
 
-/// An operation on numbers by its opcode, chapter 4.4.1. It traps at a division or a remainder by 0, and at a signed division of the least number
+/// An operation on numbers by its opcode, chapter 4.4.1. It traps at a division or a remainder by 0, and at a
+/// signed division of the least number
 /// by -1.
 #[inline]
 pub fn numeric(stack: &mut Stack<'_>, op: u8) -> Result<(), Trap>
     requires { (store : Store) × IsNext (numeric_op op) (held stack.old) store }
-    ensures { (store : Store) → MatchResult result (λ _. IsDone (numeric_op op) (held stack.old) store (held stack.new) store) (IsStopped (numeric_op op) (held stack.old) store) }
+    ensures { (store : Store)
+        → MatchResult result (λ _. IsDone (numeric_op op) (held stack.old) store (held stack.new) store)
+        (IsStopped (numeric_op op) (held stack.old) store) }
 {
     by_opcode!(stack, op;
         binary 0x6a 0x6b 0x6c 0x6d 0x6e 0x6f 0x70 0x71 0x72 0x73 0x74 0x75 0x76 0x77 0x78

@@ -15,7 +15,8 @@ pub fn drop_value(stack: &mut Stack<'_>)
     stack.discard(1);
 }
 
-/// `select`, chapter 4.4.2: the second of two operands where the third, which stands on top, is 0, and the first elsewhere.
+/// `select`, chapter 4.4.2: the second of two operands where the third, which stands on top, is 0, and the
+/// first elsewhere.
 #[inline]
 pub fn select(stack: &mut Stack<'_>)
     requires { (store : Store) × IsNext select_op (held stack.old) store }

@@ -12,7 +12,9 @@ use wasm_steps::Trap;
 /// Pushes a value. It traps where there is no room, and leaves the stack as it was.
 #[inline]
 pub(crate) fn push(stack: &mut Stack<'_>, value: u64) -> Result<(), Trap>
-    ensures { MatchResult result (λ _. (size (running no_ops (held stack.old)) < most_values) × (held stack.new ≡ pushed value (held stack.old))) (λ trap. (trap ≡ Trap.StackFull) × (most_values ≤ size (running no_ops (held stack.old))) × (held stack.new ≡ held stack.old)) }
+    ensures { MatchResult result (λ _. (size (running no_ops (held stack.old)) < most_values)
+        × (held stack.new ≡ pushed value (held stack.old))) (λ trap. (trap ≡ Trap.StackFull)
+        × (most_values ≤ size (running no_ops (held stack.old))) × (held stack.new ≡ held stack.old)) }
 {
     if stack.push(value) {
         Ok(())

@@ -14,7 +14,9 @@ use wasm_store::GlobalValues;
 #[inline]
 pub fn local_get(stack: &mut Stack<'_>, local: u32) -> Result<(), Trap>
     requires { (store : Store) × IsNext (local_get_op local) (held stack.old) store }
-    ensures { (store : Store) → MatchResult result (λ _. IsDone (local_get_op local) (held stack.old) store (held stack.new) store) (IsStopped (local_get_op local) (held stack.old) store) }
+    ensures { (store : Store)
+        → MatchResult result (λ _. IsDone (local_get_op local) (held stack.old) store (held stack.new) store)
+        (IsStopped (local_get_op local) (held stack.old) store) }
 {
     let value = stack.local(local);
     push(stack, value)
@@ -44,8 +46,12 @@ pub fn local_tee(stack: &mut Stack<'_>, local: u32)
 /// `global.get`, chapter 4.4.3: pushes the value of a global variable. It traps where there is no room.
 #[inline]
 pub fn global_get(stack: &mut Stack<'_>, globals: &GlobalValues, global: u32) -> Result<(), Trap>
-    requires { (store : Store) × (store.globals ≡ globals.now) × IsNext (global_get_op global) (held stack.old) store }
-    ensures { (store : Store) → store.globals ≡ globals.now → MatchResult result (λ _. IsDone (global_get_op global) (held stack.old) store (held stack.new) store) (IsStopped (global_get_op global) (held stack.old) store) }
+    requires { (store : Store) × (store.globals ≡ globals.now) × IsNext (global_get_op global)
+        (held stack.old) store }
+    ensures { (store : Store) → store.globals ≡ globals.now
+        → MatchResult result
+        (λ _. IsDone (global_get_op global) (held stack.old) store (held stack.new) store)
+        (IsStopped (global_get_op global) (held stack.old) store) }
 {
     let value = globals.get(global);
     push(stack, value)
@@ -54,8 +60,11 @@ pub fn global_get(stack: &mut Stack<'_>, globals: &GlobalValues, global: u32) ->
 /// `global.set`, chapter 4.4.3: gives a global variable the value of an operand, which it takes away.
 #[inline]
 pub fn global_set(stack: &mut Stack<'_>, globals: &mut GlobalValues, global: u32)
-    requires { (store : Store) × (store.globals ≡ globals.old) × IsNext (global_set_op global) (held stack.old) store }
-    ensures { (store : Store) → store.globals ≡ globals.old → IsDone (global_set_op global) (held stack.old) store (held stack.new) (record store { globals = globals.new }) }
+    requires { (store : Store) × (store.globals ≡ globals.old) × IsNext (global_set_op global)
+        (held stack.old) store }
+    ensures { (store : Store) → store.globals ≡ globals.old
+        → IsDone (global_set_op global) (held stack.old) store (held stack.new)
+        (record store { globals = globals.new }) }
 {
     let value = stack.operand(0);
     globals.set(global, value);

@@ -18,11 +18,14 @@ pending op thread = record thread { code = next op thread.code }
 abbrev pub given : ℕ → List ℕ → Thread → Thread
 given count results thread = record thread { operands = results ++ drop count thread.operands }
 
--- On top there are operands of these types. With any values of those types in their place, for which there is room, the thread is typed.
+-- On top there are operands of these types. With any values of those types in their place, for which there is
+-- room, the thread is typed.
 pub record Offers (base : Context) (ins outs : List ValType) (thread : Thread) : Type 0 where
   pub there : length ins ≤ length thread.operands
   pub values : AreValues ins (take (length ins) thread.operands)
-  pub gives : (results : List ℕ) → AreValues outs results → size (given (length ins) results thread) ≤ most_values → IsTyped base (given (length ins) results thread)
+  pub gives : (results : List ℕ) → AreValues outs results
+      → size (given (length ins) results thread) ≤ most_values
+      → IsTyped base (given (length ins) results thread)
 
 -- how many operands a branch to a level takes along
 abbrev pub results_at : Level → ℕ
@@ -45,7 +48,8 @@ pub record CanBranch (to : ℕ) (thread : Thread) : Type 0 where
 
 -- A branch to the label can be made, and leaves a typed thread.
 abbrev pub MayBranch : Context → ℕ → Thread → Type 0
-MayBranch base to thread = CanBranch to thread × ((after : Thread) → Branches to thread after → IsTyped base after)
+MayBranch base to thread =
+    CanBranch to thread × ((after : Thread) → Branches to thread after → IsTyped base after)
 
 -- how many labels of blocks are open in the innermost frame
 abbrev pub open_labels : List Level → ℕ
@@ -53,14 +57,18 @@ open_labels [] = 0
 open_labels (label results again below rest ∷ levels) = suc (open_labels levels)
 open_labels (frame results locals below rest ∷ levels) = 0
 
--- The function can be called: its arguments are there, and what the call leads to is typed, where the answer of a host is a value.
+-- The function can be called: its arguments are there, and what the call leads to is typed, where the answer
+-- of a host is a value.
 pub record CanCall (base : Context) (found : Function) (thread : Thread) : Type 0 where
   pub there : length (type_of found).params ≤ length thread.operands
-  pub values : AreValues (type_of found).params (reverse (take (length (type_of found).params) thread.operands))
+  pub values : AreValues (type_of found).params
+      (reverse (take (length (type_of found).params) thread.operands))
   pub own : (type : FuncType) (more : ℕ) (body : Ops) → found ≡ defined type more body
       → frame_count thread.levels < most_frames → size thread + more ≤ most_values
       → IsTyped base (called type more body thread thread.code)
   pub host : (type : FuncType) (number : ℕ) (answer : ℤ) → found ≡ imported type number
       → AreValues (types_of type.result) (answered type.result answer)
       → size thread - length type.params + arity type.result ≤ most_values
-      → IsTyped base (record thread { operands = answered type.result answer ++ drop (length type.params) thread.operands })
+      → IsTyped base (record thread {
+        operands = answered type.result answer ++ drop (length type.params) thread.operands;
+      })

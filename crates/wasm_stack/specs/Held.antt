@@ -3,7 +3,8 @@ use Rattle.std.specs.Prelude.{◌≡◌, ℕ, ◌≤◌, List, [], ◌∷◌, �
 use Rattle.wasm_module.specs.Syntax.{Ops}
 use Rattle.wasm_steps.specs.Threads.{Level, label, frame, Thread}
 
--- The operands of the innermost block with the top first, the locals of the function, and the blocks and frames around, the innermost first.
+-- The operands of the innermost block with the top first, the locals of the function, and the blocks and
+-- frames around, the innermost first.
 pub record Held : Type 0 where
   pub operands : List ℕ
   pub locals : List ℕ
@@ -11,7 +12,8 @@ pub record Held : Type 0 where
 
 -- the thread that runs these instructions
 abbrev pub running : Ops → Held → Thread
-running code held = record { code = code; operands = held.operands; locals = held.locals; levels = held.levels }
+running code held =
+    record { code = code; operands = held.operands; locals = held.locals; levels = held.levels }
 
 -- nothing
 abbrev pub nothing : Held
@@ -33,9 +35,11 @@ with_local index value held = record held { locals = slice_set held.locals index
 
 -- inside of a block that a branch leaves with so many results to these instructions, and its end to those
 abbrev pub opened : ℕ → Ops → Ops → Held → Held
-opened results again rest held = record held { operands = []; levels = label results again held.operands rest ∷ held.levels }
+opened results again rest held =
+    record held { operands = []; levels = label results again held.operands rest ∷ held.levels }
 
--- inside of a function with so many parameters, so many locals more and so many results, whose end leads to these instructions
+-- inside of a function with so many parameters, so many locals more and so many results, whose end leads to
+-- these instructions
 abbrev pub called : ℕ → ℕ → ℕ → Ops → Held → Held
 called params more results rest held = record {
   operands = [];
@@ -45,4 +49,7 @@ called params more results rest held = record {
 
 -- Where the innermost level is a frame, its results are all that stands on its operands: at most one.
 abbrev pub IsAtEnd : Held → Type 0
-IsAtEnd held = (results : ℕ) (locals below : List ℕ) (rest : Ops) (levels : List Level) → held.levels ≡ frame results locals below rest ∷ levels → (length held.operands ≡ results) × (results ≤ 1)
+IsAtEnd held =
+    (results : ℕ) (locals below : List ℕ) (rest : Ops) (levels : List Level)
+    → held.levels ≡ frame results locals below rest ∷ levels → (length held.operands ≡ results)
+    × (results ≤ 1)

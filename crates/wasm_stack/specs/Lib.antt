@@ -1,4 +1,4 @@
 pub mod Held
 pub mod View
 pub mod Standing
-pub mod Sound
+pub mod inner

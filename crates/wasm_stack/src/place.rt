@@ -17,8 +17,10 @@ impl<'a> Place<'a> {
     /// Takes the next instruction, where one is left.
     #[inline]
     pub fn next(&mut self) -> Option<&'a Instr>
-        ensures left { MatchOption result (ops_at self.old ≡ no_ops) (λ instr. ops_at self.old ≡ next_op (instr_view instr.now) (ops_at self.new)) }
-        ensures behind { MatchOption result (self.new ≡ self.old) (λ _. ops_at self.new ≡ rest_of true self.old) }
+        ensures left { MatchOption result (ops_at self.old ≡ no_ops)
+            (λ instr. ops_at self.old ≡ next_op (instr_view instr.now) (ops_at self.new)) }
+        ensures behind { MatchOption result (self.new ≡ self.old) (λ _.
+            ops_at self.new ≡ rest_of true self.old) }
     {
         let (instr, rest) = self.code.split_first()?;
         self.code = rest;

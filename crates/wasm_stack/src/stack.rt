@@ -17,7 +17,8 @@ use std::marker::Model;
 /// How many blocks and frames stand at most: in each of 1,000 functions 200 blocks, and the frame.
 pub const MOST_CONTROLS: usize = 201_000;
 
-/// What a thread holds beside the instructions that it runs: operands, locals, open blocks and frames. All room is reserved when it is made.
+/// What a thread holds beside the instructions that it runs: operands, locals, open blocks and frames. All
+/// room is reserved when it is made.
 #[derive(Drop)]
 pub struct Stack<'a> {
     controls: Vec<Control<'a>>,
@@ -35,7 +36,7 @@ impl<'a> Model for Stack<'a> {
 
     ghost coded = { Prim.hlevel (codes, instr.the_row.coded) };
 
-    ghost use Rattle.wasm_stack.specs.Sound.{stack_view, IsSound};
+    ghost use Rattle.wasm_stack.specs.inner.Sound.{stack_view, IsSound};
 
     ghost view = { stack_view };
 
@@ -153,12 +154,14 @@ impl<'a> Stack<'a> {
         self.values.set_local(index, value);
     }
 
-    /// Enters a block. A branch to it leads to `again` and takes an operand along where it has a result there. Its end leads to `again` too, but
+    /// Enters a block. A branch to it leads to `again` and takes an operand along where it has a result
+    /// there. Its end leads to `again` too, but
     /// for a loop's, which leads behind the loop's instruction.
     #[inline]
     pub fn enter(&mut self, again: Place<'a>, is_loop: bool, has_result: bool)
         requires { length (held self.old).levels < MOST_CONTROLS }
-        ensures { held self.new ≡ opened (count has_result) (ops_at again.entry) (rest_of is_loop again.entry) (held self.old) }
+        ensures { held self.new ≡ opened (count has_result) (ops_at again.entry) (rest_of is_loop again.entry)
+            (held self.old) }
     {
         let height = self.values.operand_count();
         self.controls.push_reserved(Control::Label {
@@ -177,7 +180,9 @@ impl<'a> Stack<'a> {
         requires frames { frame_count (held self.old).levels < most_frames }
         requires levels { length (held self.old).levels < MOST_CONTROLS }
         ensures room { IsTrue result ↔ (size (running no_ops (held self.old)) + more ≤ most_values) }
-        ensures called { held self.new ≡ (if result then called params more (count has_result) (ops_at rest.entry) (held self.old) else (held self.old)) }
+        ensures called { held self.new
+            ≡ (if result then called params more (count has_result) (ops_at rest.entry) (held self.old)
+            else (held self.old)) }
     {
         if !self.values.enter(params, more) {
             return false;
@@ -192,11 +197,13 @@ impl<'a> Stack<'a> {
         true
     }
 
-    /// Leaves the innermost block or frame at its end, for what is behind it. Answers `None` where there is none.
+    /// Leaves the innermost block or frame at its end, for what is behind it. Answers `None` where there is
+    /// none.
     #[inline]
     pub fn leave(&mut self) -> Option<Place<'a>>
         requires { IsAtEnd (held self.old) }
-        ensures { MatchOption result (((held self.old).levels ≡ []) × (held self.new ≡ held self.old)) (λ place. Leaves (running no_ops (held self.old)) (running (ops_at place) (held self.new))) }
+        ensures { MatchOption result (((held self.old).levels ≡ []) × (held self.new ≡ held self.old))
+            (λ place. Leaves (running no_ops (held self.old)) (running (ops_at place) (held self.new))) }
     {
         match self.controls.pop()? {
             Control::Label { again, is_loop, .. } => {
@@ -219,7 +226,8 @@ impl<'a> Stack<'a> {
     #[inline]
     pub fn branch(&mut self, to: usize) -> Place<'a>
         requires { CanBranch to (running no_ops (held self.old)) }
-        ensures { (code : Ops) → Branches to (running code (held self.old)) (running (ops_at result) (held self.new)) }
+        ensures { (code : Ops)
+            → Branches to (running code (held self.old)) (running (ops_at result) (held self.new)) }
     {
         let index = self.controls.len() - 1 - to;
         let target = self.controls[index];

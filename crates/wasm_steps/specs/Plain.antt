@@ -1,4 +1,5 @@
--- What instructions do that neither branch nor call: WebAssembly Core 1.0, chapters 4.4.1 to 4.4.4. Operands stand with the top first.
+-- What instructions do that neither branch nor call: WebAssembly Core 1.0, chapters 4.4.1 to 4.4.4. Operands
+-- stand with the top first.
 use Rattle.std.specs.Prelude.{◌≡◌, ◌≢◌, ℕ, ℤ, ◌+◌, ◌<◌, ◌≤◌, ◌==◌, ◌||◌, if◌then◌else◌, List, ◌∷◌, length, Some, None, slice_get, slice_set, true, cond}
 use Rattle.std.specs.Int.{w8, w16, w32, w64, cast_signed, cast_unsigned}
 use Rattle.wasm_module.specs.Syntax.{Op, nop, unreachable, drop_value, select, local_get, local_set, local_tee, global_get, global_set, load, store, memory_size, memory_grow, i32_const, i64_const, numeric}
@@ -24,10 +25,13 @@ IsTest op = (op == 0x45 || op == 0x50) ≡ true
 
 -- a number of 8, 16 or 32 bits with its sign carried on to an i32, and to an i64
 abbrev pub signed_32 : ℕ → ℕ → ℕ
-signed_32 bytes n = if bytes == 1 then cast_unsigned w32 (cast_signed w8 n) else cast_unsigned w32 (cast_signed w16 n)
+signed_32 bytes n =
+    if bytes == 1 then cast_unsigned w32 (cast_signed w8 n) else cast_unsigned w32 (cast_signed w16 n)
 
 abbrev pub signed_64 : ℕ → ℕ → ℕ
-signed_64 bytes n = if bytes == 1 then cast_unsigned w64 (cast_signed w8 n) else if bytes == 2 then cast_unsigned w64 (cast_signed w16 n) else cast_unsigned w64 (cast_signed w32 n)
+signed_64 bytes n =
+    if bytes == 1 then cast_unsigned w64 (cast_signed w8 n) else if bytes == 2
+    then cast_unsigned w64 (cast_signed w16 n) else cast_unsigned w64 (cast_signed w32 n)
 
 -- what a load makes of the number in its bytes: the signed ones of 8, 16 and 32 bits carry the sign on
 abbrev pub loaded : ℕ → ℕ → ℕ → ℕ
@@ -51,8 +55,10 @@ pub record Data : Type 0 where
 -- What a plain instruction does. Whether there is room for what it pushes is looked at behind it.
 pub data Does : Op → Data → Data → Type 0 where
   does_nop : {held : Data} → Does nop held held
-  does_i32_const : {held : Data} {number : ℤ} → Does (i32_const number) held (record held { operands = cast_unsigned w32 number ∷ held.operands })
-  does_i64_const : {held : Data} {number : ℤ} → Does (i64_const number) held (record held { operands = cast_unsigned w64 number ∷ held.operands })
+  does_i32_const : {held : Data} {number : ℤ}
+      → Does (i32_const number) held (record held { operands = cast_unsigned w32 number ∷ held.operands })
+  does_i64_const : {held : Data} {number : ℤ}
+      → Does (i64_const number) held (record held { operands = cast_unsigned w64 number ∷ held.operands })
   does_unary : {held : Data} {op a : ℕ} {below : List ℕ}
       → IsUnary op → held.operands ≡ a ∷ below
       → Does (numeric op) held (record held { operands = unary_value op a ∷ below })
@@ -68,7 +74,8 @@ pub data Does : Op → Data → Data → Type 0 where
   does_convert : {held : Data} {op a : ℕ} {below : List ℕ}
       → IsConvert op → held.operands ≡ a ∷ below
       → Does (numeric op) held (record held { operands = convert_value op a ∷ below })
-  does_drop : {held : Data} {a : ℕ} {below : List ℕ} → held.operands ≡ a ∷ below → Does drop_value held (record held { operands = below })
+  does_drop : {held : Data} {a : ℕ} {below : List ℕ} → held.operands ≡ a ∷ below
+      → Does drop_value held (record held { operands = below })
   does_select : {held : Data} {a b c : ℕ} {below : List ℕ}
       → held.operands ≡ c ∷ b ∷ a ∷ below
       → Does select held (record held { operands = (if c == 0 then b else a) ∷ below })
@@ -86,19 +93,35 @@ pub data Does : Op → Data → Data → Type 0 where
       → Does (global_get global) held (record held { operands = a ∷ held.operands })
   does_global_set : {held : Data} {global a : ℕ} {below : List ℕ}
       → global < length held.store.globals → held.operands ≡ a ∷ below
-      → Does (global_set global) held (record held { operands = below; store = record held.store { globals = slice_set held.store.globals global a } })
+      → Does (global_set global) held (record held {
+        operands = below;
+        store = record held.store { globals = slice_set held.store.globals global a };
+      })
   does_load : {held : Data} {op align offset a : ℕ} {below : List ℕ} (access : Access)
       → load_of op ≡ Some access → held.operands ≡ a ∷ below
       → a + offset + access.bytes ≤ length held.store.memory.bytes
-      → Does (load op align offset) held (record held { operands = loaded op access.bytes (le_number (span held.store.memory (a + offset) access.bytes)) ∷ below })
+      → Does (load op align offset) held (record held {
+        operands =
+            loaded op access.bytes (le_number (span held.store.memory (a + offset) access.bytes)) ∷ below;
+      })
   does_store : {held : Data} {op align offset a b : ℕ} {below : List ℕ} (access : Access)
       → store_of op ≡ Some access → held.operands ≡ b ∷ a ∷ below
       → a + offset + access.bytes ≤ length held.store.memory.bytes
-      → Does (store op align offset) held (record held { operands = below; store = record held.store { memory = written held.store.memory (a + offset) (le_bytes access.bytes b) } })
-  does_memory_size : {held : Data} → Does memory_size held (record held { operands = page_count held.store.memory ∷ held.operands })
+      → Does (store op align offset) held (record held {
+        operands = below;
+        store = record held.store {
+          memory = written held.store.memory (a + offset)
+              (le_bytes access.bytes b);
+        };
+      })
+  does_memory_size : {held : Data}
+      → Does memory_size held (record held { operands = page_count held.store.memory ∷ held.operands })
   does_memory_grow : {held : Data} {by : ℕ} {below : List ℕ}
       → held.operands ≡ by ∷ below → page_count held.store.memory + by ≤ held.store.memory.limit
-      → Does memory_grow held (record held { operands = page_count held.store.memory ∷ below; store = record held.store { memory = grown held.store.memory by } })
+      → Does memory_grow held (record held {
+        operands = page_count held.store.memory ∷ below;
+        store = record held.store { memory = grown held.store.memory by };
+      })
   does_not_grow : {held : Data} {by : ℕ} {below : List ℕ}
       → held.operands ≡ by ∷ below → held.store.memory.limit < page_count held.store.memory + by
       → Does memory_grow held (record held { operands = refused ∷ below })

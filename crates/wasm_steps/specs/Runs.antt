@@ -12,7 +12,8 @@ use Rattle.wasm_steps.specs.declared.outcome.Outcome.TheVariants.{Finished, Trap
 pub data Steps (program : Program) {S : Type 0} (H : Meaning S) : State S → ℕ → State S → Type 0 where
   no_step : {state : State S} → Steps program H state 0 state
   one_more : {first middle last : State S} {used cost : ℕ}
-      → Steps program H first used middle → Step program H middle cost last → Steps program H first (used + cost) last
+      → Steps program H first used middle → Step program H middle cost last
+      → Steps program H first (used + cost) last
 
 -- Nothing is left to run.
 abbrev pub IsOver : Thread → Type 0
@@ -24,9 +25,13 @@ IsAtInstruction thread = (op : Op) × (rest : Ops) × (thread.code ≡ next op r
 
 -- With so much fuel a run that begins in one state ends so, in the other state.
 abbrev pub EndsFrom : Program → {S : Type 0} → Meaning S → State S → ℕ → Outcome → State S → Type 0
-EndsFrom program H first fuel (Finished used) last = (used ≤ fuel) × Steps program H first used last × IsOver last.thread
-EndsFrom program H first fuel (Trapped used trap) last = (used ≤ fuel) × (before : ℕ) × (before + 1 ≡ used) × Steps program H first before last × Stops program last trap
-EndsFrom program H first fuel (Spent used) last = (used ≡ fuel) × Steps program H first used last × IsAtInstruction last.thread
+EndsFrom program H first fuel (Finished used) last =
+    (used ≤ fuel) × Steps program H first used last × IsOver last.thread
+EndsFrom program H first fuel (Trapped used trap) last =
+    (used ≤ fuel) × (before : ℕ) × (before + 1 ≡ used) × Steps program H first before last
+    × Stops program last trap
+EndsFrom program H first fuel (Spent used) last =
+    (used ≡ fuel) × Steps program H first used last × IsAtInstruction last.thread
 
 -- ---- a run of an instance
 
@@ -36,7 +41,12 @@ pub record IsInvoked (program : Program) (func : ℕ) (thread : Thread) : Type 0
   pub more : ℕ
   pub body : Ops
   pub known : slice_get program.functions func ≡ Some (defined type more body)
-  pub begins : thread ≡ record { code = body; operands = []; locals = replicate more 0; levels = frame 0 [] [] no_ops ∷ [] }
+  pub begins : thread ≡ record {
+    code = body;
+    operands = [];
+    locals = replicate more 0;
+    levels = frame 0 [] [] no_ops ∷ [];
+  }
 
 -- an outcome with so many instructions before it
 abbrev pub behind : ℕ → Outcome → Outcome
@@ -50,18 +60,25 @@ IsStopped (Finished used) = ⊥
 IsStopped outcome = Unit {0}
 
 -- A run of a fresh instance: the start function first, where there is one, and then `loop`.
-pub data Ends (program : Program) {S : Type 0} (H : Meaning S) (main : ℕ) : Option ℕ → Store → S → ℕ → Outcome → State S → Type 0 where
+pub data Ends (program : Program) {S : Type 0} (H : Meaning S) (main : ℕ) : Option ℕ → Store → S → ℕ → Outcome
+    → State S → Type 0 where
   ends_main : {thread : Thread} {store : Store} {host : S} {fuel : ℕ} {outcome : Outcome} {last : State S}
       → IsInvoked program main thread
       → EndsFrom program H (record { thread = thread; store = store; host = host }) fuel outcome last
       → Ends program H main None store host fuel outcome last
-  ends_in_start : {start : ℕ} {thread : Thread} {store : Store} {host : S} {fuel : ℕ} {outcome : Outcome} {last : State S}
+  ends_in_start : {start : ℕ} {thread : Thread} {store : Store} {host : S} {fuel : ℕ} {outcome : Outcome}
+      {last : State S}
       → IsInvoked program start thread
       → EndsFrom program H (record { thread = thread; store = store; host = host }) fuel outcome last
       → IsStopped outcome
       → Ends program H main (Some start) store host fuel outcome last
-  ends_behind_start : {start used : ℕ} {thread : Thread} {store : Store} {host : S} {fuel : ℕ} {outcome : Outcome} {middle last : State S}
+  ends_behind_start : {start used : ℕ} {thread : Thread} {store : Store} {host : S} {fuel : ℕ}
+      {outcome : Outcome} {middle last : State S}
       → IsInvoked program start thread
-      → EndsFrom program H (record { thread = thread; store = store; host = host }) fuel (Finished used) middle
+      → EndsFrom program H (record {
+        thread = thread;
+        store = store;
+        host = host;
+      }) fuel (Finished used) middle
       → Ends program H main None middle.store middle.host (fuel - used) outcome last
       → Ends program H main (Some start) store host fuel (behind used outcome) last

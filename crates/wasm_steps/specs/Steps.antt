@@ -1,4 +1,5 @@
--- The steps of a run, each with its cost: WebAssembly Core 1.0, chapter 4.4. Each instruction costs 1, one that traps and a host call included.
+-- The steps of a run, each with its cost: WebAssembly Core 1.0, chapter 4.4. Each instruction costs 1, one
+-- that traps and a host call included.
 -- Leaving a block or a frame costs nothing.
 use Rattle.std.specs.Prelude.{◌≡◌, ◌≢◌, ℕ, ℤ, ◌+◌, ◌-◌, ◌%◌, ◌^◌, ◌<◌, ◌≤◌, List, [], ◌∷◌, ◌++◌, length, map, reverse, replicate, take, drop, Option, Some, None, slice_get, zip}
 use Rattle.std.specs.Option.{unwrap_or}
@@ -14,7 +15,8 @@ use Rattle.wasm_steps.specs.Threads.{label, frame, Thread, arity, frame_count, s
 use Rattle.wasm_steps.specs.declared.outcome.Trap.{Trap}
 use Rattle.wasm_steps.specs.declared.outcome.Trap.TheVariants as traps
 
--- The meaning of a host, whose states are of a type: in this state the call of a number with these arguments on this memory is answered so, and
+-- The meaning of a host, whose states are of a type: in this state the call of a number with these arguments
+-- on this memory is answered so, and
 -- the memory and the host are then these.
 abbrev pub Meaning : Type 0 → Type 1
 Meaning S = S → ℕ → List ℤ → Memory → ℤ → Memory → S → Type 0
@@ -52,11 +54,20 @@ data_of state = record { locals = state.thread.locals; operands = state.thread.o
 
 -- the state after a plain instruction, with this left to run
 abbrev pub plainly : {S : Type 0} → State S → Ops → Data → State S
-plainly state rest held = record state { thread = record state.thread { code = rest; operands = held.operands; locals = held.locals }; store = held.store }
+plainly state rest held =
+    record state {
+      thread = record state.thread {
+        code = rest;
+        operands = held.operands;
+        locals = held.locals;
+      };
+      store = held.store;
+    }
 
 -- the thread inside of a block, of a loop
 abbrev pub entered : ℕ → Ops → Ops → List ℕ → Thread → Ops → Thread
-entered results again body below thread rest = record thread { code = body; operands = []; levels = label results again below rest ∷ thread.levels }
+entered results again body below thread rest =
+    record thread { code = body; operands = []; levels = label results again below rest ∷ thread.levels }
 
 -- the thread inside of a function: the arguments are its first locals, the others 0
 abbrev pub called : FuncType → ℕ → Ops → Thread → Ops → Thread
@@ -64,7 +75,9 @@ called type more body thread rest = record {
   code = body;
   operands = [];
   locals = reverse (take (length type.params) thread.operands) ++ replicate more 0;
-  levels = frame (arity type.result) thread.locals (drop (length type.params) thread.operands) rest ∷ thread.levels;
+  levels =
+      frame (arity type.result) thread.locals (drop (length type.params) thread.operands) rest
+      ∷ thread.levels;
 }
 
 -- the label of an index, and for any other index the last
@@ -76,12 +89,23 @@ pub data Calls {S : Type 0} (H : Meaning S) : Function → Ops → State S → S
   calls_own : {state : State S} {rest body : Ops} {type : FuncType} {more : ℕ}
       → frame_count state.thread.levels < most_frames
       → size state.thread + more ≤ most_values
-      → Calls H (defined type more body) rest state (record state { thread = called type more body state.thread rest })
-  calls_host : {state : State S} {rest : Ops} {type : FuncType} {number : ℕ} {answer : ℤ} {memory : Memory} {host : S}
+      → Calls H (defined type more body) rest state (record state {
+        thread = called type more body state.thread rest;
+      })
+  calls_host : {state : State S} {rest : Ops} {type : FuncType} {number : ℕ} {answer : ℤ} {memory : Memory}
+      {host : S}
       → size state.thread - length type.params + arity type.result ≤ most_values
-      → H state.host number (map (λ pair. argument pair.0 pair.1) (zip type.params (reverse (take (length type.params) state.thread.operands)))) state.store.memory answer memory host
+      → H state.host number
+      (map (λ pair. argument pair.0 pair.1)
+      (zip type.params
+      (reverse (take (length type.params) state.thread.operands)))) state.store.memory answer memory host
       → Calls H (imported type number) rest state (record {
-        thread = record state.thread { code = rest; operands = answered type.result answer ++ drop (length type.params) state.thread.operands };
+        thread =
+            record state.thread {
+              code = rest;
+              operands = answered type.result answer
+                  ++ drop (length type.params) state.thread.operands;
+            };
         store = record state.store { memory = memory };
         host = host;
       })
@@ -120,20 +144,30 @@ pub data Step (program : Program) {S : Type 0} (H : Meaning S) : State S → ℕ
   step_leaves : {state : State S} {thread : Thread}
       → Leaves state.thread thread → Step program H state 0 (record state { thread = thread })
   step_plain : {state : State S} {op : Op} {rest : Ops} {held : Data}
-      → state.thread.code ≡ next op rest → Does op (data_of state) held → size (plainly state rest held).thread ≤ most_values
+      → state.thread.code ≡ next op rest → Does op (data_of state) held
+      → size (plainly state rest held).thread ≤ most_values
       → Step program H state 1 (plainly state rest held)
   step_block : {state : State S} {result : Option ValType} {body rest : Ops}
       → state.thread.code ≡ next (block result body) rest
-      → Step program H state 1 (record state { thread = entered (arity result) rest body state.thread.operands state.thread rest })
+      → Step program H state 1 (record state {
+        thread = entered (arity result) rest body state.thread.operands state.thread rest;
+      })
   step_loop : {state : State S} {result : Option ValType} {body rest : Ops}
       → state.thread.code ≡ next (loop result body) rest
-      → Step program H state 1 (record state { thread = entered 0 state.thread.code body state.thread.operands state.thread rest })
+      → Step program H state 1 (record state {
+        thread = entered 0 state.thread.code body state.thread.operands state.thread rest;
+      })
   step_then : {state : State S} {result : Option ValType} {first second rest : Ops} {a : ℕ} {below : List ℕ}
-      → state.thread.code ≡ next (if_else result first second) rest → state.thread.operands ≡ a ∷ below → a ≢ 0
-      → Step program H state 1 (record state { thread = entered (arity result) rest first below state.thread rest })
+      → state.thread.code ≡ next (if_else result first second) rest → state.thread.operands ≡ a ∷ below
+      → a ≢ 0
+      → Step program H state 1 (record state {
+        thread = entered (arity result) rest first below state.thread rest;
+      })
   step_else : {state : State S} {result : Option ValType} {first second rest : Ops} {below : List ℕ}
       → state.thread.code ≡ next (if_else result first second) rest → state.thread.operands ≡ 0 ∷ below
-      → Step program H state 1 (record state { thread = entered (arity result) rest second below state.thread rest })
+      → Step program H state 1 (record state {
+        thread = entered (arity result) rest second below state.thread rest;
+      })
   step_br : {state : State S} {target : ℕ} {rest : Ops} {thread : Thread}
       → state.thread.code ≡ next (br target) rest → Branches target state.thread thread
       → Step program H state 1 (record state { thread = thread })
@@ -143,8 +177,11 @@ pub data Step (program : Program) {S : Type 0} (H : Meaning S) : State S → ℕ
       → Step program H state 1 (record state { thread = thread })
   step_no_br_if : {state : State S} {target : ℕ} {rest : Ops} {below : List ℕ}
       → state.thread.code ≡ next (br_if target) rest → state.thread.operands ≡ 0 ∷ below
-      → Step program H state 1 (record state { thread = record state.thread { code = rest; operands = below } })
-  step_br_table : {state : State S} {several : List ℕ} {last target a : ℕ} {rest : Ops} {below : List ℕ} {thread : Thread}
+      → Step program H state 1 (record state {
+        thread = record state.thread { code = rest; operands = below };
+      })
+  step_br_table : {state : State S} {several : List ℕ} {last target a : ℕ} {rest : Ops} {below : List ℕ}
+      {thread : Thread}
       → state.thread.code ≡ next (br_table several last) rest → state.thread.operands ≡ a ∷ below
       → target_of several last a ≡ target
       → Branches target (record state.thread { operands = below }) thread
@@ -156,7 +193,8 @@ pub data Step (program : Program) {S : Type 0} (H : Meaning S) : State S → ℕ
       → state.thread.code ≡ next (call func) rest → slice_get program.functions func ≡ Some found
       → Calls H found rest state after
       → Step program H state 1 after
-  step_call_indirect : {state after : State S} {index entry : ℕ} {rest : Ops} {below : List ℕ} {found : Function}
+  step_call_indirect : {state after : State S} {index entry : ℕ} {rest : Ops} {below : List ℕ}
+      {found : Function}
       → state.thread.code ≡ next (call_indirect index) rest → state.thread.operands ≡ entry ∷ below
       → Finds program state.store index entry found
       → Calls H found rest (record state { thread = record state.thread { operands = below } }) after
@@ -167,7 +205,8 @@ pub data Stops (program : Program) {S : Type 0} : State S → Trap → Type 0 wh
   stops_plain : {state : State S} {op : Op} {rest : Ops} {trap : Trap}
       → state.thread.code ≡ next op rest → Fails op (data_of state) trap → Stops program state trap
   stops_full : {state : State S} {op : Op} {rest : Ops} {held : Data}
-      → state.thread.code ≡ next op rest → Does op (data_of state) held → most_values < size (plainly state rest held).thread
+      → state.thread.code ≡ next op rest → Does op (data_of state) held
+      → most_values < size (plainly state rest held).thread
       → Stops program state traps.StackFull
   stops_call : {state : State S} {func : ℕ} {rest : Ops} {found : Function} {trap : Trap}
       → state.thread.code ≡ next (call func) rest → slice_get program.functions func ≡ Some found
@@ -175,7 +214,8 @@ pub data Stops (program : Program) {S : Type 0} : State S → Trap → Type 0 wh
   stops_unfound : {state : State S} {index entry : ℕ} {rest : Ops} {below : List ℕ} {trap : Trap}
       → state.thread.code ≡ next (call_indirect index) rest → state.thread.operands ≡ entry ∷ below
       → FindsNone program state.store index entry trap → Stops program state trap
-  stops_call_indirect : {state : State S} {index entry : ℕ} {rest : Ops} {below : List ℕ} {found : Function} {trap : Trap}
+  stops_call_indirect : {state : State S} {index entry : ℕ} {rest : Ops} {below : List ℕ} {found : Function}
+      {trap : Trap}
       → state.thread.code ≡ next (call_indirect index) rest → state.thread.operands ≡ entry ∷ below
       → Finds program state.store index entry found
       → CallFails found (record state { thread = record state.thread { operands = below } }) trap

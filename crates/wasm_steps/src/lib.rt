@@ -1,4 +1,5 @@
-// The steps of WebAssembly Core 1.0, chapter 4, with what they cost: definitions, and the law that a run has one end.
+// The steps of WebAssembly Core 1.0, chapter 4, with what they cost: definitions, and the law that a run has
+// one end.
 #![tactic(auto)]
 
 mod host;

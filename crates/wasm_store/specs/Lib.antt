@@ -1,3 +1,3 @@
 pub mod Bytes
 pub mod Memory
-pub mod Reserved
+pub mod inner

@@ -1,4 +1,5 @@
--- The memory of WebAssembly Core 1.0, chapter 4.2.8, and what the instructions of chapter 4.4.4 read and write there.
+-- The memory of WebAssembly Core 1.0, chapter 4.2.8, and what the instructions of chapter 4.4.4 read and
+-- write there.
 use Rattle.std.specs.Prelude.{ℕ, ◌+◌, ◌*◌, ◌/◌, min, List, ◌++◌, length, take, drop, replicate}
 
 -- the bytes, and the most pages that there may be
@@ -34,4 +35,5 @@ span m at n = take n (drop at m.bytes)
 
 -- the memory with `bytes` from address `at`, and the others as they were
 abbrev pub written : Memory → ℕ → List ℕ → Memory
-written m at bytes = record { bytes = take at m.bytes ++ (bytes ++ drop (at + length bytes) m.bytes); limit = m.limit }
+written m at bytes =
+    record { bytes = take at m.bytes ++ (bytes ++ drop (at + length bytes) m.bytes); limit = m.limit }

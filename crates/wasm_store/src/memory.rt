@@ -20,7 +20,7 @@ pub struct Pages {
 impl Model for Pages {
     ghost use Rattle.std.specs.Vec.{vec_len, vec_capacity};
     ghost use Rattle.wasm_store.specs.Memory.{Memory};
-    ghost use Rattle.wasm_store.specs.Reserved.{IsReserved};
+    ghost use Rattle.wasm_store.specs.inner.Reserved.{IsReserved};
 
     ghost Value = { Memory };
 
@@ -52,7 +52,8 @@ impl Pages {
         (self.bytes.len() / PAGE_SIZE as usize) as u32
     }
 
-    /// Adds `by` pages of zeros and answers the size before, or `None` with nothing changed. It takes no memory.
+    /// Adds `by` pages of zeros and answers the size before, or `None` with nothing changed. It takes no
+    /// memory.
     pub fn grow(&mut self, by: u32) -> Option<u32>
         ensures range { IsNone result ↔ (self.old.limit < page_count self.old + by) }
         ensures size { IfSome result (λ size. size ≡ page_count self.old) }
@@ -105,7 +106,8 @@ impl Pages {
         })
     }
 
-    /// Writes the bytes from `at`, and answers whether they are within the end. Nothing is changed where they pass it.
+    /// Writes the bytes from `at`, and answers whether they are within the end. Nothing is changed where they
+    /// pass it.
     #[inline]
     pub fn write_span(&mut self, at: u64, bytes: &[u8]) -> bool
         ensures range { IsTrue result ↔ (at + length bytes.now ≤ length self.old.bytes) }
@@ -120,7 +122,8 @@ impl Pages {
         true
     }
 
-    /// Writes the lowest `width` bytes of `value` from `at`, and answers whether they are within the end. Nothing is changed where they pass it.
+    /// Writes the lowest `width` bytes of `value` from `at`, and answers whether they are within the end.
+    /// Nothing is changed where they pass it.
     #[inline]
     pub fn store(&mut self, at: u64, width: u8, value: u64) -> bool
         requires { IsWidth width }

@@ -11,8 +11,8 @@ use Rattle.wasm_module.specs.declared.types.ValType.TheVariants.{I32}
 use Rattle.wasm_validate.specs.Context.{Context}
 use Rattle.wasm_validate.specs.Operations.{Signature, signature_of, Access, load_of, store_of}
 use Rattle.wasm_validate.specs.Typing.{HasMemory, TypedOp, numeric_typed, load_typed, store_typed}
-use Rattle.wasm_validate.specs.Stands.{State, Popped, Applies, Checks, Exactly}
-use Rattle.wasm_validate.specs.Tables.{operands_of}
+use Rattle.wasm_validate.specs.inner.Stands.{State, Popped, Applies, Checks, Exactly}
+use Rattle.wasm_validate.specs.inner.Tables.{operands_of}
 use Rattle.wasm_validate.specs.declared.numbers.Operation.{Operation}
 use Rattle.wasm_validate.proofs.Stacks.{popped_join, stop_later}
 use Rattle.wasm_validate.proofs.Images.{Only, only_checks}

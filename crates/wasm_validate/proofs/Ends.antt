@@ -8,7 +8,7 @@ use Rattle.std.proofs.lemmas.Bool.Decides.{eqb_tells}
 use Rattle.wasm_module.specs.declared.types.ValType.{ValType}
 use Rattle.wasm_module.specs.declared.codes.LocalRun.{LocalRun}
 use Rattle.wasm_validate.specs.Context.{locals_of}
-use Rattle.wasm_validate.specs.Runs.{reach, AreEnds, IsRunOf}
+use Rattle.wasm_validate.specs.inner.Runs.{reach, AreEnds, IsRunOf}
 
 one_run : (run : LocalRun) → length (locals_of (run ∷ [])) ≡ run.count
 one_run run = length-append (replicate run.count run.value) [] ∙ ap (λ z. z + 0) (length-replicate run.count run.value) ∙ omega arith

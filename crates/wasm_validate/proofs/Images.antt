@@ -6,7 +6,7 @@ use Rattle.wasm_module.specs.declared.types.ValType.{ValType}
 use Rattle.wasm_module.specs.declared.types.ValType.TheVariants.{I32}
 use Rattle.wasm_validate.specs.Context.{Context}
 use Rattle.wasm_validate.specs.Typing.{TypedOp, drop_typed, select_typed}
-use Rattle.wasm_validate.specs.Stands.{open_end, entry, State, Means, Steps, framed, Popped, NotOnTop, Off, Bare, Joins, Applies, Image, NoImage, Checks, pushed}
+use Rattle.wasm_validate.specs.inner.Stands.{open_end, entry, State, Means, Steps, framed, Popped, NotOnTop, Off, Bare, Joins, Applies, Image, NoImage, Checks, pushed}
 use Rattle.wasm_validate.proofs.Stacks.{inhabited, some_type, split_top, push_forth, push_back}
 
 -- an instruction with types below, taken apart

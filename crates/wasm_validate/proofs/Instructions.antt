@@ -9,7 +9,7 @@ use Rattle.wasm_module.specs.declared.types.GlobalType.{GlobalType}
 use Rattle.wasm_validate.specs.Context.{Context}
 use Rattle.wasm_validate.specs.Operations.{Signature, signature_of, Access, load_of, store_of}
 use Rattle.wasm_validate.specs.Typing.{types_of, Takes, HasType, HasMemory, HasTable, TypedOp, Typed, unreachable_typed, nop_typed, i32_const_typed, i64_const_typed, numeric_typed, local_get_typed, local_set_typed, local_tee_typed, global_get_typed, global_set_typed, load_typed, store_typed, memory_size_typed, memory_grow_typed, call_typed, call_indirect_typed, return_typed, block_typed, loop_typed, if_typed, br_typed, br_if_typed, br_table_typed}
-use Rattle.wasm_validate.specs.Stands.{State, Image}
+use Rattle.wasm_validate.specs.inner.Stands.{State, Image}
 use Rattle.wasm_validate.proofs.Stacks.{popped_none}
 use Rattle.wasm_validate.proofs.Images.{Only, Leaves, only_image, leaves_image}
 

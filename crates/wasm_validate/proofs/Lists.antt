@@ -3,7 +3,7 @@ use Rattle.std.proofs.Common.{◌≡◌, List, [], ◌++◌, refl, sym, ◌∙�
 use Rattle.wasm_module.specs.Syntax.{Op, Ops, no_ops, next}
 use Rattle.wasm_validate.specs.Typing.{Typed, none_typed, next_typed}
 use Rattle.wasm_validate.specs.Context.{Context}
-use Rattle.wasm_validate.specs.Stands.{closed, State, Means, Steps, framed, Image, NoImage, Goes, Reached}
+use Rattle.wasm_validate.specs.inner.Stands.{closed, State, Means, Steps, framed, Image, NoImage, Goes, Reached}
 use Rattle.wasm_module.specs.declared.types.ValType.{ValType}
 use Rattle.wasm_validate.proofs.Stacks.{closed_only}
 

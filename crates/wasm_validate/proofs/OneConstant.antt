@@ -8,7 +8,7 @@ use Rattle.wasm_module.specs.declared.types.ValType.{ValType}
 use Rattle.wasm_module.specs.declared.types.ValType.TheVariants.{I32, I64}
 use Rattle.wasm_module.specs.declared.types.GlobalType.{GlobalType}
 use Rattle.wasm_validate.specs.Typing.{IsConstant, constant_i32, constant_i64, constant_global}
-use Rattle.wasm_validate.specs.Stands.{Exactly}
+use Rattle.wasm_validate.specs.inner.Stands.{Exactly}
 use Rattle.wasm_validate.proofs.Instructions.{one_found, not_found}
 
 pub exactly_from : {P : Type 0} (b : Bool) → Decides b P → Exactly P b

@@ -6,7 +6,7 @@ use Rattle.wasm_module.specs.Syntax.{Op, Ops, next, block, loop, if_else, nestin
 use Rattle.wasm_module.specs.View.{instr_view, items_view}
 use Rattle.wasm_validate.specs.Typing.{TypedOp, Typed, types_of, block_typed, loop_typed, if_typed}
 use Rattle.wasm_validate.specs.Context.{Context}
-use Rattle.wasm_validate.specs.Stands.{State, Means, Popped, Applies, Image, NoImage, Checks, Goes, Reached, pushed}
+use Rattle.wasm_validate.specs.inner.Stands.{State, Means, Popped, Applies, Image, NoImage, Checks, Goes, Reached, pushed}
 use Rattle.wasm_module.specs.declared.types.ValType.{ValType}
 use Rattle.wasm_module.specs.declared.types.ValType.TheVariants.{I32}
 use Rattle.wasm_module.specs.declared.instr.Instr.{Instr}

@@ -1,6 +1,6 @@
 -- What taking off and putting on does to the stacks that are stood for.
 use Rattle.std.proofs.Common.{◌≡◌, List, [], ◌∷◌, ◌++◌, map, refl, ap, sym, ◌∙◌, subst, append_assoc, Bool, true, false, Option, None, Some}
-use Rattle.wasm_validate.specs.Stands.{Fits, Stands, closed, open_end, entry, State, Means, Popped, NotOnTop, Off, Bare, Exactly, Ends}
+use Rattle.wasm_validate.specs.inner.Stands.{Fits, Stands, closed, open_end, entry, State, Means, Popped, NotOnTop, Off, Bare, Exactly, Ends}
 use Rattle.std.proofs.lemmas.List.{append-nil}
 use Rattle.wasm_module.specs.declared.types.ValType.{ValType}
 use Rattle.wasm_module.specs.declared.types.ValType.TheVariants.{I32}

@@ -12,9 +12,9 @@ use Rattle.wasm_module.specs.declared.exports.Export.{Export}
 use Rattle.wasm_module.specs.declared.module.Module.{Module}
 use Rattle.wasm_module.specs.declared.types.GlobalType.{GlobalType}
 use Rattle.wasm_validate.specs.Context.{Context, module_context, imported_globals}
-use Rattle.wasm_validate.specs.Groups.{AreDeclared, AreMade, AreFunctions}
+use Rattle.wasm_validate.specs.inner.Groups.{AreDeclared, AreMade, AreFunctions}
 use Rattle.wasm_validate.specs.Modules.{IsValid, IsFunction, NamesDiffer}
-use Rattle.wasm_validate.specs.Stands.{Exactly}
+use Rattle.wasm_validate.specs.inner.Stands.{Exactly}
 
 -- the globals that are imported
 front : {X : Type 0} (xs ys : List X) (own : ℕ) → own ≡ length ys → take (length (xs ++ ys) - own) (xs ++ ys) ≡ xs

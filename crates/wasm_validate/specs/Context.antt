@@ -1,4 +1,5 @@
--- What stands around an instruction: the context of WebAssembly Core 1.0, chapter 3.1.1, and that of a module's functions, chapter 3.4.10.
+-- What stands around an instruction: the context of WebAssembly Core 1.0, chapter 3.1.1, and that of a
+-- module's functions, chapter 3.4.10.
 use Rattle.std.specs.Prelude.{ℕ, List, [], ◌++◌, map, replicate, Option, Some, None}
 use Rattle.std.specs.List.{filter_map, flat_map}
 use Rattle.wasm_module.specs.Syntax.{Ops}
@@ -12,8 +13,10 @@ use Rattle.wasm_module.specs.declared.imports.Import.{Import}
 use Rattle.wasm_module.specs.declared.imports.ImportDesc.{ImportDesc}
 use Rattle.wasm_module.specs.declared.imports.ImportDesc.TheVariants as import
 
--- The types that the module declares; the index of its type for each function; the types of the tables, the memories and the globals; and
--- the locals and the result of the function that the instruction is in. The imported ones come first. The labels stand beside it, since
+-- The types that the module declares; the index of its type for each function; the types of the tables, the
+-- memories and the globals; and
+-- the locals and the result of the function that the instruction is in. The imported ones come first. The
+-- labels stand beside it, since
 -- they grow at each block.
 pub record Context : Type 0 where
   pub types : List FuncType

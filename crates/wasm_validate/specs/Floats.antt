@@ -23,7 +23,8 @@ abbrev mutual
   pub OpHasNoFloat : Op → Type 0
   OpHasNoFloat (block result body) = IsIntegerResult result × OpsHaveNoFloat body
   OpHasNoFloat (loop result body) = IsIntegerResult result × OpsHaveNoFloat body
-  OpHasNoFloat (if_else result first second) = IsIntegerResult result × OpsHaveNoFloat first × OpsHaveNoFloat second
+  OpHasNoFloat (if_else result first second) =
+      IsIntegerResult result × OpsHaveNoFloat first × OpsHaveNoFloat second
   OpHasNoFloat (float_memory op align offset) = ⊥
   OpHasNoFloat (float_const bytes) = ⊥
   OpHasNoFloat (float_plain op) = ⊥

@@ -18,15 +18,18 @@ MayBeCut = (cx : Context) (labels : List (Option ValType)) (first later : Ops) (
 
 -- Two typed parts that meet may be joined.
 abbrev pub MayBeJoined : Type 0
-MayBeJoined = (cx : Context) (labels : List (Option ValType)) (first later : Ops) (from meet to : List ValType)
-    → Typed cx labels first from meet → Typed cx labels later meet to → Typed cx labels (joined first later) from to
+MayBeJoined =
+    (cx : Context) (labels : List (Option ValType)) (first later : Ops) (from meet to : List ValType)
+    → Typed cx labels first from meet → Typed cx labels later meet to
+    → Typed cx labels (joined first later) from to
 
 -- Types may be added below, at both ends.
 abbrev pub MayStandHigher : Type 0
 MayStandHigher = (cx : Context) (labels : List (Option ValType)) (ops : Ops) (from to below : List ValType)
     → Typed cx labels ops from to → Typed cx labels ops (from ++ below) (to ++ below)
 
--- Where one instruction and the rest are typed, there is a typing of the one, with types below that it leaves as they are, from where the
+-- Where one instruction and the rest are typed, there is a typing of the one, with types below that it leaves
+-- as they are, from where the
 -- rest goes on.
 abbrev pub BeginsTyped : Type 0
 BeginsTyped = (cx : Context) (labels : List (Option ValType)) (op : Op) (ops : Ops) (from to : List ValType)

@@ -4,10 +4,5 @@ pub mod Typing
 pub mod Modules
 pub mod Floats
 pub mod Views
-pub mod Stands
-pub mod Runs
-pub mod Scopes
-pub mod Tables
 pub mod Laws
-pub mod Adds
-pub mod Groups
+pub mod inner

@@ -19,11 +19,14 @@ AreOrdered bounds = (most : ℕ) → bounds.max ≡ Some most → bounds.min ≤
 
 -- 3.2.4: a memory has at most 65,536 pages.
 abbrev pub IsMemoryType : Bounds → Type 0
-IsMemoryType bounds = (bounds.min ≤ 65536) × ((most : ℕ) → bounds.max ≡ Some most → most ≤ 65536) × AreOrdered bounds
+IsMemoryType bounds =
+    (bounds.min ≤ 65536) × ((most : ℕ) → bounds.max ≡ Some most → most ≤ 65536) × AreOrdered bounds
 
 -- 3.4.1: the body of a function is typed in the context of its type and its locals.
 abbrev pub IsFunction : Context → ℕ → Function Ops → Type 0
-IsFunction cx index function = (type : FuncType) × (slice_get cx.types index ≡ Some type) × TypedBody (function_context cx type function.0) function.1
+IsFunction cx index function =
+    (type : FuncType) × (slice_get cx.types index ≡ Some type) × TypedBody
+    (function_context cx type function.0) function.1
 
 -- 3.4.4: a global begins with a constant of its type.
 abbrev pub IsGlobal : List GlobalType → Global Ops → Type 0
@@ -31,7 +34,9 @@ IsGlobal imported global = IsConstant imported global.1 global.0.value
 
 -- 3.4.5: a segment of elements has a table, an offset that is a constant, and functions that exist.
 abbrev pub IsElements : Context → List GlobalType → Elements Ops → Type 0
-IsElements cx imported segment = (segment.0 < length cx.tables) × IsConstant imported segment.1.0 I32 × All (λ func. func < length cx.funcs) segment.1.1
+IsElements cx imported segment =
+    (segment.0 < length cx.tables) × IsConstant imported segment.1.0 I32
+    × All (λ func. func < length cx.funcs) segment.1.1
 
 -- 3.4.6: a segment of data has a memory, and an offset that is a constant.
 abbrev pub IsData : Context → List GlobalType → Data Ops → Type 0
@@ -51,7 +56,9 @@ Exists cx (export.Global index) = index < length cx.globals
 
 -- 3.4.10: two exports of one name are one and the same.
 abbrev pub NamesDiffer : List Export → Type 0
-NamesDiffer exports = (i j : ℕ) (one other : Export) → slice_get exports i ≡ Some one → slice_get exports j ≡ Some other → one.name ≡ other.name → i ≡ j
+NamesDiffer exports =
+    (i j : ℕ) (one other : Export) → slice_get exports i ≡ Some one → slice_get exports j ≡ Some other
+    → one.name ≡ other.name → i ≡ j
 
 -- 3.4.10: the module is valid.
 pub record IsValid (m : Syntax Ops) : Type 0 where

@@ -1,4 +1,5 @@
--- The types of the operations that carry their opcode: WebAssembly Core 1.0, chapters 3.3.1 and 3.3.4, with the opcodes of chapter 5.4.
+-- The types of the operations that carry their opcode: WebAssembly Core 1.0, chapters 3.3.1 and 3.3.4, with
+-- the opcodes of chapter 5.4.
 use Rattle.std.specs.Prelude.{ℕ, ◌==◌, if◌then◌else◌, List, [], ◌∷◌, Option, Some, None, nat_lt}
 use Rattle.wasm_module.specs.declared.types.ValType.{ValType}
 use Rattle.wasm_module.specs.declared.types.ValType.TheVariants.{I32, I64}
@@ -14,7 +15,8 @@ unary operand result = Some (record { operands = operand ∷ []; result = result
 abbrev pub binary : ValType → ValType → Option Signature
 binary operand result = Some (record { operands = operand ∷ operand ∷ []; result = result })
 
--- Tests and comparisons give an i32; arithmetic gives the type of its operands; the three conversions go from one to the other.
+-- Tests and comparisons give an i32; arithmetic gives the type of its operands; the three conversions go from
+-- one to the other.
 unfoldable pub signature_of : ℕ → Option Signature
 signature_of op =
     if nat_lt op 0x45 then None

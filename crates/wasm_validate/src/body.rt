@@ -3,7 +3,7 @@ ghost use Rattle.std.specs.Prelude.{IfOk};
 ghost use Rattle.wasm_module.specs.Entries.{code_view};
 ghost use Rattle.wasm_validate.specs.Modules.{IsFunction};
 ghost use Rattle.wasm_validate.specs.Views.{context_view};
-ghost use Rattle.wasm_validate.specs.Stands.{Exactly};
+ghost use Rattle.wasm_validate.specs.inner.Stands.{Exactly};
 
 use crate::check::nested;
 use crate::context::Context;

@@ -2,8 +2,8 @@
 ghost use Rattle.std.specs.Prelude.{IfOk, All};
 ghost use Rattle.wasm_module.specs.Syntax.{br as op_br, br_if as op_br_if, br_table as op_br_table, return as op_return};
 ghost use Rattle.wasm_validate.specs.Typing.{Takes};
-ghost use Rattle.wasm_validate.specs.Scopes.{scope_view};
-ghost use Rattle.wasm_validate.specs.Stands.{Exactly, Checks};
+ghost use Rattle.wasm_validate.specs.inner.Scopes.{scope_view};
+ghost use Rattle.wasm_validate.specs.inner.Stands.{Exactly, Checks};
 
 use crate::labels::Labels;
 use crate::operands::Operands;
@@ -29,7 +29,8 @@ pub(crate) fn br_if(
     operands: &mut Operands,
     label: u32,
 ) -> Result<bool, AllocError>
-    ensures { IfOk result (λ b. (cx : _) → Checks cx labels.now (op_br_if label) operands.old operands.new b) }
+    ensures { IfOk result (λ b. (cx : _)
+        → Checks cx labels.now (op_br_if label) operands.old operands.new b) }
 {
     let Some(kind) = labels.get(label) else {
         return Ok(false);
@@ -62,7 +63,8 @@ fn all_take(labels: &Labels, several: &[u32], kind: Option<ValType>) -> bool
 }
 
 pub(crate) fn br_table(labels: &Labels, operands: &mut Operands, several: &[u32], last: u32) -> bool
-    ensures { (cx : _) → Checks cx labels.now (op_br_table several.now last) operands.old operands.new result }
+    ensures { (cx : _)
+        → Checks cx labels.now (op_br_table several.now last) operands.old operands.new result }
 {
     let Some(kind) = labels.get(last) else {
         return false;

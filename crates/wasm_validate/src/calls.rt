@@ -3,9 +3,9 @@ ghost use Rattle.std.specs.Prelude.{◌≡◌, IfOk, option_copied};
 ghost use Rattle.wasm_module.specs.Syntax.{call as op_call, call_indirect as op_call_indirect};
 ghost use Rattle.wasm_validate.specs.Typing.{HasTable};
 ghost use Rattle.wasm_validate.specs.Views.{context_view};
-ghost use Rattle.wasm_validate.specs.Scopes.{scope_view};
-ghost use Rattle.wasm_validate.specs.Tables.{Finds};
-ghost use Rattle.wasm_validate.specs.Stands.{Exactly, Checks};
+ghost use Rattle.wasm_validate.specs.inner.Scopes.{scope_view};
+ghost use Rattle.wasm_validate.specs.inner.Tables.{Finds};
+ghost use Rattle.wasm_validate.specs.inner.Stands.{Exactly, Checks};
 
 use crate::context::Context;
 use crate::operands::Operands;
@@ -28,7 +28,8 @@ fn has_table(context: &Context) -> bool
 }
 
 pub(crate) fn call(scope: &Scope, operands: &mut Operands, func: u32) -> Result<bool, AllocError>
-    ensures { IfOk result (λ b. (labels : _) → Checks (scope_view scope.now) labels (op_call func) operands.old operands.new b) }
+    ensures { IfOk result (λ b. (labels : _)
+        → Checks (scope_view scope.now) labels (op_call func) operands.old operands.new b) }
 {
     let Some(kind) = type_of(scope.context, func) else {
         return Ok(false);
@@ -41,7 +42,8 @@ pub(crate) fn call_indirect(
     operands: &mut Operands,
     index: u32,
 ) -> Result<bool, AllocError>
-    ensures { IfOk result (λ b. (labels : _) → Checks (scope_view scope.now) labels (op_call_indirect index) operands.old operands.new b) }
+    ensures { IfOk result (λ b. (labels : _)
+        → Checks (scope_view scope.now) labels (op_call_indirect index) operands.old operands.new b) }
 {
     if !has_table(scope.context) {
         return Ok(false);

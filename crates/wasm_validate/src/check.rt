@@ -2,8 +2,8 @@
 ghost use Rattle.std.specs.Prelude.{◌≡◌, [], ◌∷◌, IfOk, IsTrue};
 ghost use Rattle.wasm_module.specs.View.{instr_view, instrs_view};
 ghost use Rattle.wasm_validate.specs.Typing.{types_of, Typed};
-ghost use Rattle.wasm_validate.specs.Scopes.{scope_view};
-ghost use Rattle.wasm_validate.specs.Stands.{Checks, ChecksAll, Nested};
+ghost use Rattle.wasm_validate.specs.inner.Scopes.{scope_view};
+ghost use Rattle.wasm_validate.specs.inner.Stands.{Checks, ChecksAll, Nested};
 
 use crate::branches::{br, br_if, br_table, leave_function};
 use crate::calls::{call, call_indirect};
@@ -23,7 +23,9 @@ fn list(
     operands: &mut Operands,
     instrs: &Instrs,
 ) -> Result<bool, AllocError>
-    ensures typed { IfOk result (λ b. ChecksAll (scope_view scope.now) labels.old (instrs_view instrs.now) operands.old operands.new b) }
+    ensures typed { IfOk result
+        (λ b. ChecksAll (scope_view scope.now) labels.old
+        (instrs_view instrs.now) operands.old operands.new b) }
     ensures labels { IfOk result (λ b. IsTrue b → labels.new ≡ labels.old) }
 {
     let items = instrs.as_slice();
@@ -44,7 +46,8 @@ fn instr(
     operands: &mut Operands,
     instr: &Instr,
 ) -> Result<bool, AllocError>
-    ensures typed { IfOk result (λ b. Checks (scope_view scope.now) labels.old (instr_view instr.now) operands.old operands.new b) }
+    ensures typed { IfOk result
+        (λ b. Checks (scope_view scope.now) labels.old (instr_view instr.now) operands.old operands.new b) }
     ensures labels { IfOk result (λ b. IsTrue b → labels.new ≡ labels.old) }
 {
     match instr {
@@ -118,7 +121,9 @@ pub(crate) fn nested(
     kind: Option<ValType>,
     body: &Instrs,
 ) -> Result<bool, AllocError>
-    ensures { IfOk result (λ b. Nested (Typed (scope_view scope.now) (label ∷ labels.old) (instrs_view body.now) [] (types_of kind)) labels.old labels.new operands.old operands.new b) }
+    ensures { IfOk result
+        (λ b. Nested (Typed (scope_view scope.now) (label ∷ labels.old) (instrs_view body.now) []
+        (types_of kind)) labels.old labels.new operands.old operands.new b) }
 {
     labels.push(label)?;
     let outer = operands.enter();

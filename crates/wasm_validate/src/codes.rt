@@ -1,8 +1,8 @@
 // The functions of a module, one by one.
 ghost use Rattle.std.specs.Prelude.{IfOk, length};
-ghost use Rattle.wasm_validate.specs.Groups.{AreFunctions};
+ghost use Rattle.wasm_validate.specs.inner.Groups.{AreFunctions};
 ghost use Rattle.wasm_validate.specs.Views.{context_view};
-ghost use Rattle.wasm_validate.specs.Stands.{Exactly};
+ghost use Rattle.wasm_validate.specs.inner.Stands.{Exactly};
 
 use crate::body::is_function;
 use crate::context::Context;
@@ -17,7 +17,8 @@ pub(crate) fn are_functions(
     kinds: &[u32],
     codes: &[Code],
 ) -> Result<bool, AllocError>
-    ensures { IfOk result (λ b. Exactly (AreFunctions (context_view context.now) kinds.now codes.now (length kinds.now)) b) }
+    ensures { IfOk result
+        (λ b. Exactly (AreFunctions (context_view context.now) kinds.now codes.now (length kinds.now)) b) }
 {
     let mut work = Workspace::new(alloc);
     let mut at = 0usize;

@@ -3,7 +3,7 @@ ghost use Rattle.std.specs.Prelude.{◌≡◌, slice_get};
 ghost use Rattle.wasm_module.specs.Syntax.{global_get as op_global_get, next, no_ops};
 ghost use Rattle.wasm_module.specs.View.{instr_view, instrs_view};
 ghost use Rattle.wasm_validate.specs.Typing.{IsConstant};
-ghost use Rattle.wasm_validate.specs.Stands.{Exactly};
+ghost use Rattle.wasm_validate.specs.inner.Stands.{Exactly};
 
 use wasm_module::{GlobalType, Instr, Instrs, ValType};
 

@@ -6,7 +6,8 @@ ghost use Rattle.wasm_module.specs.Sections.{module_view};
 use std::alloc::{AllocError, Global};
 use wasm_module::{Bounds, FuncType, GlobalDef, GlobalType, Import, ImportDesc, Module};
 
-/// The types of what a module declares and imports: WebAssembly Core 1.0, chapter 3.1.1. What is imported comes first.
+/// The types of what a module declares and imports: WebAssembly Core 1.0, chapter 3.1.1. What is imported
+/// comes first.
 #[derive(Drop)]
 pub(crate) struct Context<'a> {
     /// The types that the module declares.
@@ -19,7 +20,7 @@ pub(crate) struct Context<'a> {
 }
 
 impl<'a> Context<'a> {
-    ghost use Rattle.wasm_validate.specs.Adds.{Adds};
+    ghost use Rattle.wasm_validate.specs.inner.Adds.{Adds};
     ghost use Rattle.wasm_validate.specs.Context.{imported_func, imported_table, imported_memory, imported_global, module_context};
     ghost use Rattle.wasm_validate.specs.Views.{context_view};
 
@@ -33,13 +34,17 @@ impl<'a> Context<'a> {
     /// The globals that are imported, where the module has so many of its own.
     pub fn imported(&self, own: usize) -> &[GlobalType]
         requires { own ≤ length (context_view self.now).globals }
-        ensures { result.now ≡ take (length (context_view self.now).globals - own) (context_view self.now).globals }
+        ensures { result.now ≡ take (length (context_view self.now).globals - own)
+            (context_view self.now).globals }
     {
         &self.globals[..self.globals.len() - own]
     }
 
     fn add_import(&mut self, desc: ImportDesc) -> Result<(), AllocError>
-        ensures { OnOk result (Adds (context_view self.old) (context_view self.new) (option_to_list (imported_func desc)) (option_to_list (imported_table desc)) (option_to_list (imported_memory desc)) (option_to_list (imported_global desc))) }
+        ensures { OnOk result
+            (Adds (context_view self.old) (context_view self.new) (option_to_list (imported_func desc))
+            (option_to_list (imported_table desc)) (option_to_list (imported_memory desc))
+            (option_to_list (imported_global desc))) }
     {
         match desc {
             ImportDesc::Func(kind) => self.funcs.push(kind)?,
@@ -51,7 +56,12 @@ impl<'a> Context<'a> {
     }
 
     fn add_imports(&mut self, imports: &[Import]) -> Result<(), AllocError>
-        ensures { OnOk result (Adds (context_view self.old) (context_view self.new) (filter_map (λ entry. imported_func entry.desc) imports.now) (filter_map (λ entry. imported_table entry.desc) imports.now) (filter_map (λ entry. imported_memory entry.desc) imports.now) (filter_map (λ entry. imported_global entry.desc) imports.now)) }
+        ensures { OnOk result
+            (Adds (context_view self.old) (context_view self.new)
+            (filter_map (λ entry. imported_func entry.desc) imports.now)
+            (filter_map (λ entry. imported_table entry.desc) imports.now)
+            (filter_map (λ entry. imported_memory entry.desc) imports.now)
+            (filter_map (λ entry. imported_global entry.desc) imports.now)) }
     {
         let mut at = 0usize;
         while at < imports.len() {
@@ -62,7 +72,9 @@ impl<'a> Context<'a> {
     }
 
     fn add_globals(&mut self, globals: &[GlobalDef]) -> Result<(), AllocError>
-        ensures { OnOk result (Adds (context_view self.old) (context_view self.new) [] [] [] (map (λ global. global.kind) globals.now)) }
+        ensures { OnOk result
+            (Adds (context_view self.old) (context_view self.new) [] [] []
+            (map (λ global. global.kind) globals.now)) }
     {
         let mut at = 0usize;
         while at < globals.len() {
@@ -74,7 +86,8 @@ impl<'a> Context<'a> {
 
     /// Of a module, in one step an entry of its lists.
     pub fn of(alloc: Global, whole: &'a Module) -> Result<Context<'a>, AllocError>
-        ensures { IfOk result (λ context. context_view context ≡ module_context (module_view whole.entry.now)) }
+        ensures { IfOk result
+            (λ context. context_view context ≡ module_context (module_view whole.entry.now)) }
     {
         let mut context = Context {
             types: whole.types.as_slice(),

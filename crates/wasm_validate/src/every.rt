@@ -1,6 +1,6 @@
 // Rules that each entry of a list has to hold.
 ghost use Rattle.std.specs.Prelude.{All};
-ghost use Rattle.wasm_validate.specs.Stands.{Exactly};
+ghost use Rattle.wasm_validate.specs.inner.Stands.{Exactly};
 
 use wasm_module::Entries;
 

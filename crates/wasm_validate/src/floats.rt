@@ -2,7 +2,7 @@
 ghost use Rattle.wasm_module.specs.View.{instr_view, instrs_view};
 ghost use Rattle.wasm_module.specs.Sections.{module_view};
 ghost use Rattle.wasm_validate.specs.Floats.{HasNoFloat, ImportHasNoFloat, IsInteger, IsIntegerResult, OpHasNoFloat, OpsHaveNoFloat};
-ghost use Rattle.wasm_validate.specs.Stands.{Exactly};
+ghost use Rattle.wasm_validate.specs.inner.Stands.{Exactly};
 
 use crate::every::{Rule, all_hold};
 use wasm_module::{

@@ -1,7 +1,8 @@
 // Laws of the typing of instructions.
 ghost use Rattle.wasm_validate.specs.Laws.{MayBeCut, MayBeJoined, MayStandHigher, BeginsTyped};
 
-/// Says laws of the typing, on which the running of typed instructions stands. It does nothing when it runs: its contract is what the
+/// Says laws of the typing, on which the running of typed instructions stands. It does nothing when it runs:
+/// its contract is what the
 /// check has proved.
 pub fn typing_laws()
     ensures cut { MayBeCut }

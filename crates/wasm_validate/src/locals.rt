@@ -1,13 +1,14 @@
 // The locals of a function, found by the ends of their runs.
 ghost use Rattle.std.specs.Prelude.{◌≡◌, ◌<◌, ◌^◌, ◌++◌, slice_get, OnOk};
 ghost use Rattle.wasm_validate.specs.Context.{locals_of};
-ghost use Rattle.wasm_validate.specs.Runs.{AreEnds, IsRunOf};
+ghost use Rattle.wasm_validate.specs.inner.Runs.{AreEnds, IsRunOf};
 
 use std::alloc::AllocError;
 use std::marker::Model;
 use wasm_module::{LocalRun, ValType};
 
-/// The parameters of a function and the runs of its other locals. Contracts see the types of all of them, one by one.
+/// The parameters of a function and the runs of its other locals. Contracts see the types of all of them, one
+/// by one.
 #[derive(Drop)]
 pub(crate) struct Locals<'a> {
     params: &'a [ValType],
@@ -19,7 +20,7 @@ impl<'a> Model for Locals<'a> {
     ghost use Rattle.std.specs.Prelude.{List, ◌++◌};
     ghost use Rattle.wasm_module.specs.declared.types.ValType.{ValType};
     ghost use Rattle.wasm_validate.specs.Context.{locals_of};
-    ghost use Rattle.wasm_validate.specs.Runs.{AreEnds};
+    ghost use Rattle.wasm_validate.specs.inner.Runs.{AreEnds};
 
     ghost Value = { List ValType };
 

@@ -4,9 +4,9 @@ ghost use Rattle.wasm_module.specs.Syntax.{load as op_load, store as op_store, m
 ghost use Rattle.wasm_validate.specs.Operations.{load_of, store_of, moves};
 ghost use Rattle.wasm_validate.specs.Typing.{HasMemory};
 ghost use Rattle.wasm_validate.specs.Views.{context_view};
-ghost use Rattle.wasm_validate.specs.Scopes.{scope_view};
-ghost use Rattle.wasm_validate.specs.Tables.{access_view};
-ghost use Rattle.wasm_validate.specs.Stands.{Exactly, Checks};
+ghost use Rattle.wasm_validate.specs.inner.Scopes.{scope_view};
+ghost use Rattle.wasm_validate.specs.inner.Tables.{access_view};
+ghost use Rattle.wasm_validate.specs.inner.Stands.{Exactly, Checks};
 
 use crate::context::Context;
 use crate::operands::Operands;
@@ -14,7 +14,8 @@ use crate::scope::Scope;
 use std::alloc::AllocError;
 use wasm_module::ValType;
 
-/// The type of a value that is loaded or stored, and the power of two that is the count of its bytes in the memory.
+/// The type of a value that is loaded or stored, and the power of two that is the count of its bytes in the
+/// memory.
 #[derive(Clone, Copy)]
 pub(crate) struct Move {
     pub value: ValType,
@@ -69,7 +70,8 @@ fn has_memory(context: &Context) -> bool
 
 // Whether there is a memory, and the alignment is at most the bytes that are moved.
 fn allows(context: &Context, access: Move, align: u32) -> bool
-    ensures { Exactly (HasMemory (context_view context.now) × (2 ^ align ≤ (access_view access).bytes)) result }
+    ensures { Exactly
+        (HasMemory (context_view context.now) × (2 ^ align ≤ (access_view access).bytes)) result }
 {
     has_memory(context) && align <= access.power
 }
@@ -80,7 +82,8 @@ pub(crate) fn load(
     op: u8,
     align: u32,
 ) -> Result<bool, AllocError>
-    ensures { IfOk result (λ b. (labels offset : _) → Checks (scope_view scope.now) labels (op_load op align offset) operands.old operands.new b) }
+    ensures { IfOk result (λ b. (labels offset : _)
+        → Checks (scope_view scope.now) labels (op_load op align offset) operands.old operands.new b) }
 {
     let Some(access) = load_access(op) else {
         return Ok(false);
@@ -97,7 +100,8 @@ pub(crate) fn store(
     op: u8,
     align: u32,
 ) -> Result<bool, AllocError>
-    ensures { IfOk result (λ b. (labels offset : _) → Checks (scope_view scope.now) labels (op_store op align offset) operands.old operands.new b) }
+    ensures { IfOk result (λ b. (labels offset : _)
+        → Checks (scope_view scope.now) labels (op_store op align offset) operands.old operands.new b) }
 {
     let Some(access) = store_access(op) else {
         return Ok(false);
@@ -109,7 +113,8 @@ pub(crate) fn store(
 }
 
 pub(crate) fn memory_size(scope: &Scope, operands: &mut Operands) -> Result<bool, AllocError>
-    ensures { IfOk result (λ b. (labels : _) → Checks (scope_view scope.now) labels op_memory_size operands.old operands.new b) }
+    ensures { IfOk result (λ b. (labels : _)
+        → Checks (scope_view scope.now) labels op_memory_size operands.old operands.new b) }
 {
     if !has_memory(scope.context) {
         return Ok(false);
@@ -118,7 +123,8 @@ pub(crate) fn memory_size(scope: &Scope, operands: &mut Operands) -> Result<bool
 }
 
 pub(crate) fn memory_grow(scope: &Scope, operands: &mut Operands) -> Result<bool, AllocError>
-    ensures { IfOk result (λ b. (labels : _) → Checks (scope_view scope.now) labels op_memory_grow operands.old operands.new b) }
+    ensures { IfOk result (λ b. (labels : _)
+        → Checks (scope_view scope.now) labels op_memory_grow operands.old operands.new b) }
 {
     if !has_memory(scope.context) {
         return Ok(false);

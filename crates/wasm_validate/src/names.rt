@@ -1,7 +1,7 @@
 // The names of exports: WebAssembly Core 1.0, chapter 3.4.10.
 ghost use Rattle.std.specs.Prelude.{IfOk};
 ghost use Rattle.wasm_validate.specs.Modules.{NamesDiffer};
-ghost use Rattle.wasm_validate.specs.Stands.{Exactly};
+ghost use Rattle.wasm_validate.specs.inner.Stands.{Exactly};
 
 use std::alloc::{AllocError, Global};
 use std::collections::BTreeSet;

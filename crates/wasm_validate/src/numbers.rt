@@ -2,8 +2,8 @@
 ghost use Rattle.std.specs.Prelude.{◌≡◌, IfOk, option_map};
 ghost use Rattle.wasm_module.specs.Syntax.{numeric as op_numeric};
 ghost use Rattle.wasm_validate.specs.Operations.{signature_of, unary, binary};
-ghost use Rattle.wasm_validate.specs.Tables.{signature_view};
-ghost use Rattle.wasm_validate.specs.Stands.{Checks};
+ghost use Rattle.wasm_validate.specs.inner.Tables.{signature_view};
+ghost use Rattle.wasm_validate.specs.inner.Stands.{Checks};
 
 use crate::operands::Operands;
 use std::alloc::AllocError;
@@ -59,7 +59,8 @@ fn binary(operand: ValType, value: ValType) -> Option<Operation>
 
 /// An operation on numbers.
 pub(crate) fn numeric(operands: &mut Operands, op: u8) -> Result<bool, AllocError>
-    ensures { IfOk result (λ b. (cx labels : _) → Checks cx labels (op_numeric op) operands.old operands.new b) }
+    ensures { IfOk result (λ b. (cx labels : _)
+        → Checks cx labels (op_numeric op) operands.old operands.new b) }
 {
     let Some(operation) = signature(op) else {
         return Ok(false);

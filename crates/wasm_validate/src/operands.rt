@@ -2,7 +2,7 @@
 ghost use Rattle.std.specs.Prelude.{◌≡◌, ◌+◌, ◌≤◌, List, [], ◌∷◌, ◌++◌, length, reverse, OnOk, IfOk, Some, None, true, false};
 ghost use Rattle.wasm_module.specs.Syntax.{select as op_select, drop_value};
 ghost use Rattle.wasm_validate.specs.Typing.{types_of};
-ghost use Rattle.wasm_validate.specs.Stands.{State, Fits, Exactly, Joins, TopOff, Pops, Applies, Ends, pushed, Checks};
+ghost use Rattle.wasm_validate.specs.inner.Stands.{State, Fits, Exactly, Joins, TopOff, Pops, Applies, Ends, pushed, Checks};
 
 use std::alloc::{AllocError, Global};
 use std::marker::Model;
@@ -27,11 +27,16 @@ pub(crate) struct Operands {
 
 impl Model for Operands {
     ghost use Rattle.std.specs.Prelude.{◌≤◌, length, reverse, take, drop};
-    ghost use Rattle.wasm_validate.specs.Stands.{State};
+    ghost use Rattle.wasm_validate.specs.inner.Stands.{State};
 
     ghost Value = { State };
 
-    ghost view = { λ operands. (operands.is_open, reverse (drop operands.base operands.entries.items), reverse (take operands.base operands.entries.items)) };
+    ghost view = { λ operands. (
+      operands.is_open,
+      reverse (drop operands.base operands.entries.items),
+      reverse
+          (take operands.base operands.entries.items),
+    ) };
 
     ghost invariant = { λ operands. operands.base ≤ length operands.entries.items };
 }
@@ -111,7 +116,8 @@ impl Operands {
         self.is_open = true;
     }
 
-    /// Takes these types off the top, the last of them on top. It takes no more steps than there are entries, and one.
+    /// Takes these types off the top, the last of them on top. It takes no more steps than there are entries,
+    /// and one.
     pub fn pop_types(&mut self, types: &[ValType]) -> bool
         ensures { Pops (reverse types.now) self.old self.new result }
     {
@@ -225,7 +231,8 @@ impl Operands {
     /// Goes back to the outer block, at the end of a block that left nothing.
     pub fn leave(&mut self, outer: Outer)
         requires within { outer.base ≤ length self.old.2 }
-        ensures { (here below : _) → self.old.1 ≡ [] → self.old.2 ≡ here ++ below → outer.base ≡ length below → self.new ≡ (outer.is_open, here, below) }
+        ensures { (here below : _) → self.old.1 ≡ [] → self.old.2 ≡ here ++ below → outer.base ≡ length below
+            → self.new ≡ (outer.is_open, here, below) }
     {
         self.base = outer.base;
         self.is_open = outer.is_open;

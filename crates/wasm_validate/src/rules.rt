@@ -1,10 +1,10 @@
 // The rules of what a module declares, begins with and exports: WebAssembly Core 1.0, chapters 3.2 and 3.4.
 ghost use Rattle.std.specs.Prelude.{All};
 ghost use Rattle.wasm_module.specs.Sections.{module_view};
-ghost use Rattle.wasm_validate.specs.Groups.{AreDeclared, AreMade};
+ghost use Rattle.wasm_validate.specs.inner.Groups.{AreDeclared, AreMade};
 ghost use Rattle.wasm_validate.specs.Modules.{AreOrdered, IsMemoryType, IsStart, Exists};
 ghost use Rattle.wasm_validate.specs.Views.{context_view};
-ghost use Rattle.wasm_validate.specs.Stands.{Exactly};
+ghost use Rattle.wasm_validate.specs.inner.Stands.{Exactly};
 
 use crate::calls::type_of;
 use crate::constants::is_constant;
@@ -141,7 +141,8 @@ impl<'a> Rule for ElementRule<'a> {
     ghost use Rattle.wasm_validate.specs.Modules.{IsElements};
     ghost use Rattle.wasm_validate.specs.Views.{context_view};
 
-    ghost holds = { λ rule entry. IsElements (context_view rule.context.now) rule.imported.now (element_view entry) };
+    ghost holds = { λ rule entry. IsElements (context_view rule.context.now) rule.imported.now
+        (element_view entry) };
 
     fn is_held(&self, entry: &Element) -> bool {
         if entry.table as usize >= self.context.tables.len() {
@@ -172,7 +173,8 @@ impl<'a> Rule for DataRule<'a> {
     ghost use Rattle.wasm_validate.specs.Modules.{IsData};
     ghost use Rattle.wasm_validate.specs.Views.{context_view};
 
-    ghost holds = { λ rule entry. IsData (context_view rule.context.now) rule.imported.now (segment_view entry) };
+    ghost holds = { λ rule entry. IsData (context_view rule.context.now) rule.imported.now
+        (segment_view entry) };
 
     fn is_held(&self, entry: &Segment) -> bool {
         if entry.memory as usize >= self.context.memories.len() {

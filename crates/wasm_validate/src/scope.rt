@@ -1,8 +1,8 @@
 // What stands around the instructions of a function.
 ghost use Rattle.std.specs.Prelude.{◌≡◌};
 ghost use Rattle.wasm_validate.specs.Context.{function_context};
-ghost use Rattle.wasm_validate.specs.Runs.{AreEnds};
-ghost use Rattle.wasm_validate.specs.Scopes.{scope_view};
+ghost use Rattle.wasm_validate.specs.inner.Runs.{AreEnds};
+ghost use Rattle.wasm_validate.specs.inner.Scopes.{scope_view};
 ghost use Rattle.wasm_validate.specs.Views.{context_view};
 
 use crate::context::Context;
@@ -26,7 +26,8 @@ impl<'a> Scope<'a> {
         ends: &'a [u64],
     ) -> Scope<'a>
         requires ends { AreEnds runs.now ends.now }
-        ensures { scope_view result ≡ function_context (context_view context.entry.now) kind.entry.now runs.entry.now }
+        ensures { scope_view result
+            ≡ function_context (context_view context.entry.now) kind.entry.now runs.entry.now }
     {
         Scope {
             context,

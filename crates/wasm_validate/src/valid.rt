@@ -3,7 +3,7 @@ ghost use Rattle.std.specs.Prelude.{◌≡◌, IfOk, IfErr, MatchResult};
 ghost use Rattle.wasm_module.specs.Sections.{module_view};
 ghost use Rattle.wasm_validate.specs.Floats.{HasNoFloat};
 ghost use Rattle.wasm_validate.specs.Modules.{IsValid};
-ghost use Rattle.wasm_validate.specs.Stands.{Exactly};
+ghost use Rattle.wasm_validate.specs.inner.Stands.{Exactly};
 ghost use Rattle.wasm_validate.specs.declared.valid.ValidFault.{ValidFault};
 
 use crate::codes::are_functions;
@@ -82,15 +82,19 @@ fn is_valid(alloc: Global, whole: &Module) -> Result<bool, AllocError>
     )
 }
 
-/// Whether a module is without floats and valid: WebAssembly Core 1.0, chapter 3. Floats are looked for first, in the whole module.
+/// Whether a module is without floats and valid: WebAssembly Core 1.0, chapter 3. Floats are looked for
+/// first, in the whole module.
 pub fn validate(alloc: Global, whole: Module) -> Result<Valid, ValidFault>
     ensures same { IfOk result (λ valid. valid ≡ whole) }
     ensures no_float { IfOk result (λ valid. HasNoFloat (module_view whole)) }
     ensures valid { IfOk result (λ valid. IsValid (module_view whole)) }
-    ensures float_refused { IfErr result (λ e. (m : _) → e ≡ ValidFault.FloatRefused m → (m ≡ whole) × (HasNoFloat (module_view whole) → ⊥)) }
-    ensures invalid { IfErr result (λ e. (m : _) → e ≡ ValidFault.Invalid m → (m ≡ whole) × HasNoFloat (module_view whole) × (IsValid (module_view whole) → ⊥)) }
+    ensures float_refused { IfErr result (λ e. (m : _) → e ≡ ValidFault.FloatRefused m
+        → (m ≡ whole) × (HasNoFloat (module_view whole) → ⊥)) }
+    ensures invalid { IfErr result (λ e. (m : _) → e ≡ ValidFault.Invalid m
+        → (m ≡ whole) × HasNoFloat (module_view whole) × (IsValid (module_view whole) → ⊥)) }
     ensures memory { IfErr result (λ e. (m : _) → e ≡ ValidFault.Memory m → m ≡ whole) }
-    ensures complete { HasNoFloat (module_view whole) → IsValid (module_view whole) → IfErr result (λ e. e ≡ ValidFault.Memory whole) }
+    ensures complete { HasNoFloat (module_view whole) → IsValid (module_view whole)
+        → IfErr result (λ e. e ≡ ValidFault.Memory whole) }
 {
     if !has_no_float(&whole) {
         return Err(ValidFault::FloatRefused(whole));

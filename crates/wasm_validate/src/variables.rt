@@ -2,8 +2,8 @@
 ghost use Rattle.std.specs.Prelude.{◌≡◌, IfOk, slice_get};
 ghost use Rattle.wasm_module.specs.Syntax.{local_get as op_local_get, local_set as op_local_set, local_tee as op_local_tee, global_get as op_global_get, global_set as op_global_set};
 ghost use Rattle.wasm_validate.specs.Views.{context_view};
-ghost use Rattle.wasm_validate.specs.Scopes.{scope_view};
-ghost use Rattle.wasm_validate.specs.Stands.{Checks};
+ghost use Rattle.wasm_validate.specs.inner.Scopes.{scope_view};
+ghost use Rattle.wasm_validate.specs.inner.Stands.{Checks};
 
 use crate::context::Context;
 use crate::operands::Operands;
@@ -16,7 +16,8 @@ pub(crate) fn local_get(
     operands: &mut Operands,
     index: u32,
 ) -> Result<bool, AllocError>
-    ensures { IfOk result (λ b. (labels : _) → Checks (scope_view scope.now) labels (op_local_get index) operands.old operands.new b) }
+    ensures { IfOk result (λ b. (labels : _)
+        → Checks (scope_view scope.now) labels (op_local_get index) operands.old operands.new b) }
 {
     let Some(value) = scope.locals.get(index) else {
         return Ok(false);
@@ -29,7 +30,8 @@ pub(crate) fn local_set(
     operands: &mut Operands,
     index: u32,
 ) -> Result<bool, AllocError>
-    ensures { IfOk result (λ b. (labels : _) → Checks (scope_view scope.now) labels (op_local_set index) operands.old operands.new b) }
+    ensures { IfOk result (λ b. (labels : _)
+        → Checks (scope_view scope.now) labels (op_local_set index) operands.old operands.new b) }
 {
     let Some(value) = scope.locals.get(index) else {
         return Ok(false);
@@ -42,7 +44,8 @@ pub(crate) fn local_tee(
     operands: &mut Operands,
     index: u32,
 ) -> Result<bool, AllocError>
-    ensures { IfOk result (λ b. (labels : _) → Checks (scope_view scope.now) labels (op_local_tee index) operands.old operands.new b) }
+    ensures { IfOk result (λ b. (labels : _)
+        → Checks (scope_view scope.now) labels (op_local_tee index) operands.old operands.new b) }
 {
     let Some(value) = scope.locals.get(index) else {
         return Ok(false);
@@ -62,7 +65,8 @@ pub(crate) fn global_get(
     operands: &mut Operands,
     index: u32,
 ) -> Result<bool, AllocError>
-    ensures { IfOk result (λ b. (labels : _) → Checks (scope_view scope.now) labels (op_global_get index) operands.old operands.new b) }
+    ensures { IfOk result (λ b. (labels : _)
+        → Checks (scope_view scope.now) labels (op_global_get index) operands.old operands.new b) }
 {
     let Some(found) = global(scope.context, index) else {
         return Ok(false);
@@ -75,7 +79,8 @@ pub(crate) fn global_set(
     operands: &mut Operands,
     index: u32,
 ) -> Result<bool, AllocError>
-    ensures { IfOk result (λ b. (labels : _) → Checks (scope_view scope.now) labels (op_global_set index) operands.old operands.new b) }
+    ensures { IfOk result (λ b. (labels : _)
+        → Checks (scope_view scope.now) labels (op_global_set index) operands.old operands.new b) }
 {
     let Some(found) = global(scope.context, index) else {
         return Ok(false);

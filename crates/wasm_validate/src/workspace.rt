@@ -5,7 +5,8 @@ use crate::labels::Labels;
 use crate::operands::Operands;
 use std::alloc::Global;
 
-/// What is kept from function to function, so that none allocates once it has grown. What it holds says nothing.
+/// What is kept from function to function, so that none allocates once it has grown. What it holds says
+/// nothing.
 #[derive(Drop)]
 pub(crate) struct Workspace {
     pub operands: Operands,

@@ -1,4 +1,5 @@
--- When a call of a device may answer a failure. Each device counts its failures; the count never falls, and stops at 2^64 - 1.
+-- When a call of a device may answer a failure. Each device counts its failures; the count never falls, and
+-- stops at 2^64 - 1.
 use Rattle.std.specs.Prelude.{◌≡◌, ℕ, ◌+◌, ◌-◌, ◌^◌, ◌≤◌, ◌<◌, ◌⊎◌, min, Result, OnOk, OnErr}
 
 -- The count is greater now than before, or stands at its last value.

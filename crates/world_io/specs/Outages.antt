@@ -23,7 +23,8 @@ pub record IsFresh (outages : Outages) (fails : List ℕ) (stop : Option ℕ) : 
 abbrev pub NextIsOut : Outages → Type 0
 NextIsOut outages = IsOut outages.fails.items outages.stop outages.calls
 
--- A call was made: its number is used up, the plan stays, and the count of failures rose by one exactly where it failed.
+-- A call was made: its number is used up, the plan stays, and the count of failures rose by one exactly where
+-- it failed.
 pub record Counted {T E : Type 0} (before now : Outages) (result : Result T E) : Type 0 where
   pub calls : now.calls ≡ one_more before.calls
   pub fails : now.fails.items ≡ before.fails.items

@@ -31,7 +31,8 @@ pub trait Disk {
         ensures same { Same (seen self.old) (seen self.new) }
         ensures cause { HasCause (faults self.old) (faults self.new) result };
 
-    /// Writes over what stands at the place, and on past the end. It fails where the disk would have `2^62` bytes or more.
+    /// Writes over what stands at the place, and on past the end. It fails where the disk would have `2^62`
+    /// bytes or more.
     fn write_at(&mut self, at: u64, bytes: &[u8]) -> Result<(), Failed>
         requires { Within (seen self.old) at }
         ensures told { OnOk result (WritesAt (seen self.old) at bytes.now (seen self.new)) }

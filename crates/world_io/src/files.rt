@@ -216,7 +216,8 @@ impl Disk for FileDisk {
 // Reads the next bytes, again where a signal cuts in.
 fn read_some<R: Read>(reader: &mut R, buf: &mut [u8]) -> Option<usize>
     ensures bound { IfSome result (λ n. n ≤ length buf.new) }
-    ensures bytes { MatchOption result (Keeps (R.remaining reader.old) (R.remaining reader.new)) (λ n. Consumes (R.remaining reader.old) (R.remaining reader.new) (take n buf.new)) }
+    ensures bytes { MatchOption result (Keeps (R.remaining reader.old) (R.remaining reader.new))
+        (λ n. Consumes (R.remaining reader.old) (R.remaining reader.new) (take n buf.new)) }
     ensures end { IfSome result (λ n. n ≡ 0 → 0 < length buf.new → IsAtEnd (R.remaining reader.new)) }
 {
     'again: for _ in 0..u64::MAX {

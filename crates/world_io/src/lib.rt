@@ -1,4 +1,5 @@
-// The outside of the server: sources, sinks and disks, by what they tell of their bytes and how often they failed.
+// The outside of the server: sources, sinks and disks, by what they tell of their bytes and how often they
+// failed.
 #![tactic(auto)]
 
 mod count;

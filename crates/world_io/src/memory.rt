@@ -41,7 +41,8 @@ impl Source for MemorySource {
     fn read(&mut self, buf: &mut [u8]) -> Result<usize, Failed>
         requires { 0 < length buf.old }
         ensures bound { ReadsAtMost result buf.new }
-        ensures bytes { ReadConsumes (Some (left_of self.old.source)) (Some (left_of self.new.source)) result buf.new }
+        ensures bytes { ReadConsumes (Some (left_of self.old.source))
+            (Some (left_of self.new.source)) result buf.new }
         ensures cause { HasCause self.old.outages.faults.count self.new.outages.faults.count result }
         ensures planned { IsErr result ↔ NextIsOut self.old.outages }
         ensures most { IfOk result (λ n. n ≡ min (length buf.old) (length (left_of self.old.source))) }
@@ -90,10 +91,13 @@ impl Sink for MemorySink {
         requires { 0 < length piece.now }
         ensures bound { WritesAtMost result piece.now }
         ensures some { IfOk result (λ n. 0 < n) }
-        ensures bytes { WriteAppends (Some self.old.bytes.items) (Some self.new.bytes.items) result piece.now }
+        ensures bytes { WriteAppends (Some self.old.bytes.items)
+            (Some self.new.bytes.items) result piece.now }
         ensures cause { HasCause self.old.outages.faults.count self.new.outages.faults.count result }
         ensures planned { NextIsOut self.old.outages → IsErr result }
-        ensures only { OnErr result (NextIsOut self.old.outages ⊎ (vec_capacity self.old.bytes < length self.old.bytes.items + length piece.now)) }
+        ensures only { OnErr result
+            (NextIsOut self.old.outages
+            ⊎ (vec_capacity self.old.bytes < length self.old.bytes.items + length piece.now)) }
         ensures most { IfOk result (λ n. n ≡ length piece.now) }
         ensures counted { Counted self.old.outages self.new.outages result }
     {

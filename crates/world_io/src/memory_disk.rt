@@ -19,7 +19,8 @@ pub struct MemoryDisk {
 }
 
 impl MemoryDisk {
-    /// A disk of these bytes. Its calls of the numbers in `fails` fail, counted from 0, and all calls after the one of the number `stop`.
+    /// A disk of these bytes. Its calls of the numbers in `fails` fail, counted from 0, and all calls after
+    /// the one of the number `stop`.
     pub fn new(bytes: Vec<u8>, fails: Vec<u64>, stop: Option<u64>) -> Self
         requires { length bytes.items < 2 ^ 62 }
         ensures seen { result.bytes ≡ bytes }
@@ -58,7 +59,8 @@ impl Disk for MemoryDisk {
 
     fn read(&mut self, at: u64, buf: &mut [u8]) -> Result<usize, Failed>
         ensures bound { ReadsAtMost result buf.new }
-        ensures told { IfOk result (λ n. ReadsAt (Some self.old.bytes.items) at (length buf.old) (take n buf.new)) }
+        ensures told { IfOk result
+            (λ n. ReadsAt (Some self.old.bytes.items) at (length buf.old) (take n buf.new)) }
         ensures same { Same (Some self.old.bytes.items) (Some self.new.bytes.items) }
         ensures cause { HasCause self.old.outages.faults.count self.new.outages.faults.count result }
         ensures planned { IsErr result ↔ NextIsOut self.old.outages }
@@ -71,15 +73,18 @@ impl Disk for MemoryDisk {
         Ok(fill_front(buf, &self.bytes[at as usize..]))
     }
 
-    /// It fails by plan, past the greatest length, and where the bytes need more memory than there is; the bytes are then as before.
+    /// It fails by plan, past the greatest length, and where the bytes need more memory than there is; the
+    /// bytes are then as before.
     fn write_at(&mut self, at: u64, bytes: &[u8]) -> Result<(), Failed>
         requires { Within (Some self.old.bytes.items) at }
-        ensures told { OnOk result (WritesAt (Some self.old.bytes.items) at bytes.now (Some self.new.bytes.items)) }
+        ensures told { OnOk result
+            (WritesAt (Some self.old.bytes.items) at bytes.now (Some self.new.bytes.items)) }
         ensures limit { OnOk result (at + length bytes.now < 2 ^ 62) }
         ensures alike { TellsAlike (Some self.old.bytes.items) (Some self.new.bytes.items) }
         ensures cause { HasCause self.old.outages.faults.count self.new.outages.faults.count result }
         ensures planned { NextIsOut self.old.outages → IsErr result }
-        ensures only { OnErr result (NextIsOut self.old.outages ⊎ (2 ^ 62 ≤ at + length bytes.now) ⊎ (vec_capacity self.old.bytes < at + length bytes.now)) }
+        ensures only { OnErr result (NextIsOut self.old.outages ⊎ (2 ^ 62 ≤ at + length bytes.now)
+            ⊎ (vec_capacity self.old.bytes < at + length bytes.now)) }
         ensures err { OnErr result (self.new.bytes.items ≡ self.old.bytes.items) }
         ensures counted { Counted self.old.outages self.new.outages result }
     {

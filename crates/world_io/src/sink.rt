@@ -15,7 +15,8 @@ pub trait Sink {
     /// How often it failed.
     ghost faults: { Self → ℕ };
 
-    /// Writes the front of the piece, at least a byte of it, and says how much. A call that fails writes nothing.
+    /// Writes the front of the piece, at least a byte of it, and says how much. A call that fails writes
+    /// nothing.
     fn write(&mut self, piece: &[u8]) -> Result<usize, Failed>
         requires { 0 < length piece.now }
         ensures bound { WritesAtMost result piece.now }

@@ -39,7 +39,8 @@ pub trait Source {
     /// How often it failed.
     ghost faults: { Self → ℕ };
 
-    /// Reads the next bytes into the front of the buffer. `Ok(0)` is the end of the input. A call that fails reads nothing.
+    /// Reads the next bytes into the front of the buffer. `Ok(0)` is the end of the input. A call that fails
+    /// reads nothing.
     fn read(&mut self, buf: &mut [u8]) -> Result<usize, Failed>
         requires { 0 < length buf.old }
         ensures bound { ReadsAtMost result buf.new }
@@ -54,12 +55,16 @@ const PIECE: usize = 65536;
 pub fn read_all<S: Source>(alloc: Global, source: &mut S, limit: u64) -> Result<Vec<u8>, ReadStop>
     ensures whole { IfOk result (λ v. GaveAll (S.left source.old) (S.left source.new) v.items) }
     ensures within { IfOk result (λ v. length v.items ≤ limit) }
-    ensures too_long { IfErr result (λ e. e ≡ ReadStop.TooLong → Gave (S.left source.old) (S.left source.new) (limit + 1)) }
-    ensures fault { IfErr result (λ e. e ≡ ReadStop.Fault → Rose (S.faults source.old) (S.faults source.new)) }
+    ensures too_long { IfErr result (λ e. e ≡ ReadStop.TooLong
+        → Gave (S.left source.old) (S.left source.new) (limit + 1)) }
+    ensures fault { IfErr result (λ e. e ≡ ReadStop.Fault
+        → Rose (S.faults source.old) (S.faults source.new)) }
 
     // What was read is lost, and was within the limit.
-    ensures fault_taken { IfErr result (λ e. e ≡ ReadStop.Fault → GaveAtMost (S.left source.old) (S.left source.new) limit) }
-    ensures memory_taken { IfErr result (λ e. e ≡ ReadStop.Memory → GaveAtMost (S.left source.old) (S.left source.new) limit) }
+    ensures fault_taken { IfErr result (λ e. e ≡ ReadStop.Fault
+        → GaveAtMost (S.left source.old) (S.left source.new) limit) }
+    ensures memory_taken { IfErr result (λ e. e ≡ ReadStop.Memory
+        → GaveAtMost (S.left source.old) (S.left source.new) limit) }
     ensures later { S.faults source.old ≤ S.faults source.new }
 
     // No failure is passed over: the count stays but where a fault is answered.

@@ -50,7 +50,8 @@ impl Source for SteadySource {
     }
 }
 
-// Copies the front of the bytes into the front of the buffer, as much as there is and as there is room for, and says how much.
+// Copies the front of the bytes into the front of the buffer, as much as there is and as there is room for,
+// and says how much.
 pub(crate) fn fill_front(buf: &mut [u8], bytes: &[u8]) -> usize
     ensures count { result ≡ min (length buf.old) (length bytes.now) }
     ensures filled { take result buf.new ≡ take (length buf.old) bytes.now }
@@ -110,7 +111,8 @@ impl Sink for SteadySink {
         requires { 0 < length piece.now }
         ensures bound { WritesAtMost result piece.now }
         ensures some { IfOk result (λ n. 0 < n) }
-        ensures bytes { WriteAppends (Some (written_to self.old)) (Some (written_to self.new)) result piece.now }
+        ensures bytes { WriteAppends (Some (written_to self.old))
+            (Some (written_to self.new)) result piece.now }
         ensures cause { HasCause self.old.faults.count self.new.faults.count result }
         ensures full { IsErr result ↔ (room_in self.old ≡ 0) }
         ensures most { IfOk result (λ n. n ≡ min (length piece.now) (room_in self.old)) }

@@ -40,7 +40,8 @@ impl<W: Write> Sink for StreamSink<W> {
         ensures some { IfOk result (λ n. 0 < n) }
         ensures bytes { WriteAppends None None result piece.now }
         ensures cause { HasCause self.old.faults.count self.new.faults.count result }
-        ensures through { WriteAppends (W.contents self.old.stream) (W.contents self.new.stream) result piece.now }
+        ensures through { WriteAppends (W.contents self.old.stream)
+            (W.contents self.new.stream) result piece.now }
     {
         match write_some(&mut self.stream, piece) {
             Some(count) => Ok(count),
@@ -49,11 +50,13 @@ impl<W: Write> Sink for StreamSink<W> {
     }
 }
 
-// Writes the front of the piece, again where a signal cuts in. `None` is a failure, or a writer that takes nothing.
+// Writes the front of the piece, again where a signal cuts in. `None` is a failure, or a writer that takes
+// nothing.
 pub(crate) fn write_some<W: Write>(writer: &mut W, piece: &[u8]) -> Option<usize>
     ensures some { IfSome result (λ n. 0 < n) }
     ensures bound { IfSome result (λ n. n ≤ length piece.now) }
-    ensures bytes { MatchOption result (Keeps (W.contents writer.old) (W.contents writer.new)) (λ n. Appends (W.contents writer.old) (W.contents writer.new) (take n piece.now)) }
+    ensures bytes { MatchOption result (Keeps (W.contents writer.old) (W.contents writer.new))
+        (λ n. Appends (W.contents writer.old) (W.contents writer.new) (take n piece.now)) }
 {
     'again: for _ in 0..u64::MAX {
         match writer.write(piece) {

@@ -50,14 +50,19 @@ module _ (g : Former {0}) where
   option = via (or (const (Unit {0})) g) (λ X. Option (g.Of X)) split joined joined-split split-joined
 
 abbrev pub w_option : {g : Former {0}} → Weighed g → Weighed (option g)
-w_option {g} w = w_via (w_or (w_const (Unit {0})) w) (λ X. Option (g.Of X)) (split g) (joined g) (joined-split g) (split-joined g)
+w_option {g} w =
+    w_via (w_or (w_const (Unit {0})) w) (λ X. Option (g.Of X)) (split g) (joined g) (joined-split g)
+    (split-joined g)
 
 abbrev pub the_former : Former {0} → Former {0}
-the_former g = via (pair (const Rest) (option g)) (λ X. Held (g.Of X)) (λ X d. ((d.at, d.alloc, d.tested), d.value))
+the_former g =
+    via (pair (const Rest) (option g)) (λ X. Held (g.Of X)) (λ X d. ((d.at, d.alloc, d.tested), d.value))
     (λ X v. record { at = v.0.0; alloc = v.0.1; value = v.1; tested = v.0.2 }) (λ X d. refl) (λ X v. refl)
 
 abbrev pub the_weighed : {g : Former {0}} → Weighed g → Weighed (the_former g)
-the_weighed {g} w = w_via (w_pair (w_const Rest) (w_option w)) (λ X. Held (g.Of X)) (λ X d. ((d.at, d.alloc, d.tested), d.value))
+the_weighed {g} w =
+    w_via (w_pair (w_const Rest) (w_option w)) (λ X. Held (g.Of X))
+    (λ X d. ((d.at, d.alloc, d.tested), d.value))
     (λ X v. record { at = v.0.0; alloc = v.0.1; value = v.1; tested = v.0.2 }) (λ X d. refl) (λ X v. refl)
 
 first : {a b c : Gv} → a ≡ b → gcons a c ≡ gcons b c
@@ -73,23 +78,37 @@ module _ (R R' : RattleType) (h : R.Denot → R'.Denot) where
   module _ (a : Alike R R' h) where
     owned_placed : (al : Global) (p : Ptr) (v : Option R.Denot) → owned R' al p (mapped v) ≡ owned R al p v
     owned_placed al p None = refl
-    owned_placed al p (Some x) = λ i. fsep (lies_placed R R' h a full_share p x i) (ghosts.dealloc_token al (bare (lone (a.mir_same i))) p)
+    owned_placed al p (Some x) =
+        λ i. fsep (lies_placed R R' h a full_share p x i)
+        (ghosts.dealloc_token al (bare (lone (a.mir_same i))) p)
 
     lent_placed : (p : Ptr) (v : Option R.Denot) → lent R' p (mapped v) ≡ lent R p v
     lent_placed p None = refl
     lent_placed p (Some x) = lent_at_placed R R' h a p x
 
-  pub the_places : Alike R R' h → Alike (C.the_row R) (C.the_row R') ((the_former this).map R.Denot R'.Denot h)
+  pub the_places : Alike R R' h
+      → Alike (C.the_row R) (C.the_row R') ((the_former this).map R.Denot R'.Denot h)
   the_places a = record {
     mir_same = refl;
-    own_same = λ d i vs. fsep ((Struct (shape (C.the_type R))).own_val (to (C.the_type R) d) vs) (owned_placed a d.alloc d.at d.value i);
-    shr_same = λ d i b o. beside ((Struct (shape (C.the_type R))).shr_at (to (C.the_type R) d) b o) (lent_placed a d.at d.value i);
+    own_same =
+        λ d i vs. fsep ((Struct (shape (C.the_type R))).own_val (to (C.the_type R) d) vs)
+        (owned_placed a d.alloc d.at d.value i);
+    shr_same =
+        λ d i b o. beside ((Struct (shape (C.the_type R))).shr_at (to (C.the_type R) d) b o)
+        (lent_placed a d.at d.value i);
   }
 
   placed_code : Recodes R R' h → (p : Ptr) (al : Global) (t : count_of p < 2 ^ 63) (v : Option R.Denot)
-      → (C.the_row R').coded.code (record { at = p; alloc = al; value = mapped v; tested = t }) ≡ (C.the_row R).coded.code (record { at = p; alloc = al; value = v; tested = t })
+      → (C.the_row R').coded.code (record {
+        at = p;
+        alloc = al;
+        value = mapped v;
+        tested = t;
+      }) ≡ (C.the_row R).coded.code
+      (record { at = p; alloc = al; value = v; tested = t })
   placed_code e p al t None = refl
   placed_code e p al t (Some x) = second (first (second (e x)))
 
-  pub the_codes_placed : Recodes R R' h → Recodes (C.the_row R) (C.the_row R') ((the_former this).map R.Denot R'.Denot h)
+  pub the_codes_placed : Recodes R R' h
+      → Recodes (C.the_row R) (C.the_row R') ((the_former this).map R.Denot R'.Denot h)
   the_codes_placed e d = placed_code e d.at d.alloc d.tested d.value

@@ -5,7 +5,7 @@ use Rattle.wasm_module.specs.View.{instr_view, instrs_view}
 use Rattle.wasm_module.specs.Spelling.{SpellsU32, SpellsMark, SpellsEach}
 use Rattle.wasm_module.specs.Syntax.{block, loop, if_else}
 use Rattle.wasm_module.specs.Instructions.{SpellsOp}
-use Rattle.wasm_encode.specs.Gains.{IsSpelled}
+use Rattle.wasm_encode.specs.inner.Gains.{IsSpelled}
 use Rattle.wasm_encode.proofs.Heights.{op_height, ops_height, item_height}
 use Rattle.wasm_module.proofs.Views.{view_unreachable, view_nop, view_return, view_drop_value, view_select, view_memory_size, view_memory_grow, view_br, view_br_if, view_call, view_call_indirect, view_local_get, view_local_set, view_local_tee, view_global_get, view_global_set, view_numeric, view_float_plain, view_load, view_store, view_float_memory, view_block, view_loop, view_if}
 use Rattle.wasm_encode.proofs.Shortest.{gains_then, gains_mark, gains_none, gains_item, item_spelled}

@@ -1,6 +1,6 @@
 use Rattle.std.proofs.Common.{map, take}
 use Rattle.wasm_encode.proofs.Heights.{op_height, ops_height}
-use Rattle.wasm_encode.specs.Gains.{Gains}
+use Rattle.wasm_encode.specs.inner.Gains.{Gains}
 use Rattle.wasm_module.specs.Instructions.{SpellsOp}
 use Rattle.wasm_module.specs.Spelling.{SpellsEach}
 use Rattle.wasm_module.specs.View.{instr_view, instrs_view}

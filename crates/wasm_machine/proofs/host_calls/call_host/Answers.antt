@@ -4,7 +4,7 @@ use Rattle.wasm_module.specs.declared.types.FuncType.{FuncType}
 use Rattle.wasm_steps.specs.Steps.{answered}
 use Rattle.wasm_stack.specs.Held.{Held, without}
 use Rattle.wasm_stack.specs.Standing.{held}
-use Rattle.wasm_machine.specs.Calls.{arguments_of}
+use Rattle.wasm_machine.specs.inner.Calls.{arguments_of}
 use Rattle.wasm_machine.proofs.Arguments.{answer_is_value}
 use Rattle.wasm_machine.proofs.host_calls.call_host.Goals as goal
 

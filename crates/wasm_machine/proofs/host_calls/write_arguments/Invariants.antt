@@ -1,5 +1,5 @@
 use Rattle.std.proofs.Common.{◌≡◌, ◌-◌, ◌≤◌, length, take, vec_capacity}
-use Rattle.wasm_machine.specs.Calls.{arguments_of}
+use Rattle.wasm_machine.specs.inner.Calls.{arguments_of}
 use Rattle.wasm_machine.proofs.host_calls.write_arguments.Given as goal
 
 abbrev pub invariant-loop-at : goal.invariant-loop-at

@@ -2,7 +2,7 @@ use Rattle.std.proofs.Common.{◌≡◌, map, sym, subst, arith, List}
 use Rattle.std.proofs.lemmas.Result.{err_from_is_err_and}
 use Rattle.wasm_module.specs.Sections.{module_view, AreSections, Section}
 use Rattle.wasm_module.specs.Limits.{WithinBytes, IsTooLarge, IsWithin}
-use Rattle.wasm_module.specs.Parts.{section_view}
+use Rattle.wasm_module.specs.inner.Parts.{section_view}
 use Rattle.wasm_module.specs.declared.module.Limit.{Limit}
 use Rattle.wasm_module.specs.declared.sections.Section.{Section as Found}
 use Rattle.wasm_module.proofs.Lifts.{limited_are}

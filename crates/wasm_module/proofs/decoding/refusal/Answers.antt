@@ -1,5 +1,5 @@
 use Rattle.std.proofs.Common.{◌≡◌, map}
-use Rattle.wasm_module.specs.Parts.{section_view}
+use Rattle.wasm_module.specs.inner.Parts.{section_view}
 use Rattle.wasm_module.specs.declared.module.Limit.TheVariants as limits
 use Rattle.wasm_module.proofs.Refused.{fault_is, skimmed, too_many, too_deep, skimmed_none}
 use Rattle.wasm_module.proofs.decoding.refusal.Goals as goal

@@ -7,7 +7,7 @@ use Rattle.wasm_module.specs.declared.instr.Instr.TheFolds.{fold-roll-Instrs}
 use Rattle.wasm_module.specs.View.{op_step, instrs_step, instr_view, instrs_view, items_view}
 use Rattle.wasm_module.specs.Values.{SpellsBlockType}
 use Rattle.wasm_module.specs.Instructions.{spells_none}
-use Rattle.wasm_module.specs.Nested.{SpellsInner, SpellsBranches, IsEnd}
+use Rattle.wasm_module.specs.inner.Nested.{SpellsInner, SpellsBranches, IsEnd}
 use Rattle.wasm_module.proofs.Fronts.{then_begins, then_only, then_none_first, then_none_second}
 use Rattle.wasm_module.proofs.Bodies.{pushed, pushed_nesting, later_ops_start, later_ops_step, later_ops_none, later_ops_end, later_ops_short, body_found, no_end_byte}
 use Rattle.wasm_module.proofs.Nests.{inner_body, inner_found, branches_found_one, branches_found_two, branches_none_first, branches_none_second, branches_only_one, branches_only_two, view_empty, tag_block, tag_loop, tag_if, nest_found, nest_only, nest_none}

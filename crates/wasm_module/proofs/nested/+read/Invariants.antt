@@ -3,7 +3,7 @@ use Rattle.wasm_module.specs.Syntax.{Ops, ops_nesting}
 use Rattle.wasm_module.specs.View.{instr_view, items_view}
 use Rattle.wasm_module.specs.Instructions.{SpellsOps}
 use Rattle.byte_fields.specs.Front.{Begins}
-use Rattle.wasm_module.specs.Nested.{SpellsBody}
+use Rattle.wasm_module.specs.inner.Nested.{SpellsBody}
 use Rattle.wasm_module.proofs.Bodies.{LaterOps}
 use Rattle.wasm_module.proofs.nested.+read.Given as goal
 

@@ -1,6 +1,6 @@
 use Rattle.std.proofs.Common.{map, drop}
 use Rattle.wasm_module.specs.Sections.{AreOrdered}
-use Rattle.wasm_module.specs.Parts.{section_view}
+use Rattle.wasm_module.specs.inner.Parts.{section_view}
 use Rattle.wasm_module.proofs.sections.are_ordered.Given as goal
 
 abbrev pub invariant-each : goal.invariant-each

@@ -1,6 +1,6 @@
 use Rattle.std.proofs.Common.{◌≡◌, map, drop}
 use Rattle.wasm_module.specs.Sections.{content_of}
-use Rattle.wasm_module.specs.Parts.{section_view}
+use Rattle.wasm_module.specs.inner.Parts.{section_view}
 use Rattle.wasm_module.proofs.sections.content_of.Given as goal
 
 abbrev pub invariant-loop-section : goal.invariant-loop-section

@@ -3,7 +3,7 @@ use Rattle.std.proofs.lemmas.List.{append-nil, map-append}
 use Rattle.std.proofs.lemmas.Result.{err_from_is_err_and}
 use Rattle.wasm_module.specs.Spelling.{SpellsEach, each_none}
 use Rattle.wasm_module.specs.Sections.{Section, SpellsSection}
-use Rattle.wasm_module.specs.Parts.{section_view}
+use Rattle.wasm_module.specs.inner.Parts.{section_view}
 use Rattle.wasm_module.proofs.Lists.{Later, each_more, later_step, later_none}
 use Rattle.wasm_module.proofs.Sizes.{none_left}
 use Rattle.wasm_module.proofs.Ordered.{each_start, later_some, later_all}

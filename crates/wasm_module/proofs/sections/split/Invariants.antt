@@ -1,7 +1,7 @@
 use Rattle.std.proofs.Common.{◌≡◌, ℕ, [], ◌++◌, List, length, map}
 use Rattle.wasm_module.specs.Spelling.{SpellsEach}
 use Rattle.wasm_module.specs.Sections.{Section, SpellsSection}
-use Rattle.wasm_module.specs.Parts.{section_view}
+use Rattle.wasm_module.specs.inner.Parts.{section_view}
 use Rattle.wasm_module.proofs.Lists.{Later}
 use Rattle.wasm_module.proofs.sections.split.Given as goal
 

@@ -1,6 +1,6 @@
 use Rattle.std.proofs.Common.{[], ◌∷◌, ap, reverse}
 use Rattle.std.proofs.lemmas.Result.{err_from_is_err_and}
-use Rattle.wasm_module.specs.Opens.{after, opens}
+use Rattle.wasm_module.specs.inner.Opens.{after, opens}
 use Rattle.wasm_module.specs.declared.skim.Open.TheVariants.{Block}
 use Rattle.wasm_module.proofs.Opens.{alike_step, alike_none, alike_found, alike_only}
 use Rattle.wasm_module.proofs.skim.skim_expression.Goals as goal

@@ -1,5 +1,5 @@
 use Rattle.std.proofs.Common.{[], ◌∷◌, length}
-use Rattle.wasm_module.specs.Opens.{ClosesAlike, opens}
+use Rattle.wasm_module.specs.inner.Opens.{ClosesAlike, opens}
 use Rattle.wasm_module.specs.declared.skim.Open.TheVariants.{Block}
 use Rattle.wasm_module.proofs.skim.skim_expression.Given as goal
 

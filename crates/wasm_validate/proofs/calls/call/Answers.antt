@@ -1,7 +1,7 @@
 use Rattle.std.proofs.Common.{reverse}
 use Rattle.wasm_module.specs.Syntax.{call}
 use Rattle.wasm_validate.specs.Typing.{types_of, call_typed}
-use Rattle.wasm_validate.specs.Scopes.{scope_view}
+use Rattle.wasm_validate.specs.inner.Scopes.{scope_view}
 use Rattle.wasm_validate.proofs.Images.{never}
 use Rattle.wasm_validate.proofs.Applied.{any_applied}
 use Rattle.wasm_validate.proofs.Instructions.{only_call, no_call}

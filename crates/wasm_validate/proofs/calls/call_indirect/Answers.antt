@@ -3,7 +3,7 @@ use Rattle.std.proofs.lemmas.Option.{slice_get_past}
 use Rattle.wasm_module.specs.Syntax.{call_indirect}
 use Rattle.wasm_module.specs.declared.types.ValType.TheVariants.{I32}
 use Rattle.wasm_validate.specs.Typing.{types_of, call_indirect_typed}
-use Rattle.wasm_validate.specs.Scopes.{scope_view}
+use Rattle.wasm_validate.specs.inner.Scopes.{scope_view}
 use Rattle.wasm_validate.proofs.Stacks.{stop_first}
 use Rattle.wasm_validate.proofs.Images.{never, only_none}
 use Rattle.wasm_validate.proofs.Applied.{any_applied, applied_later, found_at}

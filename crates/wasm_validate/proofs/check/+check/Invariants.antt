@@ -1,7 +1,7 @@
 use Rattle.std.proofs.Common.{◌≡◌, ◌+◌, ◌*◌, ◌-◌, length, drop}
 use Rattle.wasm_module.specs.Syntax.{nesting, ops_nesting}
 use Rattle.wasm_module.specs.View.{instr_view, instrs_view, items_view}
-use Rattle.wasm_validate.specs.Scopes.{scope_view}
+use Rattle.wasm_validate.specs.inner.Scopes.{scope_view}
 use Rattle.wasm_validate.proofs.Lists.{Onward}
 use Rattle.wasm_validate.proofs.check.+check.Given as goal
 

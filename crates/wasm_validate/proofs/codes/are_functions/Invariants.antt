@@ -1,5 +1,5 @@
 use Rattle.std.proofs.Common.{length, ◌-◌, ◌≤◌}
-use Rattle.wasm_validate.specs.Groups.{AreFunctions}
+use Rattle.wasm_validate.specs.inner.Groups.{AreFunctions}
 use Rattle.wasm_validate.specs.Views.{context_view}
 use Rattle.wasm_validate.proofs.codes.are_functions.Given as goal
 

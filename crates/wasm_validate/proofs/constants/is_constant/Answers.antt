@@ -3,7 +3,7 @@ use Rattle.wasm_module.specs.View.{items_view}
 use Rattle.wasm_module.specs.Syntax.{Ops}
 use Rattle.wasm_module.proofs.Views.{view_instrs}
 use Rattle.wasm_validate.specs.Typing.{IsConstant}
-use Rattle.wasm_validate.specs.Stands.{Exactly}
+use Rattle.wasm_validate.specs.inner.Stands.{Exactly}
 use Rattle.wasm_validate.proofs.OneConstant.{one_item, is_single}
 use Rattle.wasm_validate.proofs.constants.is_constant.Goals as goal
 

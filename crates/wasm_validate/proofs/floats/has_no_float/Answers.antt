@@ -5,7 +5,7 @@ use Rattle.wasm_module.specs.Entries.{Global, Elements, Function, Data, global_v
 use Rattle.wasm_module.specs.Syntax.{Ops}
 use Rattle.wasm_module.specs.declared.module.Module.{Module}
 use Rattle.wasm_validate.specs.Floats.{HasNoFloat, TypeHasNoFloat, ImportHasNoFloat, IsInteger, OpsHaveNoFloat}
-use Rattle.wasm_validate.specs.Stands.{Exactly}
+use Rattle.wasm_validate.specs.inner.Stands.{Exactly}
 use Rattle.wasm_validate.proofs.Imported.{unmapped}
 use Rattle.wasm_validate.proofs.floats.has_no_float.Goals as goal
 

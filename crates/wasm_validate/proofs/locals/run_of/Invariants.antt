@@ -1,6 +1,6 @@
 use Rattle.std.proofs.Common.{◌-◌, ◌<◌, ◌^◌, ◌+◌, ◌≤◌, List, length}
 use Rattle.wasm_module.specs.declared.codes.LocalRun.{LocalRun}
-use Rattle.wasm_validate.specs.Runs.{AreEnds, reach}
+use Rattle.wasm_validate.specs.inner.Runs.{AreEnds, reach}
 use Rattle.wasm_validate.proofs.locals.run_of.Given as goal
 
 abbrev pub invariant-loop-low : goal.invariant-loop-low

@@ -1,6 +1,6 @@
 use Rattle.std.proofs.Common.{length, ◌-◌, ◌≡◌, ◌^◌, ◌≤◌, take}
 use Rattle.std.specs.Prelude.{min}
-use Rattle.wasm_validate.specs.Runs.{AreEnds, reach}
+use Rattle.wasm_validate.specs.inner.Runs.{AreEnds, reach}
 use Rattle.wasm_validate.proofs.locals.write_ends.Given as goal
 
 abbrev pub invariant-loop-at : goal.invariant-loop-at

@@ -2,7 +2,7 @@ use Rattle.std.proofs.Common.{[], ◌∷◌}
 use Rattle.wasm_module.specs.Syntax.{memory_size}
 use Rattle.wasm_module.specs.declared.types.ValType.TheVariants.{I32}
 use Rattle.wasm_validate.specs.Typing.{memory_size_typed}
-use Rattle.wasm_validate.specs.Scopes.{scope_view}
+use Rattle.wasm_validate.specs.inner.Scopes.{scope_view}
 use Rattle.wasm_validate.proofs.Images.{never}
 use Rattle.wasm_validate.proofs.Applied.{any_applied}
 use Rattle.wasm_validate.proofs.Instructions.{only_memory_size, no_memory_size}

@@ -1,6 +1,6 @@
 use Rattle.std.proofs.Common.{sym}
-use Rattle.wasm_validate.specs.Scopes.{scope_view}
-use Rattle.wasm_validate.specs.Tables.{access_view}
+use Rattle.wasm_validate.specs.inner.Scopes.{scope_view}
+use Rattle.wasm_validate.specs.inner.Tables.{access_view}
 use Rattle.wasm_validate.proofs.Images.{never}
 use Rattle.wasm_validate.proofs.Applied.{store_applied}
 use Rattle.wasm_validate.proofs.Instructions.{no_store, bad_store}

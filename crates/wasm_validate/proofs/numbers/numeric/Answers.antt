@@ -1,5 +1,5 @@
 use Rattle.std.proofs.Common.{sym}
-use Rattle.wasm_validate.specs.Tables.{signature_view}
+use Rattle.wasm_validate.specs.inner.Tables.{signature_view}
 use Rattle.wasm_validate.proofs.Images.{never}
 use Rattle.wasm_validate.proofs.Applied.{numeric_applied, binary_applied, unary_applied}
 use Rattle.wasm_validate.proofs.Instructions.{no_numeric}

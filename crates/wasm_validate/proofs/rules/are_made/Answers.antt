@@ -6,9 +6,9 @@ use Rattle.wasm_module.specs.Syntax.{Ops}
 use Rattle.wasm_module.specs.declared.module.Module.{Module}
 use Rattle.wasm_module.specs.declared.types.GlobalType.{GlobalType}
 use Rattle.wasm_validate.specs.Context.{Context}
-use Rattle.wasm_validate.specs.Groups.{AreMade}
+use Rattle.wasm_validate.specs.inner.Groups.{AreMade}
 use Rattle.wasm_validate.specs.Modules.{IsGlobal, IsElements, IsData, IsStart, Exists}
-use Rattle.wasm_validate.specs.Stands.{Exactly}
+use Rattle.wasm_validate.specs.inner.Stands.{Exactly}
 use Rattle.wasm_validate.specs.Views.{context_view}
 use Rattle.wasm_validate.proofs.Imported.{unmapped}
 use Rattle.wasm_validate.proofs.rules.are_made.Goals as goal

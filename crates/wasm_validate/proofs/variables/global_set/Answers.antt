@@ -1,7 +1,7 @@
 use Rattle.std.proofs.Common.{sym, [], ◌∷◌}
 use Rattle.wasm_module.specs.Syntax.{global_set}
 use Rattle.wasm_validate.specs.Typing.{global_set_typed}
-use Rattle.wasm_validate.specs.Scopes.{scope_view}
+use Rattle.wasm_validate.specs.inner.Scopes.{scope_view}
 use Rattle.wasm_validate.proofs.Images.{never}
 use Rattle.wasm_validate.proofs.Applied.{any_applied, not_true, not_false}
 use Rattle.wasm_validate.proofs.Instructions.{only_global_set, no_global_set, constant_global_set}

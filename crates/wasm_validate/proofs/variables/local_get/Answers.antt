@@ -1,7 +1,7 @@
 use Rattle.std.proofs.Common.{sym, [], ◌∷◌}
 use Rattle.wasm_module.specs.Syntax.{local_get}
 use Rattle.wasm_validate.specs.Typing.{local_get_typed}
-use Rattle.wasm_validate.specs.Scopes.{scope_view}
+use Rattle.wasm_validate.specs.inner.Scopes.{scope_view}
 use Rattle.wasm_validate.proofs.Images.{never}
 use Rattle.wasm_validate.proofs.Applied.{any_applied}
 use Rattle.wasm_validate.proofs.Instructions.{only_local_get, no_local_get}

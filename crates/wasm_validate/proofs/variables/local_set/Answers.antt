@@ -1,7 +1,7 @@
 use Rattle.std.proofs.Common.{sym, [], ◌∷◌}
 use Rattle.wasm_module.specs.Syntax.{local_set}
 use Rattle.wasm_validate.specs.Typing.{local_set_typed}
-use Rattle.wasm_validate.specs.Scopes.{scope_view}
+use Rattle.wasm_validate.specs.inner.Scopes.{scope_view}
 use Rattle.wasm_validate.proofs.Images.{never}
 use Rattle.wasm_validate.proofs.Applied.{any_applied}
 use Rattle.wasm_validate.proofs.Instructions.{only_local_set, no_local_set}

@@ -1,6 +1,6 @@
 use Rattle.std.proofs.Common.{◌≡◌, ℕ, ◌+◌, ◌-◌, ◌<◌, set, ap, ◌∙◌, arith}
 use Rattle.call_frames.specs.Stack.{left}
-use Rattle.call_frames.specs.View.{stack_of}
+use Rattle.call_frames.specs.inner.View.{stack_of}
 use Rattle.call_frames.proofs.Frames.{at_end, operands_in}
 use Rattle.std.proofs.lemmas.List.{get_or_read}
 use Rattle.call_frames.proofs.Steps.{sound_put}

@@ -1,5 +1,5 @@
 use Rattle.std.proofs.Common.{length, ◌-◌, ◌≤◌, take, map, []}
-use Rattle.wasm_validate.specs.Adds.{Adds}
+use Rattle.wasm_validate.specs.inner.Adds.{Adds}
 use Rattle.wasm_validate.specs.Views.{context_view}
 use Rattle.wasm_validate.proofs.context.Context.add_globals.Given as goal
 

@@ -1,6 +1,6 @@
 use Rattle.std.proofs.Common.{length, ◌-◌, ◌≤◌, take}
 use Rattle.std.specs.List.{filter_map}
-use Rattle.wasm_validate.specs.Adds.{Adds}
+use Rattle.wasm_validate.specs.inner.Adds.{Adds}
 use Rattle.wasm_validate.specs.Context.{imported_func, imported_table, imported_memory, imported_global}
 use Rattle.wasm_validate.specs.Views.{context_view}
 use Rattle.wasm_validate.proofs.context.Context.add_imports.Given as goal

@@ -1,5 +1,5 @@
 use Rattle.std.proofs.Common.{length, ◌≤◌, drop, reverse}
-use Rattle.wasm_validate.specs.Stands.{Popped}
+use Rattle.wasm_validate.specs.inner.Stands.{Popped}
 use Rattle.wasm_validate.proofs.operands.Operands.pop_types.Given as goal
 
 abbrev pub invariant-loop-left : goal.invariant-loop-left
