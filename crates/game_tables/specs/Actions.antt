@@ -1,6 +1,6 @@
 -- The actions of players.
 use Rattle.std.specs.Prelude.{ℕ, Bool, true, false, Option, Some, None}
-use Rattle.game_tables.specs.Kinds.{building}
+use Rattle.game_tables.specs.Kinds.{is_building}
 use Rattle.game_tables.specs.declared.action.Action.{Action}
 use Rattle.game_tables.specs.declared.action.Action.TheVariants.{DropLoad, Transfer, Withdraw, Pickup, Heal, RangedHeal, Dismantle, Attack, Harvest, Repair, Build, RangedMassAttack, RangedAttack, Suicide, ClaimController, Upgrade, Reserve, AttackController, CreateSite, RemoveSite, SpawnCreep, Move}
 use Rattle.game_tables.specs.declared.kind.Kind.{Kind}
@@ -34,69 +34,69 @@ action_number SpawnCreep = 21
 action_number Move = 22
 
 -- the part that a creep needs for it
-abbrev pub part_for : Action → Option Part
-part_for Heal = Some part.Heal
-part_for RangedHeal = Some part.Heal
-part_for Dismantle = Some part.Work
-part_for Attack = Some part.Attack
-part_for Harvest = Some part.Work
-part_for Repair = Some part.Work
-part_for Build = Some part.Work
-part_for RangedMassAttack = Some part.RangedAttack
-part_for RangedAttack = Some part.RangedAttack
-part_for ClaimController = Some part.Claim
-part_for Upgrade = Some part.Work
-part_for Reserve = Some part.Claim
-part_for AttackController = Some part.Claim
-part_for Move = Some part.Move
-part_for _ = None
+abbrev pub needed_part : Action → Option Part
+needed_part Heal = Some part.Heal
+needed_part RangedHeal = Some part.Heal
+needed_part Dismantle = Some part.Work
+needed_part Attack = Some part.Attack
+needed_part Harvest = Some part.Work
+needed_part Repair = Some part.Work
+needed_part Build = Some part.Work
+needed_part RangedMassAttack = Some part.RangedAttack
+needed_part RangedAttack = Some part.RangedAttack
+needed_part ClaimController = Some part.Claim
+needed_part Upgrade = Some part.Work
+needed_part Reserve = Some part.Claim
+needed_part AttackController = Some part.Claim
+needed_part Move = Some part.Move
+needed_part _ = None
 
 -- the greatest range at which its target may be
-abbrev pub range_for : Action → Option ℕ
-range_for Transfer = Some 1
-range_for Withdraw = Some 1
-range_for Pickup = Some 1
-range_for Heal = Some 1
-range_for RangedHeal = Some 3
-range_for Dismantle = Some 1
-range_for Attack = Some 1
-range_for Harvest = Some 1
-range_for Repair = Some 3
-range_for Build = Some 3
-range_for RangedAttack = Some 3
-range_for ClaimController = Some 1
-range_for Upgrade = Some 3
-range_for Reserve = Some 1
-range_for AttackController = Some 1
-range_for _ = None
+abbrev pub max_range : Action → Option ℕ
+max_range Transfer = Some 1
+max_range Withdraw = Some 1
+max_range Pickup = Some 1
+max_range Heal = Some 1
+max_range RangedHeal = Some 3
+max_range Dismantle = Some 1
+max_range Attack = Some 1
+max_range Harvest = Some 1
+max_range Repair = Some 3
+max_range Build = Some 3
+max_range RangedAttack = Some 3
+max_range ClaimController = Some 1
+max_range Upgrade = Some 3
+max_range Reserve = Some 1
+max_range AttackController = Some 1
+max_range _ = None
 
 -- whether an object of the kind may be its target, where it isn't the actor
-abbrev pub targets : Action → Kind → Bool
-targets Transfer Creep = true
-targets Transfer Spawn = true
-targets Transfer Extension = true
-targets Transfer Storage = true
-targets Transfer Container = true
-targets Withdraw Spawn = true
-targets Withdraw Extension = true
-targets Withdraw Storage = true
-targets Withdraw Container = true
-targets Pickup Pile = true
-targets Heal Creep = true
-targets RangedHeal Creep = true
-targets Dismantle kind = building kind
-targets Attack Creep = true
-targets Attack kind = building kind
-targets Harvest Source = true
-targets Repair kind = building kind
-targets Build Site = true
-targets RangedAttack Creep = true
-targets RangedAttack kind = building kind
-targets ClaimController Controller = true
-targets Upgrade Controller = true
-targets Reserve Controller = true
-targets AttackController Controller = true
-targets _ _ = false
+abbrev pub is_target : Action → Kind → Bool
+is_target Transfer Creep = true
+is_target Transfer Spawn = true
+is_target Transfer Extension = true
+is_target Transfer Storage = true
+is_target Transfer Container = true
+is_target Withdraw Spawn = true
+is_target Withdraw Extension = true
+is_target Withdraw Storage = true
+is_target Withdraw Container = true
+is_target Pickup Pile = true
+is_target Heal Creep = true
+is_target RangedHeal Creep = true
+is_target Dismantle kind = is_building kind
+is_target Attack Creep = true
+is_target Attack kind = is_building kind
+is_target Harvest Source = true
+is_target Repair kind = is_building kind
+is_target Build Site = true
+is_target RangedAttack Creep = true
+is_target RangedAttack kind = is_building kind
+is_target ClaimController Controller = true
+is_target Upgrade Controller = true
+is_target Reserve Controller = true
+is_target AttackController Controller = true
+is_target _ _ = false
 
 -- what drops a dismantle, a repair, a build and an attack of the same creep
 abbrev pub drops_dismantle : Action → Bool
@@ -118,21 +118,21 @@ drops_attack Build = true
 drops_attack by = drops_build by
 
 -- whether an entry of the first action drops one of the second by the same creep
-abbrev pub drops : Action → Action → Bool
-drops Heal RangedHeal = true
-drops RangedHeal AttackController = true
-drops Heal AttackController = true
-drops by Dismantle = drops_dismantle by
-drops by Repair = drops_repair by
-drops by Build = drops_build by
-drops by Attack = drops_attack by
-drops Attack Harvest = true
-drops by Harvest = drops_attack by
-drops Build RangedMassAttack = true
-drops Repair RangedMassAttack = true
-drops RangedHeal RangedMassAttack = true
-drops RangedMassAttack RangedAttack = true
-drops Build RangedAttack = true
-drops Repair RangedAttack = true
-drops RangedHeal RangedAttack = true
-drops _ _ = false
+abbrev pub dominates : Action → Action → Bool
+dominates Heal RangedHeal = true
+dominates RangedHeal AttackController = true
+dominates Heal AttackController = true
+dominates by Dismantle = drops_dismantle by
+dominates by Repair = drops_repair by
+dominates by Build = drops_build by
+dominates by Attack = drops_attack by
+dominates Attack Harvest = true
+dominates by Harvest = drops_attack by
+dominates Build RangedMassAttack = true
+dominates Repair RangedMassAttack = true
+dominates RangedHeal RangedMassAttack = true
+dominates RangedMassAttack RangedAttack = true
+dominates Build RangedAttack = true
+dominates Repair RangedAttack = true
+dominates RangedHeal RangedAttack = true
+dominates _ _ = false

@@ -6,8 +6,8 @@ use Rattle.game_tables.specs.declared.kind.Part.{Part}
 use Rattle.game_tables.specs.declared.kind.Part.TheVariants.{Move, Work, Carry, Attack, RangedAttack, Tough, Heal, Claim}
 
 -- the most parts of a body
-abbrev pub parts_bound : ℕ
-parts_bound = 50
+abbrev pub most_parts : ℕ
+most_parts = 50
 
 -- the energy that a part costs
 abbrev pub part_cost : Part → ℕ

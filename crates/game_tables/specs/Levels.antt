@@ -9,11 +9,15 @@ last_level = 8
 
 -- the progress at which the next level is reached
 abbrev pub totals : List (Option ℕ)
-totals = None ∷ Some 200 ∷ Some 45000 ∷ Some 135000 ∷ Some 405000 ∷ Some 1215000 ∷ Some 3645000 ∷ Some 10935000 ∷ None ∷ []
+totals =
+    None ∷ Some 200 ∷ Some 45000 ∷ Some 135000 ∷ Some 405000 ∷ Some 1215000 ∷ Some 3645000 ∷ Some 10935000
+    ∷ None ∷ []
 
 -- the full timer to the loss of a level
 abbrev pub downgrades : List (Option ℕ)
-downgrades = None ∷ Some 20000 ∷ Some 10000 ∷ Some 20000 ∷ Some 40000 ∷ Some 80000 ∷ Some 120000 ∷ Some 150000 ∷ Some 200000 ∷ []
+downgrades =
+    None ∷ Some 20000 ∷ Some 10000 ∷ Some 20000 ∷ Some 40000 ∷ Some 80000 ∷ Some 120000 ∷ Some 150000
+    ∷ Some 200000 ∷ []
 
 -- how many buildings of a kind a room may have, with those that sites are for
 abbrev pub counts : Kind → List ℕ
@@ -25,11 +29,11 @@ counts Road = 2500 ∷ 2500 ∷ 2500 ∷ 2500 ∷ 2500 ∷ 2500 ∷ 2500 ∷ 250
 counts _ = []
 
 -- the entry of a level, and none past the last
-abbrev pub total_at : ℕ → Option ℕ
-total_at level = slice_index_or totals level None
+abbrev pub total_for_next : ℕ → Option ℕ
+total_for_next level = slice_index_or totals level None
 
-abbrev pub downgrade_at : ℕ → Option ℕ
-downgrade_at level = slice_index_or downgrades level None
+abbrev pub downgrade_number : ℕ → Option ℕ
+downgrade_number level = slice_index_or downgrades level None
 
-abbrev pub count_at : Kind → ℕ → ℕ
-count_at kind level = slice_index (counts kind) level
+abbrev pub allowed : Kind → ℕ → ℕ
+allowed kind level = slice_index (counts kind) level

@@ -2,9 +2,9 @@ pub mod Actions
 pub mod Bodies
 pub mod Codes
 pub mod Fields
-pub mod Held
 pub mod Kinds
 pub mod Levels
 pub mod Limits
 pub mod Numbers
 pub mod Texts
+pub mod inner

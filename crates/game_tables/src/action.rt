@@ -1,6 +1,6 @@
 // The actions of players.
 ghost use Rattle.std.specs.Prelude.{◌≡◌, IfSome, IfNone};
-ghost use Rattle.game_tables.specs.Actions.{action_number, drops, drops_attack, drops_build, drops_dismantle, drops_repair, part_for, range_for, targets};
+ghost use Rattle.game_tables.specs.Actions.{action_number, dominates, drops_attack, drops_build, drops_dismantle, drops_repair, needed_part, max_range, is_target};
 ghost use Rattle.game_tables.specs.declared.action.Action.{Action};
 
 use crate::by_kind::is_building;
@@ -76,7 +76,7 @@ impl Action {
 
 /// Whether an entry of the one action drops an entry of the other by the same creep.
 pub fn dominates(by: Action, over: Action) -> bool
-    ensures { result ≡ drops by over }
+    ensures { result ≡ dominates by over }
 {
     match over {
         Action::RangedHeal => by == Action::Heal,
@@ -126,7 +126,7 @@ fn over_attack(by: Action) -> bool
 
 /// The part that a creep needs for an action, where it needs one.
 pub fn needed_part(action: Action) -> Option<Part>
-    ensures { result ≡ part_for action }
+    ensures { result ≡ needed_part action }
 {
     match action {
         Action::Heal | Action::RangedHeal => Some(Part::Heal),
@@ -142,7 +142,7 @@ pub fn needed_part(action: Action) -> Option<Part>
 
 /// The greatest range of an action's target, where it has one with a range.
 pub fn max_range(action: Action) -> Option<u8>
-    ensures { result ≡ range_for action }
+    ensures { result ≡ max_range action }
 {
     match action {
         Action::Transfer
@@ -167,7 +167,7 @@ pub fn max_range(action: Action) -> Option<u8>
 /// Whether an object of a kind may be an action's target. Where it is a creep, whether it may be
 /// the actor is not looked at.
 pub fn is_target(action: Action, kind: Kind) -> bool
-    ensures { result ≡ targets action kind }
+    ensures { result ≡ is_target action kind }
 {
     match action {
         Action::Transfer => matches!(

@@ -1,6 +1,6 @@
 // A creep's body.
 ghost use Rattle.std.specs.Prelude.{◌≡◌, ◌-◌, ◌<◌, ◌≤◌, [], ◌∷◌, ◌++◌, ◌↔◌, IsTrue, length, slice_get, option_copied};
-ghost use Rattle.game_tables.specs.Bodies.{body_cost, has_part, lifetime, live_count, live_parts, load_room, part_hits, parts_bound};
+ghost use Rattle.game_tables.specs.Bodies.{body_cost, has_part, lifetime, live_count, live_parts, load_room, part_hits, most_parts};
 
 use crate::kind::Part;
 use std::marker::Model;
@@ -20,7 +20,7 @@ impl Model for Body {
 
     ghost Value = { List Part };
 
-    ghost use Rattle.game_tables.specs.Held.{parts_of, IsHeld, held, held_ok};
+    ghost use Rattle.game_tables.specs.inner.Held.{parts_of, IsHeld, held, held_ok};
 
     ghost view = { parts_of };
 
@@ -33,7 +33,7 @@ impl Model for Body {
 
 /// The most parts of a body.
 pub fn most_parts() -> u32
-    ensures { result ≡ parts_bound }
+    ensures { result ≡ most_parts }
 {
     50
 }

@@ -1,6 +1,6 @@
 // The greatest values of an object's fields between ticks.
 ghost use Rattle.std.specs.Prelude.{◌≡◌};
-ghost use Rattle.game_tables.specs.Fields.{energy_bound, extra_bound, other_ticks_bound, timer_bound};
+ghost use Rattle.game_tables.specs.Fields.{most_energy, most_extra, most_other_ticks, most_timer};
 
 use crate::body::Body;
 use crate::by_kind::{full_timer, renewal_ticks, source_capacity, store_capacity};
@@ -9,7 +9,7 @@ use crate::level::{LAST_LEVEL, downgrade_number};
 
 /// The most energy, of a creep by its hits and its body.
 pub fn most_energy(kind: Kind, hits: u32, body: &Body) -> u64
-    ensures { result ≡ energy_bound kind hits body.now }
+    ensures { result ≡ most_energy kind hits body.now }
 {
     match kind {
         Kind::Source => source_capacity(true),
@@ -21,7 +21,7 @@ pub fn most_energy(kind: Kind, hits: u32, body: &Body) -> u64
 
 /// The greatest timer in ticks, of a controller by its level, of a creep and of a spawn by the body.
 pub fn most_timer(kind: Kind, level: u8, body: &Body) -> u32
-    ensures { result ≡ timer_bound kind level body.now }
+    ensures { result ≡ most_timer kind level body.now }
 {
     match kind {
         Kind::Source => renewal_ticks(),
@@ -34,7 +34,7 @@ pub fn most_timer(kind: Kind, level: u8, body: &Body) -> u32
 
 /// The greatest `extra`: a controller's level, a creep's fatigue, the number of a site's kind.
 pub fn most_extra(kind: Kind) -> u32
-    ensures { result ≡ extra_bound kind }
+    ensures { result ≡ most_extra kind }
 {
     match kind {
         Kind::Controller => LAST_LEVEL as u32,
@@ -46,7 +46,7 @@ pub fn most_extra(kind: Kind) -> u32
 
 /// The greatest `other_ticks`: the ticks of a reservation of a controller.
 pub fn most_other_ticks(kind: Kind) -> u32
-    ensures { result ≡ other_ticks_bound kind }
+    ensures { result ≡ most_other_ticks kind }
 {
     if kind == Kind::Controller { 5_000 } else { 0 }
 }

@@ -1,6 +1,6 @@
 // The tables by a controller's level.
 ghost use Rattle.std.specs.Prelude.{◌≡◌};
-ghost use Rattle.game_tables.specs.Levels.{count_at, counts, downgrade_at, total_at};
+ghost use Rattle.game_tables.specs.Levels.{allowed, counts, downgrade_number, total_for_next};
 
 use crate::kind::Kind;
 
@@ -33,21 +33,21 @@ const DOWNGRADES: [Option<u32>; 9] = [
 
 /// The progress at which a controller of the level reaches the next, where there is a next.
 pub fn total_for_next(level: u8) -> Option<u32>
-    ensures { result ≡ total_at level }
+    ensures { result ≡ total_for_next level }
 {
     TOTALS.get(level as usize).copied().unwrap_or(None)
 }
 
 /// The full timer, in ticks, after which a controller loses the level, where it has one to lose.
 pub fn downgrade_number(level: u8) -> Option<u32>
-    ensures { result ≡ downgrade_at level }
+    ensures { result ≡ downgrade_number level }
 {
     DOWNGRADES.get(level as usize).copied().unwrap_or(None)
 }
 
 /// How many buildings of a kind a room of the level may have, with those that sites are for.
 pub fn allowed(kind: Kind, level: u8) -> u32
-    ensures { result ≡ count_at kind level }
+    ensures { result ≡ allowed kind level }
 {
     row(kind).get(level as usize).copied().unwrap_or(0)
 }

@@ -7,7 +7,7 @@ use Rattle.std.proofs.lemmas.Option.{get_or_from_slice_get, slice_get_within, sl
 use Rattle.indexmap.specs.IndexMap.{set_value_at}
 use Rattle.intent_book.specs.declared.intent.Intent.{Intent}
 use Rattle.intent_book.specs.declared.entries.Kept.{Kept}
-use Rattle.intent_book.specs.Numbered.{Row, at_order, listed, IsKeyed, IsBelow, IsSingle, IsKept, IsFree, IsNext, Finds, lower, intents}
+use Rattle.intent_book.specs.inner.Numbered.{Row, at_order, listed, IsKeyed, IsBelow, IsSingle, IsKept, IsFree, IsNext, Finds, lower, intents}
 use Rattle.intent_book.specs.Records.{place}
 use Rattle.intent_book.proofs.Orders.{by_answer, listed-same, length-listed}
 

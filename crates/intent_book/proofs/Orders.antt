@@ -11,7 +11,7 @@ use Rattle.std.proofs.lemmas.Map.Keys.{IsDistinct-IsPermutation}
 use Rattle.indexmap.specs.IndexMap.{insert_entry}
 use Rattle.intent_book.specs.declared.intent.Intent.{Intent}
 use Rattle.intent_book.specs.declared.entries.Kept.{Kept}
-use Rattle.intent_book.specs.Numbered.{Row, at_order, listed, IsKeyed, IsBelow, IsSingle, IsKept, intents}
+use Rattle.intent_book.specs.inner.Numbered.{Row, at_order, listed, IsKeyed, IsBelow, IsSingle, IsKept, intents}
 use Rattle.intent_book.specs.Records.{AreOf, entries_bound, place, place_eq, same_place, has_place, accepts, put_last}
 
 pub by_answer : {P : Type 0} (b : Bool) → (b ≡ true → P) → (b ≡ false → P) → P

@@ -1,4 +1,3 @@
-pub mod Held
-pub mod Numbered
 pub mod Records
 pub mod Refusals
+pub mod inner

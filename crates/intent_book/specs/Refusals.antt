@@ -20,14 +20,17 @@ refusal_number refusals.Memory = 11
 -- the first refusal of a list with a number
 abbrev pub with_number : ℕ → List Refusal → Option Refusal
 with_number number [] = None
-with_number number (refusal ∷ others) = if number == refusal_number refusal then Some refusal else with_number number others
+with_number number (refusal ∷ others) =
+    if number == refusal_number refusal then Some refusal else with_number number others
 
 -- the refusal of a number, where one has it
 unfoldable pub refusal_of : ℕ → Option Refusal
 refusal_of number =
     with_number number
-    (refusals.UnknownPlayer ∷ refusals.WrongToken ∷ refusals.TooLarge ∷ refusals.Malformed ∷ refusals.FloatRefused ∷ refusals.Invalid
-    ∷ refusals.UnknownImport ∷ refusals.ImportKind ∷ refusals.NoLoop ∷ refusals.Segment ∷ refusals.Memory ∷ [])
+    (refusals.UnknownPlayer ∷ refusals.WrongToken ∷ refusals.TooLarge ∷ refusals.Malformed
+    ∷ refusals.FloatRefused ∷ refusals.Invalid
+    ∷ refusals.UnknownImport ∷ refusals.ImportKind ∷ refusals.NoLoop ∷ refusals.Segment ∷ refusals.Memory
+    ∷ [])
 
 -- the name of a refusal, as it is printed
 abbrev pub refusal_name : Refusal → List ℕ

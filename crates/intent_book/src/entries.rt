@@ -7,7 +7,7 @@
 // go through up to all entries of his record.
 ghost use Rattle.std.specs.Prelude.{◌≡◌, ℕ, ◌+◌, ◌<◌, ◌≤◌, ◌||◌, [], is_some, nat_lt, if◌then◌else◌, vec_capacity};
 ghost use Rattle.indexmap.specs.IndexMap.{index_map_len, spare, get, insert_entry, IsUnique, with_value_at};
-ghost use Rattle.intent_book.specs.Numbered.{Finds, IsKept, intents, listed, lower as lowest};
+ghost use Rattle.intent_book.specs.inner.Numbered.{Finds, IsKept, intents, listed, lower as lowest};
 ghost use Rattle.intent_book.specs.Records.{entries_bound, place, place_eq};
 
 use crate::intent::Intent;
@@ -27,8 +27,11 @@ pub type Entries = IndexMap<(u8, u64), Kept>;
 pub fn keep(entries: &mut Entries, kept: Kept) -> bool
     requires room { entries_bound ≤ spare entries.old + index_map_len entries.old }
     requires most { index_map_len entries.old ≤ entries_bound }
-    ensures answer { result ≡ (is_some (get place_eq entries.old (place kept.intent)) || nat_lt (index_map_len entries.old) entries_bound) }
-    ensures entries { entries.new.entries ≡ (if result then insert_entry place_eq entries.old.entries (place kept.intent) kept else entries.old.entries) }
+    ensures answer { result ≡ (is_some (get place_eq entries.old (place kept.intent))
+        || nat_lt (index_map_len entries.old) entries_bound) }
+    ensures entries { entries.new.entries
+        ≡ (if result then insert_entry place_eq entries.old.entries (place kept.intent) kept
+        else entries.old.entries) }
     ensures room { entries_bound ≤ spare entries.new + index_map_len entries.new }
     ensures most { index_map_len entries.new ≤ entries_bound }
     ensures unique { IsUnique place_eq entries.old }

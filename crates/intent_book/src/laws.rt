@@ -7,5 +7,6 @@ ghost use Rattle.intent_book.specs.declared.intent.Intent.{Intent};
 /// Says that entries of which no two have one action and actor have one canonical list. It does
 /// nothing when it runs.
 pub fn one_canonical_list()
-    ensures { (entries one other : List Intent) → IsDistinct same_place entries → IsCanonical entries one → IsCanonical entries other → one ≡ other }
+    ensures { (entries one other : List Intent) → IsDistinct same_place entries → IsCanonical entries one
+        → IsCanonical entries other → one ≡ other }
 {}

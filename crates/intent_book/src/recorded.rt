@@ -33,7 +33,7 @@ impl Model for Recorded {
 
     ghost Value = { Record };
 
-    ghost use Rattle.intent_book.specs.Held.{record_of, IsHeld};
+    ghost use Rattle.intent_book.specs.inner.Held.{record_of, IsHeld};
 
     ghost view = { record_of };
 
@@ -69,7 +69,11 @@ impl Recorded {
     pub fn put(&mut self, intent: Intent) -> bool
         requires own { intent.player ≡ self.old.player }
         ensures answer { result ≡ accepts self.old.entries intent }
-        ensures record { self.new ≡ record self.old { entries = (if result then put_last self.old.entries intent else self.old.entries) } }
+        ensures record { self.new
+            ≡ record self.old {
+              entries = (if result then put_last self.old.entries intent
+                  else self.old.entries);
+            } }
     {
         let order = fresh(&mut self.entries, self.next);
         self.next = order;

@@ -1,4 +1,10 @@
 mod Owned
+mod Chained
+mod Searched
+mod Placed
+mod Changed
+mod OnTiles
+mod Named
 pub mod Accounts
 pub mod Rising
 pub mod Keyed

@@ -1,9 +1,9 @@
 -- Whose remainders are among those of a room's owners.
-use Rattle.std.proofs.Common.{◌≡◌, ℕ, zero, suc, ◌==◌, ◌||◌, Bool, true, false, List, [], ◌∷◌, set, ap, sym, subst, ◌∙◌, refl}
+use Rattle.std.proofs.Common.{◌≡◌, ℕ, zero, suc, ◌==◌, ◌||◌, Bool, true, false, List, [], ◌∷◌, set, subst, refl}
 use Rattle.std.specs.List.{AllByRecursion, filter, insert, list_any}
 use Rattle.std.proofs.lemmas.Bool.{eqb-true}
 use Rattle.object_store.specs.declared.object.Object.{Object}
-use Rattle.object_store.specs.Owners.{Covers, MayOwn}
+use Rattle.object_store.specs.inner.Owners.{Covers, MayOwn}
 use Rattle.object_store.proofs.Rising.{all_weaker, all_filter, all_insert}
 
 -- a room that has one object in the place of another

@@ -4,10 +4,7 @@ use Rattle.std.proofs.lemmas.Bool.{lt-ltb, le-ltb, ltb-true, ltb-false, ne_eqb, 
 use Rattle.std.proofs.lemmas.List.Elements.{All-from_recursion, recursion_from_All}
 use Rattle.std.specs.List.{AllByRecursion, HoldsAt, find, filter, insert, remove}
 use Rattle.std.specs.List.Sorted.{IsPartitionPoint, IsNonDecreasingBy}
-
-abbrev pub Rises : {X : Type 0} → (X → ℕ) → List X → Type 0
-Rises key [] = Unit {0}
-Rises key (x ∷ xs) = AllByRecursion (λ later. key x < key later) xs × Rises key xs
+pub use Rattle.object_store.specs.inner.Ordered.{Rises}
 
 -- The keys before the place are below the number, and those from there on are not.
 abbrev pub Parted : {X : Type 0} → (X → ℕ) → ℕ → List X → ℕ → Type 0
@@ -16,7 +13,7 @@ Parted key n [] (suc i) = ⊥
 Parted key n (x ∷ xs) zero = AllByRecursion (λ y. n ≤ key y) (x ∷ xs)
 Parted key n (x ∷ xs) (suc i) = (key x < n) × Parted key n xs i
 
-parted : {X : Type 0} (key : X → ℕ) (n : ℕ) (xs : List X) (i : ℕ) → i ≤ length xs → IsPartitionPoint (λ y. key y < n) (λ y. n ≤ key y) xs i → Parted key n xs i
+pub parted : {X : Type 0} (key : X → ℕ) (n : ℕ) (xs : List X) (i : ℕ) → i ≤ length xs → IsPartitionPoint (λ y. key y < n) (λ y. n ≤ key y) xs i → Parted key n xs i
 parted key n [] zero within point = tt
 parted key n [] (suc i) within point = absurd (omega arith)
 parted key n (x ∷ xs) zero within point =
@@ -108,7 +105,7 @@ some_none e = cc
 none_some : {X : Type 0} {x : X} → None ≡ Some x → ⊥
 none_some e = cc
 
-place_of : {X : Type 0} (key : X → ℕ) (n : ℕ) (xs : List X) (i : ℕ) (found : X) → Rises key xs → Parted key n xs i → find (λ x. eqb (key x) n) xs ≡ Some found → (i < length xs) × HoldsAt (λ x. key x ≡ n) xs i
+pub place_of : {X : Type 0} (key : X → ℕ) (n : ℕ) (xs : List X) (i : ℕ) (found : X) → Rises key xs → Parted key n xs i → find (λ x. eqb (key x) n) xs ≡ Some found → (i < length xs) × HoldsAt (λ x. key x ≡ n) xs i
 place_of key n [] i found rises parts there = absurd (none_some there)
 place_of key n (x ∷ xs) zero found rises parts there =
     let least : n ≤ key x = parts.0 in
@@ -123,8 +120,26 @@ place_of key n (x ∷ xs) (suc i) found rises parts there =
     let rest : (i < length xs) × HoldsAt (λ x. key x ≡ n) xs i = place_of key n xs i found rises.1 parts.1 (rw (ne_eqb (key x) n other) at there) in
     (omega (arith, rest.0), λ d. rest.1 d)
 
+pub all_remove : {X : Type 0} (P : X → Type 0) (xs : List X) (i : ℕ) → AllByRecursion P xs → AllByRecursion P (remove xs i)
+all_remove P [] zero all = tt
+all_remove P [] (suc i) all = tt
+all_remove P (x ∷ xs) zero all = all.1
+all_remove P (x ∷ xs) (suc i) all = (all.0, all_remove P xs i all.1)
+
+pub all_both : {X : Type 0} (P Q R : X → Type 0) → ((x : X) → P x → Q x → R x) → (xs : List X) → AllByRecursion P xs → AllByRecursion Q xs → AllByRecursion R xs
+all_both P Q R both [] first second = tt
+all_both P Q R both (x ∷ xs) first second = (both x first.0 second.0, all_both P Q R both xs first.1 second.1)
+
+-- a list rises by another key that is the same for its entries
+pub rises_by_same : {X : Type 0} (key other : X → ℕ) (xs : List X) → AllByRecursion (λ x. other x ≡ key x) xs → Rises key xs → Rises other xs
+rises_by_same key other [] same rises = tt
+rises_by_same key other (x ∷ xs) same rises = (
+  all_both (λ y. other y ≡ key y) (λ y. key x < key y) (λ y. other x < other y) (λ y e lt. let here = same.0 in omega arith) xs same.1 rises.0,
+  rises_by_same key other xs same.1 rises.1,
+)
+
 -- the list with an entry replaced
-set-at : {X : Type 0} (key : X → ℕ) (y : X) (xs : List X) (i : ℕ) (d : X) → Rises key xs → i < length xs → key (get_or xs i d) ≡ key y → set xs i y ≡ map (replaced key y) xs
+pub set-at : {X : Type 0} (key : X → ℕ) (y : X) (xs : List X) (i : ℕ) (d : X) → Rises key xs → i < length xs → key (get_or xs i d) ≡ key y → set xs i y ≡ map (replaced key y) xs
 set-at key y [] i d rises within here = absurd (omega arith)
 set-at key y (x ∷ xs) zero d rises within here =
     let above : AllByRecursion (λ later. key y < key later) xs = all_weaker (λ later. key x < key later) (λ later. key y < key later) (λ later lt. omega arith) xs rises.0 in
@@ -210,7 +225,7 @@ insert-at key y (x ∷ xs) (suc i) rises parts absent =
     let other : key x ≢ key y = λ e. omega arith in
     rw (lt-ltb (key x) (key y) below, le-ltb (key y) (key x) (omega arith)) (ap (λ ys. x ∷ ys) (insert-at key y xs i rises.1 parts.1 (rw (ne_eqb (key x) (key y) other) at absent)))
 
-rises-insert : {X : Type 0} (key : X → ℕ) (y : X) (xs : List X) (i : ℕ) → Rises key xs → Parted key (key y) xs i → find (λ x. eqb (key x) (key y)) xs ≡ None → Rises key (insert xs i y)
+pub rises-insert : {X : Type 0} (key : X → ℕ) (y : X) (xs : List X) (i : ℕ) → Rises key xs → Parted key (key y) xs i → find (λ x. eqb (key x) (key y)) xs ≡ None → Rises key (insert xs i y)
 rises-insert key y [] zero rises parts absent = (tt, tt)
 rises-insert key y [] (suc i) rises parts absent = absurd parts
 rises-insert key y (x ∷ xs) zero rises parts absent = (all_above key y x xs rises parts absent, rises)
@@ -231,6 +246,13 @@ non_decreasing key (x ∷ xs) rises zero (suc j) d order within =
 non_decreasing key (x ∷ xs) rises (suc i) zero d order within = absurd (omega arith)
 non_decreasing key (x ∷ xs) rises (suc i) (suc j) d order within =
     non_decreasing key xs rises.1 i j d (omega arith) (omega arith)
+
+pub increasing : {X : Type 0} (key : X → ℕ) (xs : List X) → Rises key xs → (i j : ℕ) (d : X) → i < j → j < length xs → key (get_or xs i d) < key (get_or xs j d)
+increasing key [] rises i j d order within = absurd (omega arith)
+increasing key (x ∷ xs) rises zero zero d order within = absurd (omega arith)
+increasing key (x ∷ xs) rises zero (suc j) d order within = first_below key x xs j d rises.0 (omega arith)
+increasing key (x ∷ xs) rises (suc i) zero d order within = absurd (omega arith)
+increasing key (x ∷ xs) rises (suc i) (suc j) d order within = increasing key xs rises.1 i j d (omega arith) (omega arith)
 
 pub place_from_tests : {X : Type 0} (key : X → ℕ) (n : ℕ) (xs : List X) (i : ℕ) → IsPartitionPoint (λ y. ltb (key y) n ≡ true) (λ y. ltb (key y) n ≡ false) xs i → IsPartitionPoint (λ y. key y < n) (λ y. n ≤ key y) xs i
 place_from_tests key n xs i point = (

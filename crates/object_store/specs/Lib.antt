@@ -1,3 +1,5 @@
 pub mod Tables
 pub mod Stored
-pub mod Owners
+pub mod Controllers
+pub mod Lending
+pub mod inner

@@ -15,7 +15,8 @@ pub record Stored : Type 0 where
 -- The accounts stand in rising player, each player once.
 abbrev pub AreRising : List Account → Type 0
 AreRising [] = Unit {0}
-AreRising (account ∷ accounts) = AllByRecursion (λ later. account.player < later.player) accounts × AreRising accounts
+AreRising (account ∷ accounts) =
+    AllByRecursion (λ later. account.player < later.player) accounts × AreRising accounts
 
 -- The player comes after those of all accounts.
 abbrev pub IsLast : ℕ → List Account → Type 0

@@ -1,5 +1,5 @@
 -- The objects of a room as they are stored.
-use Rattle.std.specs.Prelude.{◌≡◌, ℕ, ◌<◌, ◌≤◌, ◌==◌, ◌&&◌, nat_lt, if◌then◌else◌, List, [], ◌∷◌, ◌++◌, map, Option, Some, None, not}
+use Rattle.std.specs.Prelude.{◌≡◌, ℕ, ◌<◌, ◌≤◌, ◌==◌, ◌&&◌, nat_lt, nat_le, if◌then◌else◌, List, [], ◌∷◌, ◌++◌, map, Option, Some, None, not}
 use Rattle.std.specs.List.{AllByRecursion, find, filter}
 use Rattle.game_tables.specs.Numbers.{kind_number}
 use Rattle.game_tables.specs.declared.kind.Kind.{Kind}
@@ -10,7 +10,8 @@ abbrev pub IsRising : List Object → Type 0
 IsRising [] = Unit {0}
 IsRising (o ∷ os) = AllByRecursion (λ later. o.id < later.id) os × IsRising os
 
--- the objects of a room in rising id, the room's index, the serial of its next new object, and how many more objects it takes without memory
+-- the objects of a room in rising id, the room's index, the serial of its next new object, and how many more
+-- objects it takes without memory
 pub record Table : Type 0 where
   pub index : ℕ
   pub next : ℕ
@@ -20,6 +21,10 @@ pub record Table : Type 0 where
 -- the object of an id
 abbrev pub find_object : ℕ → List Object → Option Object
 find_object id = find (λ o. o.id == id)
+
+-- the object of the least id that is at least this one
+abbrev pub find_from : ℕ → List Object → Option Object
+find_from id = find (λ o. nat_le id o.id)
 
 -- An object of this id stands there.
 abbrev pub HasId : ℕ → List Object → Type 0
@@ -40,7 +45,8 @@ with_object object objects = map (λ o. if o.id == object.id then object else o)
 
 -- the objects with this one between those of lesser and those of greater ids
 abbrev pub with_new : Object → List Object → List Object
-with_new object objects = filter (λ o. nat_lt o.id object.id) objects ++ object ∷ filter (λ o. nat_lt object.id o.id) objects
+with_new object objects =
+    filter (λ o. nat_lt o.id object.id) objects ++ object ∷ filter (λ o. nat_lt object.id o.id) objects
 
 -- the objects but that of this id
 abbrev pub without : ℕ → List Object → List Object
@@ -48,4 +54,5 @@ without id objects = filter (λ o. not (o.id == id)) objects
 
 -- the first object of this kind on this tile, which has the least id there
 abbrev pub first_on : ℕ → ℕ → Kind → List Object → Option Object
-first_on x y kind objects = find (λ o. (o.x == x) && (o.y == y) && (kind_number o.kind == kind_number kind)) objects
+first_on x y kind objects =
+    find (λ o. (o.x == x) && (o.y == y) && (kind_number o.kind == kind_number kind)) objects

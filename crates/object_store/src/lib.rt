@@ -3,17 +3,25 @@
 
 mod account;
 mod bytes;
+mod controller;
 mod object;
+mod objects;
 mod owners;
 mod room_table;
+mod slots;
+mod standing;
 #[cfg(test)]
 mod tests;
+mod tile_index;
 mod world;
 
 pub use account::Account;
 pub use bytes::Bytes;
+pub use controller::{is_taken, level_of};
 pub use game_tables::{Body, Kind, Part};
 pub use object::Object;
+pub use objects::Objects;
 pub use room_table::RoomTable;
 pub use room_terrain::{Ground, NotAName, Place, RoomName, Terrain};
+pub use standing::Standing;
 pub use world::{Room, World};

@@ -1,6 +1,6 @@
 // Which owners the objects of a room may have.
 ghost use Rattle.std.specs.Prelude.{ℕ, [], IsTrue};
-ghost use Rattle.object_store.specs.Owners.{Covers, MayOwn};
+ghost use Rattle.object_store.specs.inner.Owners.{Covers, MayOwn};
 
 use crate::object::Object;
 

@@ -1,11 +1,20 @@
 // The objects of one room.
-ghost use Rattle.std.specs.Prelude.{◌≡◌, ◌==◌, ◌<◌, ◌≤◌, ◌+◌, ◌-◌, ◌*◌, ◌^◌, [], ◌↔◌, IsTrue, length, max, slice_get, option_copied, option_map, Some, None, IfSome, IfNone, IfOk, OnOk, OnErr};
+ghost use Rattle.std.specs.Prelude.{◌≡◌, ◌==◌, ◌<◌, ◌≤◌, ◌+◌, ◌-◌, ◌*◌, ◌^◌, [], ◌↔◌, IsTrue, length, max, slice_get, option_copied, option_map, vec_capacity, Some, None, IfSome, IfNone, IfOk, OnOk, OnErr};
 ghost use Rattle.std.specs.List.{HoldsAt, list_any};
-ghost use Rattle.std.specs.List.Sorted.{IsPartitionPoint};
-ghost use Rattle.object_store.specs.Tables.{Table, IsRising, IsOnTile, HasId, HasNoId, find_object, with_object, with_new, without, first_on};
+ghost use Rattle.std.specs.Map.Iter.{ShowsInOrder, deref};
+ghost use Rattle.object_store.specs.declared.object.Object.{Object};
+ghost use Rattle.object_store.specs.Tables.{Table, IsRising, IsOnTile, HasId, HasNoId, find_object, find_from, with_object, with_new, without, first_on};
+ghost use Rattle.object_store.specs.inner.Owners.{Covers};
+ghost use Rattle.object_store.specs.Controllers.{controller_among};
 
+use crate::controller::controller_among;
 use crate::object::Object;
+use crate::objects::Objects;
 use crate::owners::Owners;
+use crate::slots::{
+    copied, has_owned, least_on, numbers, place, position, search, slot_of, tile_of, tiles_of,
+};
+use crate::tile_index::{TILES, TileIndex};
 use game_tables::Kind;
 use std::alloc::{AllocError, Global};
 use std::marker::Model;
@@ -13,27 +22,40 @@ use std::marker::Model;
 /// The objects of one room in rising id, with the room's index in the world and the serial of its
 /// next new object.
 ///
-/// In this form it is a plain vector. An id is found by halving, a tile from the front, and most
+/// Each object stays in the slot where it was put, and `order` has the slots by rising id. So an id
+/// is found by halving, and a birth and a death move no object. A slot whose object was taken out
+/// stays empty until the table is copied. The objects on a tile are found by its chain, and most
 /// players who own nothing are told without a look at the objects.
 #[derive(Drop)]
 pub struct RoomTable {
     index: u32,
     next: u32,
-    objects: Vec<Object>,
+    slots: Vec<Object>,
+    order: Vec<u32>,
+    tiles: TileIndex,
     spare: u32,
     owners: Owners,
 }
 
 impl Model for RoomTable {
     ghost use Rattle.std.specs.Prelude.{◌<◌, ◌≤◌, ◌+◌, ◌^◌, length, vec_capacity};
-    ghost use Rattle.object_store.specs.Tables.{Table, IsRising};
-    ghost use Rattle.object_store.specs.Owners.{Covers};
+    ghost use Rattle.object_store.specs.Tables.{Table};
+    ghost use Rattle.object_store.specs.inner.Owners.{Covers};
+    ghost use Rattle.object_store.specs.inner.Placed.{standing, IsPlaced, HasRoom};
 
     ghost Value = { Table };
 
-    ghost view = { λ t. record { index = t.index; next = t.next; objects = t.objects.items; spare = t.spare } };
+    ghost view = { λ t.
+        record {
+          index = t.index;
+          next = t.next;
+          objects = standing t.slots.items t.order.items;
+          spare = t.spare;
+        } };
 
-    ghost invariant = { λ t. IsRising t.objects.items × (length t.objects.items + t.spare < 2 ^ 32) × (length t.objects.items + t.spare ≤ vec_capacity t.objects) × Covers t.owners.remainders t.objects.items };
+    ghost invariant = { λ t. IsPlaced t.slots.items t.order.items t.tiles.tiles
+        × HasRoom t.slots t.order t.tiles t.spare × Covers t.owners.remainders
+        (standing t.slots.items t.order.items) };
 }
 
 impl RoomTable {
@@ -44,40 +66,72 @@ impl RoomTable {
         RoomTable {
             index,
             next,
-            objects: Vec::new(alloc),
+            slots: Vec::new(alloc),
+            order: Vec::new(alloc),
+            tiles: TileIndex::new(alloc),
             spare: 0,
             owners: Owners::none(),
         }
     }
 
-    /// The table of these objects. It takes no memory.
-    pub fn of(index: u32, next: u32, objects: Vec<Object>) -> RoomTable
+    /// The table of these objects, which stay where they are.
+    pub fn of(
+        alloc: Global,
+        index: u32,
+        next: u32,
+        objects: Vec<Object>,
+    ) -> Result<RoomTable, AllocError>
         requires rising { IsRising objects.items }
         requires within { length objects.items < 2 ^ 32 }
-        ensures { result ≡ record { index = index; next = next; objects = objects.items; spare = 0 } }
+        ensures { IfOk result
+            (λ table. table ≡ record { index = index; next = next; objects = objects.items; spare = 0 }) }
     {
         let owners = Owners::of(&objects);
-        RoomTable {
+        RoomTable::filled(alloc, index, next, objects, 0, owners)
+    }
+
+    // The table of the objects of these slots, in which there is room for some more.
+    fn filled(
+        alloc: Global,
+        index: u32,
+        next: u32,
+        slots: Vec<Object>,
+        spare: u32,
+        owners: Owners,
+    ) -> Result<RoomTable, AllocError>
+        requires rising { IsRising slots.items }
+        requires within { length slots.items + spare < 2 ^ 32 }
+        requires room { length slots.items + spare ≤ vec_capacity slots }
+        requires owners { Covers owners.remainders slots.items }
+        ensures { IfOk result
+            (λ table. table ≡ record { index = index; next = next; objects = slots.items; spare = spare }) }
+    {
+        let room = slots.len() + spare as usize;
+        let order = numbers(alloc, slots.len(), room)?;
+        let tiles = tiles_of(alloc, &slots, room)?;
+        Ok(RoomTable {
             index,
             next,
-            objects,
-            spare: 0,
+            slots,
+            order,
+            tiles,
+            spare,
             owners,
-        }
+        })
     }
 
     /// The number of objects.
     pub fn len(&self) -> u32
         ensures { result ≡ length self.now.objects }
     {
-        self.objects.len() as u32
+        self.order.len() as u32
     }
 
     /// Whether there is no object.
     pub fn is_empty(&self) -> bool
         ensures { IsTrue result ↔ (self.now.objects ≡ []) }
     {
-        self.objects.is_empty()
+        self.order.is_empty()
     }
 
     /// The room's place in the world.
@@ -95,46 +149,67 @@ impl RoomTable {
     }
 
     /// All objects, in rising id.
-    pub fn objects(&self) -> &[Object]
-        ensures all { result.now ≡ self.now.objects }
-        ensures rising { IsRising result.now }
-        ensures within { length result.now < 2 ^ 32 }
+    pub fn objects(&self) -> Objects<'_>
+        ensures all { result ≡ self.now.objects }
+        ensures rising { IsRising result }
+        ensures within { length result < 2 ^ 32 }
+        ensures runs { ShowsInOrder (deref {X = Object}) }
     {
-        &self.objects
+        Objects::of(&self.slots, &self.order)
     }
 
     /// The object at a place, from 0 on.
     pub fn nth(&self, i: u32) -> Option<&Object>
         ensures { option_copied result ≡ slice_get self.now.objects i }
     {
-        self.objects.get(i as usize)
+        let slot = self.order.get(i as usize)?;
+        Some(&self.slots[*slot as usize])
     }
 
     /// The object of an id.
     pub fn get(&self, id: u64) -> Option<&Object>
         ensures { option_map (λ o. o.now) result ≡ find_object id self.now.objects }
     {
-        let place = position(&self.objects, id)?;
-        Some(&self.objects[place])
+        let place = position(&self.slots, &self.order, id)?;
+        Some(&self.slots[self.order[place] as usize])
+    }
+
+    /// The object of the least id that is at least this one.
+    pub fn next_from(&self, id: u64) -> Option<&Object>
+        ensures { option_map (λ o. o.now) result ≡ find_from id self.now.objects }
+    {
+        let place = place(&self.slots, &self.order, id);
+        if place < self.order.len() {
+            Some(&self.slots[self.order[place] as usize])
+        } else {
+            None
+        }
     }
 
     /// The least id of a kind on a tile.
     pub fn at(&self, x: u8, y: u8, kind: Kind) -> Option<u64>
         ensures { result ≡ option_map (λ o. o.id) (first_on x y kind self.now.objects) }
     {
-        self.objects
-            .iter()
-            .find(|object| {
-                object.x == x && object.y == y && object.kind.number() == kind.number()
-            })
-            .map(|object| object.id)
+        let tile = tile_of(x, y);
+        if tile < TILES {
+            least_on(&self.tiles, &self.slots, tile, kind)
+        } else {
+            search(&self.slots, &self.order, x, y, kind)
+        }
+    }
+
+    /// The controller of the room, that of the least id if there were more.
+    pub fn controller(&self) -> Option<&Object>
+        ensures { option_map (λ o. o.now) result ≡ controller_among self.now.objects }
+    {
+        controller_among(self.objects())
     }
 
     /// Whether a player, or nobody by the number 0, owns an object here.
     pub fn has_owner(&self, player: u32) -> bool
         ensures { result ≡ list_any (λ o. o.owner == player) self.now.objects }
     {
-        self.owners.may_have(player) && self.objects.iter().any(|object| object.owner == player)
+        self.owners.may_have(player) && has_owned(&self.slots, &self.order, player)
     }
 
     /// How many more objects it takes without memory.
@@ -157,15 +232,15 @@ impl RoomTable {
         requires { length self.now.objects + spare < 2 ^ 32 }
         ensures { IfOk result (λ copy. copy ≡ record self.now { spare = spare }) }
     {
-        let mut objects = Vec::with_capacity(alloc, self.objects.len() + spare as usize)?;
-        objects.extend_from_slice(&self.objects)?;
-        Ok(RoomTable {
-            index: self.index,
-            next: self.next,
-            objects,
-            spare: spare as u32,
-            owners: self.owners,
-        })
+        let slots = copied(alloc, &self.slots, &self.order, spare as usize)?;
+        RoomTable::filled(
+            alloc,
+            self.index,
+            self.next,
+            slots,
+            spare as u32,
+            self.owners,
+        )
     }
 
     /// Takes memory for `n` more objects, where it doesn't have as much.
@@ -174,7 +249,13 @@ impl RoomTable {
         ensures ok { OnOk result (self.new ≡ record self.old { spare = max self.old.spare n }) }
         ensures err { OnErr result (self.new ≡ self.old) }
     {
-        self.objects.reserve(n as usize)?;
+        // A slot is counted by a u32, and those that are empty count too.
+        if self.slots.len() as u64 + n > u64::from(u32::MAX) {
+            return Err(AllocError);
+        }
+        self.slots.reserve(n as usize)?;
+        self.order.reserve(n as usize)?;
+        self.tiles.reserve(n as usize)?;
         self.spare = self.spare.max(n as u32);
         Ok(())
     }
@@ -185,9 +266,10 @@ impl RoomTable {
         requires there { HasId object.id self.old.objects }
         ensures { self.new ≡ record self.old { objects = with_object object self.old.objects } }
     {
-        let place = place(&self.objects, object.id);
+        let slot = slot_of(&self.slots, &self.order, object.id);
         self.owners.add(object.owner);
-        self.objects[place] = object;
+        self.tiles.shift(slot, tile_of(object.x, object.y));
+        self.slots[slot as usize] = object;
     }
 
     /// Adds an object.
@@ -195,12 +277,18 @@ impl RoomTable {
         requires tile { IsOnTile object }
         requires absent { HasNoId object.id self.old.objects }
         requires room { 1 ≤ self.old.spare }
-        ensures { self.new ≡ record self.old { objects = with_new object self.old.objects; spare = self.old.spare - 1 } }
+        ensures { self.new ≡ record self.old {
+          objects = with_new object self.old.objects;
+          spare = self.old.spare - 1;
+        } }
     {
-        let place = place(&self.objects, object.id);
+        let place = place(&self.slots, &self.order, object.id);
+        let slot = self.slots.len() as u32;
         self.owners.add(object.owner);
-        // It has memory for one more, so this is never refused.
-        let _full = self.objects.insert(place, object);
+        self.tiles.add(tile_of(object.x, object.y));
+        // They have memory for one more, so these are never refused.
+        let _full = self.order.insert(place, slot);
+        let _full = self.slots.push(object);
         self.spare -= 1;
     }
 
@@ -212,7 +300,11 @@ impl RoomTable {
         requires absent { HasNoId (self.old.index * 2 ^ 32 + self.old.next) self.old.objects }
         requires room { 1 ≤ self.old.spare }
         ensures id { result ≡ self.old.index * 2 ^ 32 + self.old.next }
-        ensures table { self.new ≡ record self.old { next = self.old.next + 1; objects = with_new (record object { id = result }) self.old.objects; spare = self.old.spare - 1 } }
+        ensures table { self.new ≡ record self.old {
+          next = self.old.next + 1;
+          objects = with_new (record object { id = result }) self.old.objects;
+          spare = self.old.spare - 1;
+        } }
     {
         let id = u64::from(self.index) * SERIALS + u64::from(self.next);
         self.next += 1;
@@ -225,32 +317,12 @@ impl RoomTable {
         ensures removed { result ≡ find_object id self.old.objects }
         ensures table { self.new ≡ record self.old { objects = without id self.old.objects } }
     {
-        let place = position(&self.objects, id)?;
-        Some(self.objects.remove(place))
+        let place = position(&self.slots, &self.order, id)?;
+        let slot = self.order.remove(place);
+        self.tiles.take(slot);
+        Some(self.slots[slot as usize])
     }
 }
 
 // How many ids belong to a room.
 const SERIALS: u64 = 1 << 32;
-
-// The place of an id among the objects, or where it would be.
-fn place(objects: &[Object], id: u64) -> usize
-    requires { IsRising objects.now }
-    ensures within { result ≤ length objects.now }
-    ensures between { IsPartitionPoint (λ o. o.id < id) (λ o. id ≤ o.id) objects.now result }
-{
-    objects.partition_point(|object| object.id < id)
-}
-
-// The place of the object of an id.
-fn position(objects: &[Object], id: u64) -> Option<usize>
-    requires { IsRising objects.now }
-    ensures found { IfSome result (λ i. (i < length objects.now) × HoldsAt (λ o. o.id ≡ id) objects.now i) }
-    ensures absent { IfNone result (HasNoId id objects.now) }
-{
-    let place = place(objects, id);
-    match objects.get(place) {
-        Some(object) if object.id == id => Some(place),
-        _ => None,
-    }
-}

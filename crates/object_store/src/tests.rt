@@ -41,7 +41,7 @@ fn two_piles(alloc: Global) -> Result<RoomTable, AllocError>
     let mut objects = Vec::new(alloc);
     objects.push(pile(2, 7))?;
     objects.push(pile(5, 9))?;
-    Ok(RoomTable::of(0, 6, objects))
+    RoomTable::of(alloc, 0, 6, objects)
 }
 
 #[test]
@@ -90,12 +90,142 @@ fn a_table_finds_its_objects(rt: HostRuntime) -> Result<(), Fail> {
     assert!(rt; !table.is_empty());
     assert_eq!(rt; table.index(), 0);
     assert_eq!(rt; table.next(), 6);
-    assert_eq!(rt; table.objects().len(), 2);
+    assert_eq!(rt; table.objects().count(), 2);
     assert_eq!(rt; table.nth(1).map_or(0, |object| object.energy), 9);
     assert!(rt; table.nth(2).is_none());
     assert_eq!(rt; table.get(2).map_or(0, |object| object.energy), 7);
     assert!(rt; table.get(3).is_none());
     assert!(rt; RoomTable::new(rt.alloc(), 4, 1).is_empty());
+    Ok(())
+}
+
+// The ids along a walk, each after ten times those before it.
+fn ids_along(table: &RoomTable) -> u64 {
+    let mut ids: u64 = 0;
+    for object in table.objects() {
+        ids = ids.wrapping_mul(10).wrapping_add(object.id);
+    }
+    ids
+}
+
+#[test]
+fn a_walk_goes_by_rising_id(rt: HostRuntime) -> Result<(), Fail> {
+    let mut table = RoomTable::new(rt.alloc(), 4, 7);
+    assert_eq!(rt; ids_along(&table), 0);
+    assert!(rt; table.next_from(0).is_none());
+    table.reserve(5)?;
+    for (act, id, ids) in [
+        ('a', 5, 5),
+        ('a', 2, 25),
+        ('a', 9, 259),
+        ('a', 3, 2359),
+        ('t', 5, 239),
+        ('a', 4, 2349),
+    ] {
+        assert!(rt; change(&mut table, act, pile(id, 1)), "{id}");
+        assert_eq!(rt; ids_along(&table), ids, "{id}");
+    }
+    for (from, next) in [(0, 2), (2, 2), (3, 3), (5, 9), (9, 9), (10, 0)] {
+        assert_eq!(rt;
+            table.next_from(from).map_or(0, |object| object.id),
+            next,
+            "{from}"
+        );
+    }
+    assert_eq!(rt; ids_along(&table.copy(rt.alloc(), 0)?), 2349);
+    Ok(())
+}
+
+fn on(object: Object, x: u8, y: u8) -> Object
+    ensures { IsOnTile result }
+{
+    Object {
+        x: x.min(49),
+        y: y.min(49),
+        ..object
+    }
+}
+
+fn change(table: &mut RoomTable, act: char, object: Object) -> bool
+    requires { IsOnTile object }
+{
+    match act {
+        'a' => add(table, object),
+        'r' => replace(table, object),
+        _ => table.remove(object.id).is_some(),
+    }
+}
+
+// The ids of the piles on three tiles, each after a hundred times that before it.
+fn piles_at(table: &RoomTable) -> u64 {
+    let mut ids: u64 = 0;
+    for (x, y) in [(0, 0), (20, 20), (49, 49)] {
+        let id = table.at(x, y, Kind::Pile).unwrap_or(0);
+        ids = ids.wrapping_mul(100).wrapping_add(id);
+    }
+    ids
+}
+
+#[test]
+fn the_least_of_a_kind_on_a_tile_is_found(rt: HostRuntime) -> Result<(), Fail> {
+    let mut table = RoomTable::new(rt.alloc(), 4, 50);
+    assert_eq!(rt; piles_at(&table), 0);
+    table.reserve(9)?;
+    // Added (a), put in their places (r) and taken out (t): the newest, the oldest and between.
+    for (act, id, side, found) in [
+        ('a', 9, 20, 900),
+        ('a', 6, 20, 600),
+        ('a', 7, 20, 600),
+        ('a', 8, 20, 600),
+        ('r', 8, 0, 80600),
+        ('r', 6, 0, 60700),
+        ('r', 9, 49, 60709),
+        ('r', 6, 20, 80609),
+        ('r', 6, 20, 80609),
+        ('t', 6, 0, 80709),
+        ('t', 9, 0, 80700),
+        ('a', 5, 49, 80705),
+        ('t', 7, 0, 80005),
+    ] {
+        assert!(rt;
+            change(&mut table, act, on(pile(id, 1), side, side)),
+            "{id}"
+        );
+        assert_eq!(rt; piles_at(&table), found, "{id}");
+    }
+    assert_eq!(rt; table.at(0, 0, Kind::Road), None);
+    let spare = table.spare();
+    let copy = table.copy(rt.alloc(), u64::from(spare))?;
+    assert_eq!(rt; copy.spare(), 4);
+    assert_eq!(rt; piles_at(&copy), 80005);
+    Ok(())
+}
+
+#[test]
+fn an_object_off_the_tiles_is_found_too(rt: HostRuntime) -> Result<(), Fail> {
+    let mut objects = Vec::new(rt.alloc());
+    objects.push(Object {
+        x: 50,
+        ..pile(2, 7)
+    })?;
+    objects.push(Object {
+        x: 0,
+        y: 21,
+        ..pile(3, 7)
+    })?;
+    objects.push(Object {
+        y: 255,
+        ..pile(5, 7)
+    })?;
+    let mut table = RoomTable::of(rt.alloc(), 0, 6, objects)?;
+    for (x, y, found) in [(50, 20, 2), (0, 21, 3), (20, 255, 5), (20, 20, 0)] {
+        assert_eq!(rt; table.at(x, y, Kind::Pile).unwrap_or(0), found, "{x}");
+    }
+    assert!(rt; change(&mut table, 'r', pile(2, 1)));
+    assert!(rt; change(&mut table, 't', pile(5, 1)));
+    for (x, y, found) in [(50, 20, 0), (0, 21, 3), (20, 255, 0), (20, 20, 2)] {
+        assert_eq!(rt; table.at(x, y, Kind::Pile).unwrap_or(0), found, "{x}");
+    }
     Ok(())
 }
 
@@ -275,6 +405,78 @@ fn a_world_is_copied_and_changed(rt: HostRuntime) -> Result<(), Fail> {
     assert_eq!(rt; copy.nth_account(1).map_or(0, |found| found.player), 3);
     assert!(rt; copy.nth_account(2).is_none());
     assert_eq!(rt; world.account(3).map_or(9, |found| found.memory.len()), 0);
+    Ok(())
+}
+
+#[test]
+fn rooms_are_found_by_name(rt: HostRuntime) -> Result<(), Fail> {
+    let alloc = rt.alloc();
+    let mut world = World::empty(alloc, 8);
+    let names = [
+        (3, -2),
+        (-128, 0),
+        (3, 127),
+        (3, -2),
+        (0, 0),
+        (-1, 5),
+        (3, -2),
+    ];
+    for (index, (column, row)) in names.iter().enumerate() {
+        let name = RoomName {
+            column: *column,
+            row: *row,
+        };
+        let terrain = Terrain::of(alloc, &[Ground::Plain; 2500])?;
+        let table = RoomTable::new(alloc, index as u32, 1);
+        if world.rooms() == table.index() {
+            world.push_room(name, terrain, table)?;
+        }
+    }
+    let copy = world.copy(alloc)?;
+    for (index, (column, row)) in names.iter().enumerate() {
+        let name = RoomName {
+            column: *column,
+            row: *row,
+        };
+        let least = if index == 3 || index == 6 {
+            0
+        } else {
+            index as u32
+        };
+        assert_eq!(rt; world.find_room(name), Some(least), "{index}");
+        assert_eq!(rt; copy.find_room(name), Some(least), "{index}");
+    }
+    for (column, row) in [(-2, 3), (0, -128), (127, 3), (i32::MIN, i32::MAX)] {
+        assert_eq!(rt; world.find_room(RoomName { column, row }), None);
+    }
+    Ok(())
+}
+
+fn change_room(world: &mut World, index: u32, object: Object) -> bool
+    requires { IsOnTile object }
+{
+    if index >= world.rooms() {
+        return false;
+    }
+    let table = world.room_mut(index);
+    table.len() < 100 && table.reserve(1).is_ok() && add(table, object)
+}
+
+#[test]
+fn a_room_is_changed_in_its_place(rt: HostRuntime) -> Result<(), Fail> {
+    let alloc = rt.alloc();
+    let mut world = World::empty(alloc, 8);
+    let name = RoomName { column: 3, row: -2 };
+    let terrain = Terrain::of(alloc, &[Ground::Swamp; 2500])?;
+    world.push_room(name, terrain.copy(alloc)?, two_piles(alloc)?)?;
+    world.push_room(name, terrain, RoomTable::new(alloc, 1, 1))?;
+    for (index, id, added) in [(1, 3, true), (0, 2, false), (1, 4, true), (2, 1, false)] {
+        assert_eq!(rt; change_room(&mut world, index, pile(id, 1)), added, "{id}");
+    }
+    assert_eq!(rt; world.rooms(), 2);
+    assert_eq!(rt; world.room(1).at(20, 20, Kind::Pile), Some(3));
+    assert_eq!(rt; world.room(0).len(), 2);
+    assert_eq!(rt; world.find_room(name), Some(0));
     Ok(())
 }
 

@@ -1,7 +1,10 @@
 // The world as it is stored.
-ghost use Rattle.std.specs.Prelude.{◌≡◌, ◌↔◌, IsTrue, ℕ, ◌<◌, ◌≤◌, ◌-◌, ◌+◌, ◌^◌, [], ◌∷◌, ◌++◌, length, slice_get, option_map, Some, None, IfSome, IfNone, IfOk, OnOk, OnErr};
+ghost use Rattle.std.specs.Prelude.{◌≡◌, ◌↔◌, IsTrue, ℕ, ◌<◌, ◌≤◌, ◌-◌, ◌+◌, ◌*◌, ◌^◌, [], ◌∷◌, ◌++◌, length, slice_get, option_map, Some, None, IfSome, IfNone, IfOk, OnOk, OnErr};
 ghost use Rattle.std.specs.List.Sorted.{IsPartitionPoint};
+ghost use Rattle.std.specs.Borrow.{sem};
 ghost use Rattle.object_store.specs.Stored.{Stored, AreRising, IsLast, HaveRisingTables, IsRoomNamed, HasAccount, find_account, with_account};
+ghost use Rattle.object_store.specs.Lending.{LendsTable};
+ghost use Rattle.object_store.specs.inner.Naming.{HasNumber, room_names, sort_number, AreByName, IsPlaceOf};
 
 use crate::account::Account;
 use crate::room_table::RoomTable;
@@ -18,12 +21,6 @@ pub struct Room {
 }
 
 impl Room {
-    fn is_named(&self, name: RoomName) -> bool
-        ensures { IsTrue result ↔ (self.now.name ≡ name) }
-    {
-        self.name == name
-    }
-
     /// The same room once more, with the spare of its table.
     fn copy(&self, alloc: Global) -> Result<Room, AllocError>
         ensures { IfOk result (λ copy. copy ≡ self.now) }
@@ -37,22 +34,28 @@ impl Room {
 }
 
 /// A world: its tick, its rooms, and the accounts in rising player.
+///
+/// A room is found by its name by halving, in the indices of the rooms in the order of their names.
 #[derive(Drop)]
 pub struct World {
     tick: u64,
     rooms: Vec<Room>,
+    by_name: Vec<u32>,
     accounts: Vec<Account>,
 }
 
 impl Model for World {
     ghost use Rattle.std.specs.Prelude.{◌<◌, ◌^◌, length};
-    ghost use Rattle.object_store.specs.Stored.{Stored, AreRising, HaveRisingTables};
+    ghost use Rattle.object_store.specs.Stored.{Stored, AreRising};
+    ghost use Rattle.object_store.specs.inner.Naming.{room_names, AreByName};
 
     ghost Value = { Stored };
 
     ghost view = { λ w. record { tick = w.tick; rooms = w.rooms.items; accounts = w.accounts.items } };
 
-    ghost invariant = { λ w. (length w.rooms.items < 2 ^ 32) × HaveRisingTables w.rooms.items × (length w.accounts.items < 2 ^ 32) × AreRising w.accounts.items };
+    ghost invariant = { λ w. (length w.rooms.items < 2 ^ 32) × AreByName
+        (room_names w.rooms.items) w.by_name.items × (length w.accounts.items < 2 ^ 32)
+        × AreRising w.accounts.items };
 }
 
 impl World {
@@ -63,6 +66,7 @@ impl World {
         World {
             tick,
             rooms: Vec::new(alloc),
+            by_name: Vec::new(alloc),
             accounts: Vec::new(alloc),
         }
     }
@@ -95,8 +99,23 @@ impl World {
         Ok(World {
             tick: self.tick,
             rooms: copy_rooms(alloc, &self.rooms)?,
+            by_name: Vec::from_slice(alloc, &self.by_name)?,
             accounts: copy_accounts(alloc, &self.accounts)?,
         })
+    }
+
+    /// The rooms and the accounts, taken out of the world.
+    pub fn into_parts(self) -> (Vec<Room>, Vec<Account>)
+        ensures rooms { result.0.items ≡ self.rooms }
+        ensures accounts { result.1.items ≡ self.accounts }
+    {
+        let World {
+            tick: _,
+            rooms,
+            by_name: _,
+            accounts,
+        } = self;
+        (rooms, accounts)
     }
 
     /// The number of rooms.
@@ -112,6 +131,7 @@ impl World {
         ensures within { length result.now < 2 ^ 32 }
         ensures rising { HaveRisingTables result.now }
     {
+        all_rise(&self.rooms);
         &self.rooms
     }
 
@@ -123,13 +143,33 @@ impl World {
         &self.rooms[index as usize].table
     }
 
+    /// The objects of a room, to be changed.
+    pub fn room_mut(&mut self, index: u32) -> &mut RoomTable
+        requires { index < length self.old.rooms }
+        ensures* writes_back { sem 𝓛 (LendsTable self.entry index result) }
+        ensures value { option_map (λ room. room.table) (slice_get self.old.rooms index) ≡ Some result.now }
+    {
+        let room = &mut self.rooms[index as usize];
+        &mut room.table
+    }
+
     /// The least index of a room of a name.
     pub fn find_room(&self, name: RoomName) -> Option<u32>
-        ensures some { IfSome result (λ i. IsRoomNamed name self.now.rooms i × ((k : ℕ) → k < i → ¬ IsRoomNamed name self.now.rooms k)) }
+        ensures some { IfSome result (λ i. IsRoomNamed name self.now.rooms i
+            × ((k : ℕ) → k < i → ¬ IsRoomNamed name self.now.rooms k)) }
         ensures none { IfNone result ((k : ℕ) → ¬ IsRoomNamed name self.now.rooms k) }
     {
-        let index = self.rooms.iter().position(|room| room.is_named(name))?;
-        Some(index as u32)
+        let number = name_number(name);
+        let place = name_place(&self.rooms, &self.by_name, number, 0);
+        if place >= self.by_name.len() {
+            return None;
+        }
+        let index = self.by_name[place];
+        let found = name_number(self.rooms[index as usize].name);
+        if found == number {
+            return Some(index);
+        }
+        None
     }
 
     /// The name of a room.
@@ -191,24 +231,35 @@ impl World {
     ) -> Result<(), AllocError>
         requires index { table.index ≡ length self.old.rooms }
         requires room { length self.old.rooms + 1 < 2 ^ 32 }
-        ensures ok { OnOk result (self.new ≡ record self.old { rooms = self.old.rooms ++ record { name = name; terrain = terrain; table = table } ∷ [] }) }
+        ensures ok { OnOk result
+            (self.new ≡ record self.old {
+              rooms = self.old.rooms ++ record {
+                name = name;
+                terrain = terrain;
+                table = table;
+              } ∷ [];
+            }) }
         ensures err { OnErr result (self.new ≡ self.old) }
     {
-        let _rising = table.objects();
-        Ok(
-            self.rooms.push(Room {
-                name,
-                terrain,
-                table,
-            })?,
-        )
+        let index = self.rooms.len() as u32;
+        let place = name_place(&self.rooms, &self.by_name, name_number(name), index);
+        self.by_name.reserve(1)?;
+        self.rooms.push(Room {
+            name,
+            terrain,
+            table,
+        })?;
+        // It has memory for one more, so this is never refused.
+        let _full = self.by_name.insert(place, index);
+        Ok(())
     }
 
     /// Adds an account at the end. Accounts are added in rising player.
     pub fn push_account(&mut self, account: Account) -> Result<(), AllocError>
         requires room { length self.old.accounts + 1 < 2 ^ 32 }
         requires rising { IsLast account.player self.old.accounts }
-        ensures ok { OnOk result (self.new ≡ record self.old { accounts = self.old.accounts ++ account ∷ [] }) }
+        ensures ok { OnOk result
+            (self.new ≡ record self.old { accounts = self.old.accounts ++ account ∷ [] }) }
         ensures err { OnErr result (self.new ≡ self.old) }
     {
         Ok(self.accounts.push(account)?)
@@ -222,6 +273,50 @@ impl World {
         let place = account_place(&self.accounts, account.player);
         self.accounts[place] = account;
     }
+}
+
+// What each table keeps: that its objects rise.
+fn all_rise(rooms: &[Room])
+    ensures { HaveRisingTables rooms.now }
+{
+    for room in rooms {
+        let _rising = room.table.objects();
+    }
+}
+
+// The number of a name.
+fn name_number(name: RoomName) -> u64
+    ensures { HasNumber name result }
+{
+    u64::from(name.column.cast_unsigned()) * (1 << 32) + u64::from(name.row.cast_unsigned())
+}
+
+// Whether a room comes before a name's number and an index.
+fn comes_before(rooms: &[Room], room: u32, number: u64, index: u32) -> bool
+    requires { room < length rooms.now }
+    ensures { IsTrue result ↔ (sort_number (room_names rooms.now) room < number * 2 ^ 32 + index) }
+{
+    let its = name_number(rooms[room as usize].name);
+    its < number || its == number && room < index
+}
+
+// The place of a name's number and an index among the rooms by name.
+fn name_place(rooms: &[Room], by_name: &[u32], number: u64, index: u32) -> usize
+    requires { AreByName (room_names rooms.now) by_name.now }
+    ensures within { result ≤ length by_name.now }
+    ensures between { IsPlaceOf (number * 2 ^ 32 + index) (room_names rooms.now) by_name.now result }
+{
+    let mut low = 0;
+    let mut high = by_name.len();
+    while low < high {
+        let middle = low + (high - low) / 2;
+        if comes_before(rooms, by_name[middle], number, index) {
+            low = middle + 1;
+        } else {
+            high = middle;
+        }
+    }
+    low
 }
 
 // The place of a player among the accounts, or where it would be.

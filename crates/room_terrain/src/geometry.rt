@@ -91,7 +91,8 @@ pub fn mirror(name: RoomName, x: u8, y: u8) -> Option<(RoomName, u8, u8)>
 // The column or row across an edge, where it is one of the world's, and the coordinate there.
 fn cross(side: i32, z: u8) -> Option<(i32, u8)>
     ensures some { IfSome result (λ found. Crosses side z found.0 found.1 × IsSideInRange found.0) }
-    ensures none { IfNone result ((side' : ℤ) → (z' : ℕ) → Crosses side z side' z' → IsSideInRange side' → ⊥) }
+    ensures none { IfNone result ((side' : ℤ) → (z' : ℕ) → Crosses side z side' z' → IsSideInRange side'
+        → ⊥) }
 {
     match z {
         0 if -127 <= side && side <= 128 => Some((side - 1, 49)),

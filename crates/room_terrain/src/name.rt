@@ -41,8 +41,11 @@ impl RoomName {
 // is negative and else `after`.
 fn read_side(text: &[u8], before: u8, after: u8) -> Option<(i32, &[u8])>
     requires { before ≢ after }
-    ensures some { IfSome result (λ found. IsSideInRange found.0 × (text.now ≡ side_text before after found.0 ++ found.1.now)) }
-    ensures all { (side : ℤ) → (rest : List ℕ) → IsSideInRange side → EndsNumber rest → text.now ≡ side_text before after side ++ rest → MatchOption result ⊥ (λ found. (found.0 ≡ side) × (found.1.now ≡ rest)) }
+    ensures some { IfSome result
+        (λ found. IsSideInRange found.0 × (text.now ≡ side_text before after found.0 ++ found.1.now)) }
+    ensures all { (side : ℤ) → (rest : List ℕ) → IsSideInRange side → EndsNumber rest
+        → text.now ≡ side_text before after side ++ rest
+        → MatchOption result ⊥ (λ found. (found.0 ≡ side) × (found.1.now ≡ rest)) }
 {
     if text.is_empty() {
         return None;
@@ -64,8 +67,11 @@ fn read_side(text: &[u8], before: u8, after: u8) -> Option<(i32, &[u8])>
 // The number from 0 to 127 at the front of a text, without leading zeros, and the number of its
 // digits.
 fn read_number(text: &[u8]) -> Option<(u8, usize)>
-    ensures some { IfSome result (λ found. (found.0 ≤ 127) × (text.now ≡ decimal found.0 ++ drop found.1 text.now)) }
-    ensures all { (number : ℕ) → (rest : List ℕ) → number ≤ 127 → EndsNumber rest → text.now ≡ decimal number ++ rest → MatchOption result ⊥ (λ found. (found.0 ≡ number) × (drop found.1 text.now ≡ rest)) }
+    ensures some { IfSome result
+        (λ found. (found.0 ≤ 127) × (text.now ≡ decimal found.0 ++ drop found.1 text.now)) }
+    ensures all { (number : ℕ) → (rest : List ℕ) → number ≤ 127 → EndsNumber rest
+        → text.now ≡ decimal number ++ rest
+        → MatchOption result ⊥ (λ found. (found.0 ≡ number) × (drop found.1 text.now ≡ rest)) }
     ensures within { IfSome result (λ found. found.1 ≤ length text.now) }
 {
     let Some(first) = digit_at(text, 0) else {

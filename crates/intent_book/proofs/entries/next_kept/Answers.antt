@@ -1,6 +1,6 @@
 use Rattle.std.proofs.Common.{◌+◌, take, subst, sym, ◌∙◌, arith}
 use Rattle.std.proofs.lemmas.Bool.{true≢false}
-use Rattle.intent_book.specs.Numbered.{Finds}
+use Rattle.intent_book.specs.inner.Numbered.{Finds}
 use Rattle.intent_book.proofs.Numbers.{finds-skip, finds-more, take-snoc}
 use Rattle.intent_book.proofs.entries.next_kept.Goals as goal
 use Rattle.intent_book.proofs.entries.next_kept.Goals.{in-Some+then-kept-from, in-Some+else-kept-from, in_default}

@@ -1,5 +1,5 @@
 use Rattle.std.proofs.Common.{take}
-use Rattle.intent_book.specs.Numbered.{Finds}
+use Rattle.intent_book.specs.inner.Numbered.{Finds}
 use Rattle.intent_book.proofs.entries.next_kept.Given as goal
 
 abbrev pub invariant-loop-at : goal.invariant-loop-at

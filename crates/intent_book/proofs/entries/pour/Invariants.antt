@@ -1,6 +1,6 @@
 use Rattle.std.proofs.Common.{◌≡◌, ◌≤◌, take, vec_capacity}
 use Rattle.indexmap.specs.IndexMap.{index_map_len}
-use Rattle.intent_book.specs.Numbered.{intents}
+use Rattle.intent_book.specs.inner.Numbered.{intents}
 use Rattle.intent_book.proofs.entries.pour.Given as goal
 
 abbrev pub invariant-loop-at : goal.invariant-loop-at

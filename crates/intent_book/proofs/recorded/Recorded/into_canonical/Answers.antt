@@ -2,7 +2,7 @@ use Rattle.std.proofs.Common.{◌≡◌, sym, subst, ap, length, rules, arith, I
 use Rattle.std.proofs.lemmas.List.Sorted.{All-permutation, IsPermutation-sym, IsPermutation-trans, answers_always, length_permutation}
 use Rattle.std.specs.List.{IsDistinct}
 use Rattle.std.proofs.lemmas.Map.Keys.{IsDistinct-IsPermutation}
-use Rattle.intent_book.specs.Numbered.{intents, listed}
+use Rattle.intent_book.specs.inner.Numbered.{intents, listed}
 use Rattle.intent_book.specs.Records.{AreOf, same_place, place, place_cmp}
 use Rattle.intent_book.proofs.Orders.{listed-permutation, distinct_intents, length-intents, place_symm}
 use Rattle.intent_book.proofs.recorded.Recorded.into_canonical.Goals as goal

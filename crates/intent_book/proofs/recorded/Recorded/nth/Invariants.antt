@@ -1,5 +1,5 @@
 use Rattle.std.proofs.Common.{◌≡◌, ◌≤◌, length}
-use Rattle.intent_book.specs.Numbered.{listed}
+use Rattle.intent_book.specs.inner.Numbered.{listed}
 use Rattle.intent_book.proofs.recorded.Recorded.nth.Given as goal
 
 abbrev pub invariant-loop-done : goal.invariant-loop-done

@@ -1,6 +1,6 @@
 use Rattle.std.proofs.Common.{◌≡◌, ◌∙◌, arith, ap, sym, subst, refl, ◌+◌, List}
 use Rattle.intent_book.specs.declared.intent.Intent.{Intent}
-use Rattle.intent_book.specs.Numbered.{listed, IsKept}
+use Rattle.intent_book.specs.inner.Numbered.{listed, IsKept}
 use Rattle.intent_book.specs.Records.{AreOf, Record, accepts, put_last}
 use Rattle.intent_book.proofs.Orders.{accepts-listed, are_of-put, listed-put, kept-put}
 use Rattle.intent_book.proofs.recorded.Recorded.put.Goals as goal

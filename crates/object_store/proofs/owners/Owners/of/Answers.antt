@@ -1,9 +1,9 @@
-use Rattle.std.proofs.Common.{List, take, subst}
+use Rattle.std.proofs.Common.{take, subst}
 use Rattle.std.specs.List.{All}
 use Rattle.std.proofs.lemmas.List.{take_all}
 use Rattle.std.proofs.lemmas.List.Elements.{All-more, All-weaker, recursion_from_All}
 use Rattle.object_store.specs.declared.object.Object.{Object}
-use Rattle.object_store.specs.Owners.{MayOwn}
+use Rattle.object_store.specs.inner.Owners.{MayOwn}
 use Rattle.object_store.proofs.owners.Owners.of.Goals as goal
 
 pub loop-object-preserved : goal.loop-object-preserved

@@ -1,40 +1,62 @@
-use Rattle.std.proofs.Common.{◌≡◌, ◌<◌, ◌+◌, length, sym, ap, subst, refl, ◌∙◌, arith}
+use Rattle.std.proofs.Common.{◌≡◌, ◌<◌, ◌≤◌, ◌∷◌, [], ◌++◌, length, sym, ap, subst, refl, ◌∙◌, arith}
 use Rattle.std.specs.List.{insert}
 use Rattle.std.specs.Vec.{vec_len, vec_capacity}
 use Rattle.std.proofs.lemmas.Bool.{cond-true}
+use Rattle.std.proofs.lemmas.List.{length_push}
 use Rattle.std.proofs.lemmas.List.Edits.{length-insert}
+use Rattle.object_store.specs.inner.Owners.{Covers}
+use Rattle.object_store.specs.inner.Placed.{standing, tile_of_object}
 use Rattle.object_store.specs.Tables.{Table, HasNoId}
-use Rattle.object_store.proofs.Keyed.{id_of, rises_from_objects, objects_from_rises}
-use Rattle.object_store.specs.Owners.{Covers}
+use Rattle.object_store.proofs.Changed.{standing_equal, placed_equal, inserted}
 use Rattle.object_store.proofs.Owned.{covers_insert}
-use Rattle.object_store.proofs.Rising.{Rises, added_there}
 use Rattle.object_store.proofs.room_table.RoomTable.insert.Goals as goal
 
 pub invariant_of-self : goal.invariant_of-self
 invariant_of-self c =
+    let was = c.self.inside in
+    let object = c.args.object in
     let place = c.place-place.result in
-    let objects = c.self.inside.objects.items in
-    let absent = subst (HasNoId c.args.object.id) (sym (ap (λ (t : Table). t.objects) c.self.view_is)) c.requires.absent in
-    let added = added_there id_of c.args.object c.deref.result.now objects place c.deref.ensures.value (rises_from_objects objects c.self.invariant.0) c.place-place.ensures.within c.place-place.ensures.between absent in
-    let long : length objects ≡ vec_len c.self.inside.objects = ap length (sym c.deref.ensures.value) ∙ c.deref.ensures.len in
-    let spare : c.self.inside.spare ≡ c.args.self.now.spare = ap (λ (t : Table). t.spare) c.self.view_is in
-    let room : vec_len c.self.inside.objects < vec_capacity c.self.inside.objects = omega (arith, c.self.invariant.2, c.requires.room) in
-    let done : c.insert-full.new.self.items ≡ insert objects place c.args.object = c.insert-full.ensures.items ∙ cond-true _ _ _ (c.insert-full.ensures.succeeds room) in
-    let count : length c.insert-full.new.self.items ≡ length objects + 1 = ap length done ∙ length-insert objects place c.args.object added.0 in (
-      objects_from_rises _ (subst (Rises id_of) (sym done) added.1),
-      omega (arith, c.self.invariant.1, c.requires.room),
-      omega (arith, c.self.invariant.2, c.requires.room, c.insert-full.ensures.capacity),
-      subst (Covers c.add.new.self.remainders) (sym done) (covers_insert _ _ c.args.object c.add.ensures.added c.add.ensures.kept objects c.self.invariant.3 place),
+    let slots = was.slots.items in
+    let order = was.order.items in
+    let tiles = was.tiles.tiles in
+    let room = c.self.invariant.1 in
+    let absent = subst (HasNoId object.id) (sym (ap (λ (t : Table). t.objects) c.self.view_is)) c.requires.absent in
+    let done = inserted slots order tiles place object _ (standing_equal c.deref.ensures.value c.deref-2.ensures.value) c.self.invariant.0 c.place-place.ensures.within c.place-place.ensures.between absent in
+    let one : 1 ≤ was.spare = omega (arith, ap (λ (t : Table). t.spare) c.self.view_is, c.requires.room) in
+    let long : c.len-slot.result ≡ length slots = omega (arith, c.len-slot.ensures, was.slots.ok.0) in
+    let slots_room : vec_len was.slots < vec_capacity was.slots = omega (arith, room.slots_room, one, was.slots.ok.0) in
+    let order_room : vec_len was.order < vec_capacity was.order = omega (arith, room.order_room, one, was.order.ok.0) in
+    let new_slots : c.push-full.new.self.items ≡ slots ++ object ∷ [] = c.push-full.ensures.items ∙ cond-true _ _ _ (c.push-full.ensures.succeeds slots_room) in
+    let new_order : c.insert-full.new.self.items ≡ insert order place (length slots) = c.insert-full.ensures.items ∙ cond-true _ _ _ (c.insert-full.ensures.succeeds order_room) ∙ ap (insert order place) long in
+    let new_tiles : c.add-2.new.self.tiles ≡ tiles ++ tile_of_object object ∷ [] = c.add-2.ensures.tiles ∙ ap (λ t. tiles ++ t ∷ []) c.tile_of.ensures in
+    let slots_count = ap length new_slots ∙ length_push slots object in
+    let order_count = ap length new_order ∙ length-insert order place (length slots) done.within in
+    let tiles_count = ap length new_tiles ∙ length_push tiles (tile_of_object object) in (
+      placed_equal new_slots new_order new_tiles done.placed,
+      record {
+        count = omega (arith, room.count, slots_count, one);
+        slots_room = omega (arith, room.slots_room, slots_count, one, c.push-full.ensures.capacity);
+        order_room = omega (arith, room.order_room, order_count, one, c.insert-full.ensures.capacity);
+        tiles_room = omega (arith, room.tiles_room, tiles_count, one, c.add-2.ensures.room);
+        heads = λ _. c.add-2.ensures.heads;
+      },
+      subst (Covers c.add.new.self.remainders) (sym (standing_equal new_slots new_order ∙ done.stands)) (covers_insert _ _ object c.add.ensures.added c.add.ensures.kept (standing slots order) c.self.invariant.2 place),
     )
 
 pub returns : goal.returns
 returns c =
+    let was = c.self.inside in
+    let object = c.args.object in
     let place = c.place-place.result in
-    let objects = c.self.inside.objects.items in
-    let absent = subst (HasNoId c.args.object.id) (sym (ap (λ (t : Table). t.objects) c.self.view_is)) c.requires.absent in
-    let added = added_there id_of c.args.object c.deref.result.now objects place c.deref.ensures.value (rises_from_objects objects c.self.invariant.0) c.place-place.ensures.within c.place-place.ensures.between absent in
-    let long : length objects ≡ vec_len c.self.inside.objects = ap length (sym c.deref.ensures.value) ∙ c.deref.ensures.len in
-    let spare : c.self.inside.spare ≡ c.args.self.now.spare = ap (λ (t : Table). t.spare) c.self.view_is in
-    let room : vec_len c.self.inside.objects < vec_capacity c.self.inside.objects = omega (arith, c.self.invariant.2, c.requires.room) in
-    let done : c.insert-full.new.self.items ≡ insert objects place c.args.object = c.insert-full.ensures.items ∙ cond-true _ _ _ (c.insert-full.ensures.succeeds room) in
-    rw (done ∙ added.2, ← c.self.view_is) refl
+    let slots = was.slots.items in
+    let order = was.order.items in
+    let room = c.self.invariant.1 in
+    let absent = subst (HasNoId object.id) (sym (ap (λ (t : Table). t.objects) c.self.view_is)) c.requires.absent in
+    let done = inserted slots order was.tiles.tiles place object _ (standing_equal c.deref.ensures.value c.deref-2.ensures.value) c.self.invariant.0 c.place-place.ensures.within c.place-place.ensures.between absent in
+    let one : 1 ≤ was.spare = omega (arith, ap (λ (t : Table). t.spare) c.self.view_is, c.requires.room) in
+    let long : c.len-slot.result ≡ length slots = omega (arith, c.len-slot.ensures, was.slots.ok.0) in
+    let slots_room : vec_len was.slots < vec_capacity was.slots = omega (arith, room.slots_room, one, was.slots.ok.0) in
+    let order_room : vec_len was.order < vec_capacity was.order = omega (arith, room.order_room, one, was.order.ok.0) in
+    let new_slots : c.push-full.new.self.items ≡ slots ++ object ∷ [] = c.push-full.ensures.items ∙ cond-true _ _ _ (c.push-full.ensures.succeeds slots_room) in
+    let new_order : c.insert-full.new.self.items ≡ insert order place (length slots) = c.insert-full.ensures.items ∙ cond-true _ _ _ (c.insert-full.ensures.succeeds order_room) ∙ ap (insert order place) long in
+    rw (standing_equal new_slots new_order ∙ done.stands ∙ done.objects, ← c.self.view_is) refl

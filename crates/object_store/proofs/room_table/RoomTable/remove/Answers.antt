@@ -1,50 +1,67 @@
-use Rattle.std.proofs.Common.{◌≡◌, ◌<◌, ◌+◌, Some, List, length, sym, ap, subst, refl, ◌∙◌, arith}
-use Rattle.std.specs.List.{HoldsAt}
+use Rattle.std.proofs.Common.{◌≡◌, ◌<◌, ◌+◌, ℕ, Some, List, length, get_or, set, sym, ap, subst, refl, ◌∙◌, arith, length-set}
+use Rattle.std.proofs.lemmas.List.{get_or_read}
 use Rattle.std.proofs.lemmas.List.Edits.{length-remove}
-use Rattle.object_store.specs.declared.object.Object.{Object}
-use Rattle.object_store.specs.Tables.{Table, HasNoId, find_object, without}
-use Rattle.object_store.proofs.Keyed.{id_of, rises_from_objects, objects_from_rises}
-use Rattle.object_store.specs.Owners.{Covers}
+use Rattle.object_store.specs.inner.Chains.{Chained}
+use Rattle.object_store.specs.inner.Owners.{Covers}
+use Rattle.object_store.specs.inner.Placed.{no_object, object_in, standing}
+use Rattle.object_store.specs.Tables.{Table, HasNoId, find_object}
+use Rattle.object_store.proofs.Changed.{standing_equal, placed_equal, taken}
+use Rattle.object_store.proofs.Keyed.{id_of}
 use Rattle.object_store.proofs.Owned.{covers_filter}
-use Rattle.object_store.proofs.Rising.{Rises, is_other, find-at, remove-at, others-absent, rises-filter}
+use Rattle.object_store.proofs.Placed.{known_at}
+use Rattle.object_store.proofs.Rising.{is_other, others-absent}
 use Rattle.object_store.proofs.room_table.RoomTable.remove.Goals as goal
 
 pub returns-in_err-place-clause-table : goal.returns-in_err-place-clause-table
 returns-in_err-place-clause-table c =
-    let same : c.self.inside.objects.items ≡ c.args.self.now.objects = ap (λ (t : Table). t.objects) c.self.view_is in
-    let absent = subst (HasNoId c.args.id) (c.deref.ensures.value ∙ same) c.in_err-place.ensures.absent in
+    let same = standing_equal c.deref.ensures.value c.deref-2.ensures.value ∙ ap (λ (t : Table). t.objects) c.self.view_is in
+    let absent = subst (HasNoId c.args.id) same c.in_err-place.ensures.absent in
     rw (others-absent id_of c.args.id c.args.self.now.objects absent) refl
 
 pub invariant_of-self : goal.invariant_of-self
 invariant_of-self c =
-    let id = c.args.id in
+    let was = c.self.inside in
+    let slots = was.slots.items in
+    let order = was.order.items in
+    let tiles = was.tiles.tiles in
     let place = c.in_ok-place.place in
-    let objects = c.self.inside.objects.items in
-    let found = subst (λ (xs : List Object). (place < length xs) × HoldsAt (λ o. o.id ≡ id) xs place) c.deref.ensures.value c.in_ok-place.ensures.found in
-    let rises = rises_from_objects objects c.self.invariant.0 in
-    let done : c.remove.new.self.items ≡ without id objects = c.remove.ensures.items ∙ remove-at id_of id objects place c.remove.result rises found.0 (found.1 c.remove.result) in
-    let count : length c.remove.new.self.items + 1 ≡ length objects = ap (λ (xs : List Object). length xs + 1) c.remove.ensures.items ∙ length-remove objects place found.0 in (
-      objects_from_rises _ (subst (Rises id_of) (sym done) (rises-filter id_of (is_other id_of id) objects rises)),
-      omega (arith, c.self.invariant.1),
-      omega (arith, c.self.invariant.2, c.remove.ensures.capacity),
-      subst (Covers c.self.inside.owners.remainders) (sym done) (covers_filter _ _ objects c.self.invariant.3),
+    let room = c.self.invariant.1 in
+    let within : place < length order = subst (λ (xs : List ℕ). place < length xs) c.deref-2.ensures.value c.in_ok-place.ensures.found.0 in
+    let done = taken slots order tiles place c.args.id _ (standing_equal c.deref.ensures.value c.deref-2.ensures.value) c.self.invariant.0 within c.in_ok-place.ensures.found.1 in
+    let slot : c.remove-slot.result ≡ get_or order place 0 = get_or_read order place c.remove-slot.result within c.remove-slot.ensures.value 0 in
+    let new_tiles : c.take.new.self.tiles ≡ set tiles (get_or order place 0) 2500 = ap (λ (t : Chained). t.tiles) c.take.ensures ∙ ap (λ n. set tiles n 2500) slot in
+    let less = ap (λ (xs : List ℕ). length xs + 1) c.remove-slot.ensures.items ∙ length-remove order place within in
+    let tiles_count = ap length new_tiles ∙ length-set tiles (get_or order place 0) 2500 in (
+      placed_equal refl c.remove-slot.ensures.items new_tiles done.placed,
+      record {
+        count = room.count;
+        slots_room = room.slots_room;
+        order_room = omega (arith, room.order_room, less, c.remove-slot.ensures.capacity);
+        tiles_room = omega (arith, room.tiles_room, tiles_count, ap (λ (t : Chained). t.room) c.take.ensures);
+        heads = λ some. ap (λ (t : Chained). t.heads) c.take.ensures ∙ room.heads some;
+      },
+      subst (Covers was.owners.remainders) (sym (standing_equal refl c.remove-slot.ensures.items ∙ done.objects)) (covers_filter was.owners.remainders (is_other id_of c.args.id) (standing slots order) c.self.invariant.2),
     )
 
 pub returns-clause-removed : goal.returns-clause-removed
 returns-clause-removed c =
-    let id = c.args.id in
+    let was = c.self.inside in
+    let slots = was.slots.items in
+    let order = was.order.items in
     let place = c.in_ok-place.place in
-    let objects = c.self.inside.objects.items in
-    let same : objects ≡ c.args.self.now.objects = ap (λ (t : Table). t.objects) c.self.view_is in
-    let found = subst (λ (xs : List Object). (place < length xs) × HoldsAt (λ o. o.id ≡ id) xs place) c.deref.ensures.value c.in_ok-place.ensures.found in
-    let taken = c.remove.result in
-    ap Some c.remove.ensures.value ∙ sym (find-at id_of id objects place taken (rises_from_objects objects c.self.invariant.0) found.0 (found.1 taken)) ∙ ap (find_object id) same
+    let placed = c.self.invariant.0 in
+    let within : place < length order = subst (λ (xs : List ℕ). place < length xs) c.deref-2.ensures.value c.in_ok-place.ensures.found.0 in
+    let done = taken slots order was.tiles.tiles place c.args.id _ (standing_equal c.deref.ensures.value c.deref-2.ensures.value) placed within c.in_ok-place.ensures.found.1 in
+    let slot : c.remove-slot.result ≡ get_or order place 0 = get_or_read order place c.remove-slot.result within c.remove-slot.ensures.value 0 in
+    let known : c.remove-slot.result < length slots = subst (λ n. n < length slots) (sym slot) (known_at slots order place placed.known within) in
+    let read = get_or_read slots c.remove-slot.result c.index.result.now known c.index.ensures no_object ∙ ap (object_in slots) slot in
+    ap Some read ∙ sym done.found ∙ ap (λ (t : Table). find_object c.args.id t.objects) c.self.view_is
 
 pub returns-clause-table : goal.returns-clause-table
 returns-clause-table c =
-    let id = c.args.id in
+    let was = c.self.inside in
+    let order = was.order.items in
     let place = c.in_ok-place.place in
-    let objects = c.self.inside.objects.items in
-    let found = subst (λ (xs : List Object). (place < length xs) × HoldsAt (λ o. o.id ≡ id) xs place) c.deref.ensures.value c.in_ok-place.ensures.found in
-    let done : c.remove.new.self.items ≡ without id objects = c.remove.ensures.items ∙ remove-at id_of id objects place c.remove.result (rises_from_objects objects c.self.invariant.0) found.0 (found.1 c.remove.result) in
-    rw (done, ← c.self.view_is) refl
+    let within : place < length order = subst (λ (xs : List ℕ). place < length xs) c.deref-2.ensures.value c.in_ok-place.ensures.found.0 in
+    let done = taken was.slots.items order was.tiles.tiles place c.args.id _ (standing_equal c.deref.ensures.value c.deref-2.ensures.value) c.self.invariant.0 within c.in_ok-place.ensures.found.1 in
+    rw (standing_equal refl c.remove-slot.ensures.items ∙ done.objects, ← c.self.view_is) refl

@@ -1,33 +1,43 @@
-use Rattle.std.proofs.Common.{length, sym, ap, subst, refl, arith, length-set}
-use Rattle.object_store.specs.declared.object.Object.{Object}
-use Rattle.object_store.specs.Tables.{Table, HasId}
-use Rattle.object_store.proofs.Keyed.{id_of, rises_from_objects, objects_from_rises}
+use Rattle.std.proofs.Common.{◌≡◌, length, set, sym, ap, subst, refl, ◌∙◌, arith, length-set}
+use Rattle.object_store.specs.inner.Chains.{Chained}
+use Rattle.object_store.specs.inner.Owners.{Covers}
+use Rattle.object_store.specs.inner.Placed.{standing, tile_of_object, StandsIn}
+use Rattle.object_store.proofs.Changed.{placed_equal, replaced}
 use Rattle.object_store.proofs.Owned.{covers_set}
-use Rattle.object_store.proofs.Rising.{Rises, replaced_there, rises-replaced}
 use Rattle.object_store.proofs.room_table.RoomTable.set.Goals as goal
-
-pub index_mut-requires : goal.index_mut-requires
-index_mut-requires c =
-    let objects = c.self.inside.objects.items in
-    let there = subst (HasId c.args.object.id) (sym (ap (λ (t : Table). t.objects) c.self.view_is)) c.requires.there in
-    let done = replaced_there id_of c.args.object c.deref.result.now objects c.place-place.result c.deref.ensures.value (rises_from_objects objects c.self.invariant.0) c.place-place.ensures.within c.place-place.ensures.between there.0 there.1 in
-    omega (arith, done.0, c.deref.ensures.len, ap length c.deref.ensures.value)
 
 pub invariant_of-self : goal.invariant_of-self
 invariant_of-self c =
-    let objects = c.self.inside.objects.items in
-    let rises = rises_from_objects objects c.self.invariant.0 in
-    let there = subst (HasId c.args.object.id) (sym (ap (λ (t : Table). t.objects) c.self.view_is)) c.requires.there in
-    let done = replaced_there id_of c.args.object c.deref.result.now objects c.place-place.result c.deref.ensures.value rises c.place-place.ensures.within c.place-place.ensures.between there.0 there.1 in (
-      objects_from_rises _ (subst (Rises id_of) (sym done.1) (rises-replaced id_of c.args.object objects rises)),
-      omega (arith, length-set {A = Object}, c.self.invariant.1),
-      omega (arith, length-set {A = Object}, c.self.invariant.2),
-      covers_set _ _ c.args.object c.add.ensures.added c.add.ensures.kept objects c.self.invariant.3 c.place-place.result,
+    let was = c.self.inside in
+    let object = c.args.object in
+    let slot = c.slot_of-slot.result in
+    let slots = was.slots.items in
+    let order = was.order.items in
+    let tiles = was.tiles.tiles in
+    let room = c.self.invariant.1 in
+    let stands = subst (λ os. StandsIn object.id slots os slot) c.deref-2.ensures.value (subst (λ ss. StandsIn object.id ss c.deref-2.result.now slot) c.deref.ensures.value c.slot_of-slot.ensures.stands) in
+    let done = replaced slots order tiles slot object c.self.invariant.0 stands in
+    let new_tiles : c.shift.new.self.tiles ≡ set tiles slot (tile_of_object object) = ap (λ (t : Chained). t.tiles) c.shift.ensures ∙ ap (λ n. set tiles slot n) c.tile_of.ensures in
+    let slots_count = length-set slots slot object in
+    let tiles_count = ap length new_tiles ∙ length-set tiles slot (tile_of_object object) in (
+      placed_equal refl refl new_tiles done.placed,
+      record {
+        count = omega (arith, room.count, slots_count);
+        slots_room = omega (arith, room.slots_room, slots_count);
+        order_room = room.order_room;
+        tiles_room = omega (arith, room.tiles_room, tiles_count, ap (λ (t : Chained). t.room) c.shift.ensures);
+        heads = λ some. ap (λ (t : Chained). t.heads) c.shift.ensures ∙ room.heads some;
+      },
+      subst (Covers c.add.new.self.remainders) (sym done.stands) (covers_set _ _ object c.add.ensures.added c.add.ensures.kept (standing slots order) c.self.invariant.2 done.place),
     )
 
 pub returns : goal.returns
 returns c =
-    let objects = c.self.inside.objects.items in
-    let there = subst (HasId c.args.object.id) (sym (ap (λ (t : Table). t.objects) c.self.view_is)) c.requires.there in
-    let done = replaced_there id_of c.args.object c.deref.result.now objects c.place-place.result c.deref.ensures.value (rises_from_objects objects c.self.invariant.0) c.place-place.ensures.within c.place-place.ensures.between there.0 there.1 in
-    rw (done.1, ← c.self.view_is) refl
+    let was = c.self.inside in
+    let object = c.args.object in
+    let slot = c.slot_of-slot.result in
+    let slots = was.slots.items in
+    let order = was.order.items in
+    let stands = subst (λ os. StandsIn object.id slots os slot) c.deref-2.ensures.value (subst (λ ss. StandsIn object.id ss c.deref-2.result.now slot) c.deref.ensures.value c.slot_of-slot.ensures.stands) in
+    let done = replaced slots order was.tiles.tiles slot object c.self.invariant.0 stands in
+    rw (done.stands ∙ done.objects, ← c.self.view_is) refl

@@ -1,0 +1,37 @@
+use Rattle.std.proofs.Common.{◌≡◌, length, map, sym, ap, subst, refl, ◌∙◌, arith}
+use Rattle.std.specs.List.{range_with_len}
+use Rattle.std.proofs.lemmas.List.{length-map}
+use Rattle.std.proofs.lemmas.List.FromFn.{length-range_with_len}
+use Rattle.object_store.specs.inner.Owners.{Covers}
+use Rattle.object_store.specs.inner.Placed.{tile_of_object}
+use Rattle.object_store.proofs.Changed.{standing_equal, placed_equal}
+use Rattle.object_store.proofs.Placed.{all_slots, standing_all, placed_all}
+use Rattle.object_store.proofs.room_table.RoomTable.filled.Goals as goal
+
+pub invariant_of-result : goal.invariant_of-result
+invariant_of-result c =
+    let slots = c.args.slots.items in
+    let spare = c.args.spare in
+    let long : c.len.result ≡ length slots = omega (arith, c.len.ensures, c.args.slots.ok.0) in
+    let count : c.len-2.result ≡ length slots = omega (arith, c.len-2.ensures, c.args.slots.ok.0) in
+    let new_order : c.in_ok-order.order.items ≡ all_slots slots = c.in_ok-order.ensures.numbers ∙ ap (range_with_len 0) count in
+    let new_tiles : c.in_ok-tiles.tiles.tiles ≡ map tile_of_object slots = c.in_ok-tiles.ensures.tiles ∙ ap (map tile_of_object) c.deref.ensures.value in
+    let order_count : length c.in_ok-order.order.items ≡ length slots = ap length new_order ∙ length-range_with_len 0 (length slots) in
+    let tiles_count : length c.in_ok-tiles.tiles.tiles ≡ length slots = ap length new_tiles ∙ length-map slots tile_of_object in (
+      placed_equal refl new_order new_tiles (placed_all slots c.requires.rising),
+      record {
+        count = c.requires.within;
+        slots_room = c.requires.room;
+        order_room = omega (arith, order_count, long, c.in_ok-order.ensures.room);
+        tiles_room = omega (arith, tiles_count, long, c.in_ok-tiles.ensures.room);
+        heads = λ _. c.in_ok-tiles.ensures.heads;
+      },
+      subst (Covers c.args.owners.remainders) (sym (standing_equal refl new_order ∙ standing_all slots)) c.requires.owners,
+    )
+
+pub returns : goal.returns
+returns c =
+    let slots = c.args.slots.items in
+    let count : c.len-2.result ≡ length slots = omega (arith, c.len-2.ensures, c.args.slots.ok.0) in
+    let new_order : c.in_ok-order.order.items ≡ all_slots slots = c.in_ok-order.ensures.numbers ∙ ap (range_with_len 0) count in
+    rw (standing_equal refl new_order ∙ standing_all slots) refl

@@ -1,0 +1,6 @@
+-- Definitions that private functions and proofs cite alone.
+pub mod Owners
+pub mod Placed
+pub mod Chains
+pub mod Naming
+pub mod Ordered
