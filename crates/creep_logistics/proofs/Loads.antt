@@ -5,7 +5,9 @@ use Rattle.object_store.specs.declared.object.Object.{Object}
 use Rattle.object_store.specs.Tables.{Table, HasId, find_object, with_object}
 use Rattle.intent_book.specs.declared.intent.Intent.{Intent}
 use Rattle.world_rules.specs.RoomParts.{RoomPart, table_part}
-use Rattle.world_rules.specs.Drops.{can_drop, dropped, dropped_by, dropped_of, fallen, wanted_of}
+use Rattle.game_tables.specs.declared.action.Action.TheVariants.{DropLoad}
+use Rattle.world_rules.specs.Checks.{may_take_effect}
+use Rattle.world_rules.specs.Drops.{dropped, dropped_by, dropped_of, fallen, wanted_of}
 use Rattle.falling_energy.proofs.Piles.{has_the_id}
 use Rattle.falling_energy.proofs.Parts.{get_table_part, part_replaced}
 
@@ -33,12 +35,12 @@ module _ (grounds : List Ground) (table : Table) (intent : Intent) where
   dropped_by_none is = sym (of_actor None is)
 
   module _ (creep : Object) (is : find_object intent.actor table.objects ≡ Some creep) where
-    -- An object that may not drop drops nothing.
-    pub dropped_by_other : can_drop intent creep ≡ false → table_part grounds table ≡ dropped intent (table_part grounds table)
+    -- An entry without effect drops nothing.
+    pub dropped_by_other : may_take_effect DropLoad intent (table_part grounds table) ≡ false → table_part grounds table ≡ dropped intent (table_part grounds table)
     dropped_by_other no_drop = sym (of_actor (Some creep) is ∙ ap (λ (b : Bool). if b then dropped_by creep (wanted_of intent.amount creep.energy) part else part) no_drop)
 
-    -- What leaves a creep that may falls on its tile.
-    pub dropped_by_creep : can_drop intent creep ≡ true → dropped intent (table_part grounds table) ≡ fallen creep.x creep.y (wanted_of intent.amount creep.energy) (table_part grounds (left intent creep table))
+    -- What leaves the creep of one that has it falls on its tile.
+    pub dropped_by_creep : may_take_effect DropLoad intent (table_part grounds table) ≡ true → dropped intent (table_part grounds table) ≡ fallen creep.x creep.y (wanted_of intent.amount creep.energy) (table_part grounds (left intent creep table))
     dropped_by_creep may =
         of_actor (Some creep) is
         ∙ ap (λ (b : Bool). if b then dropped_by creep (wanted_of intent.amount creep.energy) part else part) may

@@ -60,12 +60,13 @@ fn pile(x: u8, energy: u64) -> Object
 fn room(alloc: Global, lying: Object, creep: Object) -> Result<RoomTable, AllocError>
     requires lying { lying.id ≡ 2 }
     requires creep { creep.id ≡ 3 }
-    ensures { IfOk result (λ room. room ≡ record { index = 0; next = 4; objects = lying ∷ creep ∷ []; spare = 1 }) }
+    ensures { IfOk result
+        (λ room. room ≡ record { index = 0; next = 4; objects = lying ∷ creep ∷ []; spare = 1 }) }
 {
     let mut objects = Vec::new(alloc);
     objects.push(lying)?;
     objects.push(creep)?;
-    let mut room = RoomTable::of(0, 4, objects);
+    let mut room = RoomTable::of(alloc, 0, 4, objects)?;
     room.reserve(1)?;
     Ok(room)
 }

@@ -7,7 +7,7 @@ use Rattle.game_tables.specs.declared.kind.Kind.{Kind}
 use Rattle.game_tables.specs.declared.kind.Kind.TheVariants as kinds
 use Rattle.object_store.specs.declared.object.Object.{Object}
 use Rattle.object_store.specs.Tables.{IsOnTile, IsRising, find_object, first_on}
-use Rattle.world_rules.specs.Kinds.{is_pile}
+use Rattle.game_tables.specs.Kinds.{is_pile}
 use Rattle.world_rules.specs.Drops.{is_pile_on}
 
 is_number : (kind : Kind) → (kind_number kind == kind_number kinds.Pile) ≡ is_pile kind

@@ -17,7 +17,8 @@ pub fn fall(room: &mut RoomTable, x: u8, y: u8, amount: u64)
     requires column { x ≤ 49 }
     requires row { y ≤ 49 }
     requires ready { IsReady room.old }
-    ensures rule { (grounds : List Ground) → table_part grounds room.new ≡ fallen x y amount (table_part grounds room.old) }
+    ensures rule { (grounds : List Ground)
+        → table_part grounds room.new ≡ fallen x y amount (table_part grounds room.old) }
     ensures keeps { Keeps room.old room.new }
 {
     if amount == 0 {

@@ -4,7 +4,7 @@ use Rattle.std.specs.List.{Contains, filter, list_any}
 use Rattle.std.proofs.lemmas.Bool.{not_from_true, false_from_ne_true}
 use Rattle.intent_book.specs.declared.intent.Intent.{Intent}
 use Rattle.world_rules.specs.World.{World}
-use Rattle.world_rules.specs.Intents.{fits, same_entry, last_of_each, dominates, kept}
+use Rattle.world_rules.specs.Intents.{fits, same_entry, last_of_each, overrules, kept}
 use Rattle.room_commutes.specs.Counting.{IsLast, Counts}
 use Rattle.room_commutes.proofs.Members.{Has, has_contained, contains_has, any_has, has_any, filter_has, has_filter}
 
@@ -63,23 +63,23 @@ module _ (world : World) where
 
   module _ (list : List Intent) (entry : Intent) where
     abbrev is_left : Intent → Bool
-    is_left one = not (list_any (λ other. dominates other one) (lasts list))
+    is_left one = not (list_any (λ other. overrules other one) (lasts list))
 
     counts : Contains (kept world list) entry → Counts world list entry
     counts contained =
         let left = has_filter is_left (lasts list) entry (contains_has (kept world list) entry contained) in
         record {
           last = last_is list entry left.0;
-          undropped = λ other is. false_from_ne_true (dominates other entry) (λ drops.
-              let found = has_any (λ one. dominates one entry) (lasts list) other (is_last_has list other is) drops in
-              let fails = not_from_true (list_any (λ one. dominates one entry) (lasts list)) found in
+          undropped = λ other is. false_from_ne_true (overrules other entry) (λ drops.
+              let found = has_any (λ one. overrules one entry) (lasts list) other (is_last_has list other is) drops in
+              let fails = not_from_true (list_any (λ one. overrules one entry) (lasts list)) found in
               absurd (cc (fails, left.1)));
         }
 
     counted : Counts world list entry → Contains (kept world list) entry
     counted is =
-        let none : list_any (λ one. dominates one entry) (lasts list) ≡ false = false_from_ne_true (list_any (λ one. dominates one entry) (lasts list)) (λ drops.
-        let found = any_has (λ one. dominates one entry) (lasts list) drops in
+        let none : list_any (λ one. overrules one entry) (lasts list) ≡ false = false_from_ne_true (list_any (λ one. overrules one entry) (lasts list)) (λ drops.
+        let found = any_has (λ one. overrules one entry) (lasts list) drops in
         let fails = is.undropped found.0 (last_is list found.0 found.1) in
         absurd (cc (fails, found.2))) in
         has_contained (kept world list) entry (filter_has is_left (lasts list) entry (is_last_has list entry is.last) (ap not none))

@@ -7,7 +7,7 @@ use Rattle.std.proofs.lemmas.Bool.{eqb-true, eq-eqb, and_parts, or_from, false_f
 use Rattle.game_tables.specs.declared.kind.Kind.{Kind}
 use Rattle.game_tables.specs.declared.kind.Kind.TheVariants.{Road}
 use Rattle.object_store.specs.declared.object.Object.{Object}
-use Rattle.world_rules.specs.Kinds.{is_creep}
+use Rattle.game_tables.specs.Kinds.{is_creep}
 use Rattle.world_rules.specs.RoomParts.{RoomPart}
 use Rattle.world_rules.specs.Steps.{each}
 use Rattle.world_rules.specs.Movement.{Mover, meet, winners, has_mover, is_creep_on, movers, stepped, worn_as, moved_by}

@@ -4,7 +4,7 @@ use Rattle.std.specs.Cmp.{nat_cmp_total, unsigned_tied}
 use Rattle.std.specs.FinMap.{get, keys, values, entries, get-entries, get-insert, get-from_entries}
 use Rattle.std.proofs.lemmas.Bool.{eqb-true, eqb-false, eq-eqb, and_parts, not_from_true, false_from_ne_true}
 use Rattle.world_rules.specs.World.{Placed, World}
-use Rattle.world_rules.specs.Kinds.{is_creep}
+use Rattle.game_tables.specs.Kinds.{is_creep}
 use Rattle.world_rules.specs.Crossings.{Place, is_taken, is_open_in, may_enter, with_place, with_object_on, crossed_to, crossed_by, crossed_in, rested, crossed}
 use Rattle.world_rules.proofs.Keys.{find_mapped}
 use Rattle.room_commutes.specs.Standing.{AreAllApart, is_creep_at, has_moved}

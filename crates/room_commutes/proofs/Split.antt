@@ -5,14 +5,14 @@ use Rattle.std.specs.List.{filter, list_any}
 use Rattle.std.specs.FinMap.{get, contains_key}
 use Rattle.std.proofs.lemmas.Bool.{eqb-true, and_parts}
 use Rattle.std.proofs.lemmas.Map.Views.{any-filter_same}
-use Rattle.game_tables.specs.Actions.{action_number, drops}
+use Rattle.game_tables.specs.Actions.{action_number, dominates}
 use Rattle.game_tables.specs.declared.action.Action.{Action}
 use Rattle.game_tables.specs.declared.action.Action.TheVariants as actions
 use Rattle.intent_book.specs.declared.intent.Intent.{Intent}
 use Rattle.world_rules.specs.World.{Placed, Frame, World, alone}
 use Rattle.world_rules.specs.RoomParts.{part_of}
 use Rattle.world_rules.specs.RoomTick.{fits_room, kept_in}
-use Rattle.world_rules.specs.Intents.{names_tile, is_at, is_in, those_in, acts_for, fits, same_entry, last_of_each, dominates, undropped, kept, in_order, entries_of}
+use Rattle.world_rules.specs.Intents.{names_tile, is_at, is_in, those_in, acts_for, fits, same_entry, last_of_each, overrules, undropped, kept, in_order, entries_of}
 use Rattle.world_rules.proofs.Parts.{only, get_objects_in, room_alone}
 use Rattle.room_commutes.proofs.Courses.{actor_alone}
 use Rattle.room_commutes.proofs.Order.{filter_in_order}
@@ -58,20 +58,20 @@ tile_is : (action : Action) → names_tile action ≡ true → action ≡ action
 tile_is actions.CreateSite is = refl
 tile_is _ is = absurd (cc)
 
-drops_none : (action : Action) → drops actions.CreateSite action ≡ false
+drops_none : (action : Action) → dominates actions.CreateSite action ≡ false
 drops_none actions.CreateSite = refl
 drops_none _ = refl
 
-none_drops : (action : Action) → drops action actions.CreateSite ≡ false
+none_drops : (action : Action) → dominates action actions.CreateSite ≡ false
 none_drops actions.CreateSite = refl
 none_drops _ = refl
 
-drops_alike : (one other : Action) → drops one other ≡ true → names_tile one ≡ names_tile other
+drops_alike : (one other : Action) → dominates one other ≡ true → names_tile one ≡ names_tile other
 drops_alike one other is =
     elim (names_tile one) as (λ b. names_tile one ≡ b → b ≡ names_tile other) [
-      | true ↦ λ at. let no : drops one other ≡ false = subst (λ (a : Action). drops a other ≡ false) (sym (tile_is one at)) (drops_none other) in absurd (cc)
+      | true ↦ λ at. let no : dominates one other ≡ false = subst (λ (a : Action). dominates a other ≡ false) (sym (tile_is one at)) (drops_none other) in absurd (cc)
       | false ↦ λ at. elim (names_tile other) as (λ c. names_tile other ≡ c → false ≡ c) [
-        | true ↦ λ to. let no : drops one other ≡ false = subst (λ (a : Action). drops one a ≡ false) (sym (tile_is other to)) (none_drops one) in absurd (cc)
+        | true ↦ λ to. let no : dominates one other ≡ false = subst (λ (a : Action). dominates one a ≡ false) (sym (tile_is other to)) (none_drops one) in absurd (cc)
         | false ↦ λ to. refl
       ] refl
     ] refl
@@ -89,9 +89,9 @@ module _ (world : World) (k : ℕ) where
       let number : action_number one.action ≡ action_number other.action = eqb-true _ _ first.1 in
       sym (is_in_same one other (tile_number one.action ∙ ap (λ n. n == 19) number ∙ sym (tile_number other.action)) (eqb-true _ _ parts.1))
 
-  dominates_in : (one other : Intent) → dominates one other ≡ true → is_in world k one ≡ is_in world k other
+  dominates_in : (one other : Intent) → overrules one other ≡ true → is_in world k one ≡ is_in world k other
   dominates_in one other is =
-      let parts = and_parts ((one.player == other.player) && (one.actor == other.actor)) (drops one.action other.action) is in
+      let parts = and_parts ((one.player == other.player) && (one.actor == other.actor)) (dominates one.action other.action) is in
       let first = and_parts (one.player == other.player) (one.actor == other.actor) parts.0 in
       is_in_same one other (drops_alike one.action other.action parts.1) (eqb-true _ _ first.1)
 
@@ -132,9 +132,9 @@ module _ (world : World) (k : ℕ) where
 
   those_undropped : (list : List Intent) → those_in world k (undropped list) ≡ undropped (those_in world k list)
   those_undropped list =
-      let stays : List Intent → Intent → Bool = λ standing entry. not (list_any (λ one. dominates one entry) standing) in
+      let stays : List Intent → Intent → Bool = λ standing entry. not (list_any (λ one. overrules one entry) standing) in
       filters_commute (is_in world k) (stays list) list
-      ∙ filters_agree (stays list) (stays (those_in world k list)) (is_in world k) (λ entry is. ap not (sym (any_here (λ one. dominates one entry) true (λ one drop. dominates_in one entry drop ∙ is) list))) list
+      ∙ filters_agree (stays list) (stays (those_in world k list)) (is_in world k) (λ entry is. ap not (sym (any_here (λ one. overrules one entry) true (λ one drop. dominates_in one entry drop ∙ is) list))) list
 
   -- the entries of a room that count are those that count in the world that has it alone
   pub kept_alone : (list : List Intent) → kept (alone world k) (those_in world k list) ≡ those_in world k (kept world list)

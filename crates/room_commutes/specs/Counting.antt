@@ -3,7 +3,7 @@ use Rattle.std.specs.Prelude.{◌≡◌, true, false, List, ◌∷◌, ◌++◌}
 use Rattle.std.specs.List.{Contains}
 use Rattle.intent_book.specs.declared.intent.Intent.{Intent}
 use Rattle.world_rules.specs.World.{World}
-use Rattle.world_rules.specs.Intents.{fits, same_entry, dominates}
+use Rattle.world_rules.specs.Intents.{fits, same_entry, overrules}
 
 -- The entry stands in the list and fits, and no later one that fits is of its player, action and actor.
 pub record IsLast (world : World) (list : List Intent) (entry : Intent) : Type 0 where
@@ -17,4 +17,4 @@ pub record IsLast (world : World) (list : List Intent) (entry : Intent) : Type 0
 -- The entry counts: it is such a last one, and no such one drops it.
 pub record Counts (world : World) (list : List Intent) (entry : Intent) : Type 0 where
   pub last : IsLast world list entry
-  pub undropped : (other : Intent) → IsLast world list other → dominates other entry ≡ false
+  pub undropped : (other : Intent) → IsLast world list other → overrules other entry ≡ false

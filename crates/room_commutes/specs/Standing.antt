@@ -2,7 +2,7 @@
 use Rattle.std.specs.Prelude.{◌≡◌, ◌≢◌, ℕ, ◌==◌, ◌&&◌, Bool, true, false, Option, Some}
 use Rattle.std.specs.FinMap.{get}
 use Rattle.object_store.specs.declared.object.Object.{Object}
-use Rattle.world_rules.specs.Kinds.{is_creep}
+use Rattle.game_tables.specs.Kinds.{is_creep}
 use Rattle.world_rules.specs.World.{Placed, World}
 use Rattle.world_rules.specs.RoomParts.{RoomPart}
 use Rattle.world_rules.specs.Movement.{is_creep_on}

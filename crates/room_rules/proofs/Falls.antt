@@ -6,29 +6,24 @@ use Rattle.std.specs.Cmp.{unsigned_tied}
 use Rattle.std.specs.FinMap.{find, get, entries, entries_sorted, get-entries}
 use Rattle.std.proofs.lemmas.Bool.{both_ways, eq-eqb, eqb-true}
 use Rattle.room_terrain.specs.declared.terrain.Ground.{Ground}
+use Rattle.game_tables.specs.declared.action.Action.TheVariants.{DropLoad}
 use Rattle.game_tables.specs.declared.kind.Kind.{Kind}
 use Rattle.game_tables.specs.declared.kind.Kind.TheVariants.{Creep, Pile}
 use Rattle.intent_book.specs.declared.intent.Intent.{Intent}
 use Rattle.object_store.specs.declared.object.Object.{Object}
-use Rattle.world_rules.specs.Kinds.{clash, is_creep, is_pile, is_source, is_controller}
+use Rattle.game_tables.specs.Kinds.{clash, is_creep, is_pile, is_source, is_controller}
 use Rattle.world_rules.specs.RoomParts.{RoomPart}
 use Rattle.world_rules.specs.Changes.{put, with_object, next_id}
 use Rattle.world_rules.specs.Rules.{IsPile, IsWall, IsOnWrongTile}
-use Rattle.world_rules.specs.Drops.{pile_bound, is_pile_on, pile_on, pile_of, fallen, fallen_on, wanted_of, can_drop, dropped_by, dropped_of, dropped}
+use Rattle.world_rules.specs.Drops.{pile_bound, is_pile_on, pile_on, pile_of, fallen, fallen_on, wanted_of, dropped_by, dropped_of, dropped}
+use Rattle.world_rules.specs.Checks.{may_take_effect}
+use Rattle.world_rules.proofs.Checked.{and_left, and_right, creep_acts}
 use Rattle.world_rules.proofs.Keys.{AreKeysOnce, once_of_sorted}
 use Rattle.room_rules.specs.Within.{IsInRangeIn}
 use Rattle.room_rules.specs.RoomRules.{Holds, KeepsRoomRules}
 use Rattle.room_rules.proofs.Keeps.{IsSame, keeps_object, keeps_new}
 
 -- ---- tests
-
-pub and_left : (a b : Bool) → (a && b) ≡ true → a ≡ true
-and_left true b is = refl
-and_left false b is = absurd (cc)
-
-pub and_right : (a b : Bool) → (a && b) ≡ true → b ≡ true
-and_right true b is = is
-and_right false b is = absurd (cc)
 
 both_true : (a b : Bool) → a ≡ true → b ≡ true → (a && b) ≡ true
 both_true true b one other = other
@@ -204,9 +199,9 @@ module _ (players : ℕ → Bool) (within : Bool) where
       same_grounds None = refl
       same_grounds (Some old) = refl
 
-  dropped_if : (part : RoomPart) → Kept part → (entry : Intent) (c : Object) → Holds part entry.actor c → (b : Bool) → can_drop entry c ≡ b → Kept (if b then dropped_by c (wanted_of entry.amount c.energy) part else part)
+  dropped_if : (part : RoomPart) → Kept part → (entry : Intent) (c : Object) → Holds part entry.actor c → (b : Bool) → may_take_effect DropLoad entry part ≡ b → Kept (if b then dropped_by c (wanted_of entry.amount c.energy) part else part)
   dropped_if part k entry c there true can =
-      let creep = and_left (is_creep c.kind) (c.owner == entry.player) (and_left (is_creep c.kind && (c.owner == entry.player)) (nat_lt 0 c.hits) (and_left (is_creep c.kind && (c.owner == entry.player) && nat_lt 0 c.hits) (nat_lt 0 c.energy) can)) in
+      let creep = creep_acts DropLoad entry part c there can in
       let amount = wanted_of entry.amount c.energy in
       let less : Object = record c { energy = c.energy - amount } in
       keeps_fallen (with_object less part) (lessened part k entry.actor c there creep amount) c.x c.y amount
@@ -215,7 +210,7 @@ module _ (players : ℕ → Bool) (within : Bool) where
 
   dropped_as : (part : RoomPart) → Kept part → (entry : Intent) (found : Option Object) → get part.objects entry.actor ≡ found → Kept (dropped_of entry found part)
   dropped_as part k entry None is = k
-  dropped_as part k entry (Some c) is = dropped_if part k entry c is (can_drop entry c) refl
+  dropped_as part k entry (Some c) is = dropped_if part k entry c is (may_take_effect DropLoad entry part) refl
 
   pub keeps_dropped : (part : RoomPart) → Kept part → (entry : Intent) → Kept (dropped entry part)
   keeps_dropped part k entry = dropped_as part k entry (get part.objects entry.actor) refl

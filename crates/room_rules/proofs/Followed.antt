@@ -16,7 +16,7 @@ use Rattle.world_rules.specs.declared.rule.Rule.TheVariants as rules
 use Rattle.world_rules.specs.World.{Placed, Frame, listed_room, listing_of, placed, world_of}
 use Rattle.world_rules.specs.RuleBook.{IsNew}
 use Rattle.world_rules.specs.RuleBook.{Stands as StandsIn}
-use Rattle.world_rules.specs.Kinds.{is_controller, may_have_owner}
+use Rattle.game_tables.specs.Kinds.{is_controller, may_have_owner}
 use Rattle.world_rules.specs.Rules.{Broken, Stands, IsRoom, IsPlayer, HasNoBirth, HasOpenCorner, HasWrongOwner, IsOnWrongTile}
 use Rattle.world_rules.specs.Sound.{IsSound, IsSoundRoom}
 use Rattle.world_rules.proofs.Keys.{keyed}

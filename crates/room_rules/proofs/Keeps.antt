@@ -7,7 +7,7 @@ use Rattle.room_terrain.specs.declared.terrain.Ground.{Ground}
 use Rattle.game_tables.specs.declared.kind.Kind.{Kind}
 use Rattle.object_store.specs.declared.object.Object.{Object}
 use Rattle.object_store.specs.Tables.{IsOnTile}
-use Rattle.world_rules.specs.Kinds.{clash, is_controller, may_have_owner}
+use Rattle.game_tables.specs.Kinds.{clash, is_controller, may_have_owner}
 use Rattle.world_rules.specs.RoomParts.{RoomPart}
 use Rattle.world_rules.specs.Changes.{put, with_object, without, with_new, next_id}
 use Rattle.world_rules.specs.Steps.{by_object, over_ids, over_objects, with_left, each}

@@ -13,8 +13,7 @@ use Rattle.object_store.specs.declared.world.Room.{Room}
 use Rattle.object_store.specs.Tables.{IsOnTile}
 use Rattle.object_store.specs.Stored.{Stored}
 use Rattle.world_rules.specs.declared.rule.Rule.TheVariants as rules
-use Rattle.world_rules.specs.Kinds.{clash, is_creep, is_pile, stands_fixed, is_controller, may_have_owner}
-use Rattle.game_tables.specs.Kinds.{obstructing}
+use Rattle.game_tables.specs.Kinds.{clash, is_creep, is_pile, stands_fixed, is_controller, may_have_owner, obstructs}
 use Rattle.world_rules.specs.World.{Frame, listed_room, listing_of, placed, world_of}
 use Rattle.world_rules.specs.Rules.{Stands, IsRoom, IsPlayer, HasNoBirth, HasWrongOwner, IsInRangeAs}
 use Rattle.world_rules.specs.Sound.{IsSound, IsSoundRoom}
@@ -64,8 +63,8 @@ last_turned false false false false false = refl
 
 clash_turned : (one other : Kind) → clash one other ≡ clash other one
 clash_turned one other =
-    (λ i. and_comm (is_creep one) (is_creep other) i || and_comm (is_pile one) (is_pile other) i || and_comm (stands_fixed one) (stands_fixed other) i || and_comm (is_creep one) (obstructing other) i || and_comm (obstructing one) (is_creep other) i)
-    ∙ last_turned (is_creep other && is_creep one) (is_pile other && is_pile one) (stands_fixed other && stands_fixed one) (obstructing other && is_creep one) (is_creep other && obstructing one)
+    (λ i. and_comm (is_creep one) (is_creep other) i || and_comm (is_pile one) (is_pile other) i || and_comm (stands_fixed one) (stands_fixed other) i || and_comm (is_creep one) (obstructs other) i || and_comm (obstructs one) (is_creep other) i)
+    ∙ last_turned (is_creep other && is_creep one) (is_pile other && is_pile one) (stands_fixed other && stands_fixed one) (obstructs other && is_creep one) (is_creep other && obstructs one)
 
 between_ticks : (k : Kind) (object : Object) → IsInRangeAs k object → IsInRangeIn k false object
 between_ticks Creep object r = r

@@ -2,10 +2,11 @@
 use Rattle.std.proofs.Common.{◌≡◌, ℕ, ◌-◌, ◌≤◌, ◌==◌, max, nat_lt, if◌then◌else◌, Bool, true, false, Some, None, refl, sym, subst, arith}
 use Rattle.game_tables.specs.declared.kind.Kind.{Kind}
 use Rattle.game_tables.specs.declared.kind.Kind.TheVariants.{Source, Pile}
-use Rattle.game_tables.specs.Kinds.{source_room, renewal_timer, pile_loss}
+use Rattle.game_tables.specs.Kinds.{source_capacity, renewal_ticks, pile_decay}
 use Rattle.object_store.specs.declared.object.Object.{Object}
 use Rattle.world_rules.specs.RoomParts.{RoomPart}
-use Rattle.world_rules.specs.Upkeep.{is_taken, controller_of, source_renewed, renewed_as, renewed, decayed_as, decayed}
+use Rattle.object_store.specs.Controllers.{is_taken}
+use Rattle.world_rules.specs.Upkeep.{controller_of, source_renewed, renewed_as, renewed, decayed_as, decayed}
 use Rattle.world_rules.specs.Rules.{IsSource, IsPile}
 use Rattle.room_rules.specs.Within.{IsInRangeIn}
 use Rattle.room_rules.specs.RoomRules.{KeepsRoomRules}
@@ -21,7 +22,7 @@ abbrev renewed_by : ℕ → Bool → Bool → Bool → Object → Object
 renewed_by capacity b c d o =
     if b then record o { timer = o.timer - 1 }
     else if c then record o { timer = 0; energy = max o.energy capacity }
-    else if d then record o { timer = renewal_timer }
+    else if d then record o { timer = renewal_ticks }
     else o
 
 renewed_same : (capacity : ℕ) (b c d : Bool) (o : Object) → IsSame o (renewed_by capacity b c d o)
@@ -52,7 +53,7 @@ renewed_keeps k capacity within o after most e r =
     let same : o ≡ after = cc in
     subst (IsInRangeIn k within) same r
 
-within_most : (taken : Bool) → source_room taken ≤ 3000
+within_most : (taken : Bool) → source_capacity taken ≤ 3000
 within_most true = omega arith
 within_most false = omega arith
 
@@ -71,14 +72,14 @@ pile_range : (o : Object) (n : ℕ) → 1 ≤ n → n ≤ o.energy → IsPile o 
 pile_range o n some less p = record { owner = p.owner; hits = p.hits; energy = (some, omega (arith, p.energy)); timer = p.timer; extra = p.extra; progress = p.progress; other = p.other; other_ticks = p.other_ticks; body = p.body }
 
 pub decayed_stays : (k : Kind) (o after : Object) → decayed_as k o ≡ Some after → IsSame o after
-decayed_stays Pile o after e = subst (IsSame o) (with_energy (o.energy - pile_loss o.energy) o after e).1 (pile_same o _)
+decayed_stays Pile o after e = subst (IsSame o) (with_energy (o.energy - pile_decay o.energy) o after e).1 (pile_same o _)
 decayed_stays k o after e =
     let same : o ≡ after = cc in
     subst (IsSame o) same (IsSame-refl o)
 
 decayed_keeps : (k : Kind) (within : Bool) (o after : Object) → decayed_as k o ≡ Some after → IsInRangeIn k within o → IsInRangeIn k within after
 decayed_keeps Pile within o after e r =
-    let w = with_energy (o.energy - pile_loss o.energy) o after e in
+    let w = with_energy (o.energy - pile_decay o.energy) o after e in
     subst IsPile w.1 (pile_range o _ w.0 (omega arith) r)
 decayed_keeps k within o after e r =
     let same : o ≡ after = cc in
@@ -90,7 +91,7 @@ module _ (players : ℕ → Bool) (within : Bool) where
   pub keeps_renewed : (part : RoomPart) → KeepsRoomRules players within part → KeepsRoomRules players within (renewed part)
   keeps_renewed part k =
       let taken = is_taken (controller_of part) in
-      keeps_each players within (λ object. renewed_as object.kind (source_room taken) object) (λ object after is. as_itself within object after (renewed_stays object.kind (source_room taken) object after is) (renewed_keeps object.kind (source_room taken) within object after (within_most taken) is)) part k
+      keeps_each players within (λ object. renewed_as object.kind (source_capacity taken) object) (λ object after is. as_itself within object after (renewed_stays object.kind (source_capacity taken) object after is) (renewed_keeps object.kind (source_capacity taken) within object after (within_most taken) is)) part k
 
   pub keeps_decayed : (part : RoomPart) → KeepsRoomRules players within part → KeepsRoomRules players within (decayed part)
   keeps_decayed part k = keeps_each players within (λ object. decayed_as object.kind object) (λ object after is. as_itself within object after (decayed_stays object.kind object after is) (decayed_keeps object.kind within object after is)) part k

@@ -36,6 +36,7 @@ FollowRooms players stored after =
 -- The players stay, and none has more accounts.
 pub record KeepsPlayers (stored after : Stored) : Type 0 where
   pub rising : AreRising after.accounts
-  pub players : (player : ℕ) → is_player (world_of stored) player ≡ true → is_player (world_of after) player ≡ true
+  pub players : (player : ℕ) → is_player (world_of stored) player ≡ true
+      → is_player (world_of after) player ≡ true
   pub fewer : (player : ℕ) → count_by (λ account. account.player == player) after.accounts
       ≤ count_by (λ account. account.player == player) stored.accounts

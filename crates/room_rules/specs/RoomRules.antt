@@ -5,7 +5,7 @@ use Rattle.std.specs.Option.{is_some}
 use Rattle.std.specs.FinMap.{get}
 use Rattle.object_store.specs.declared.object.Object.{Object}
 use Rattle.object_store.specs.Tables.{IsOnTile}
-use Rattle.world_rules.specs.Kinds.{clash, is_controller, may_have_owner}
+use Rattle.game_tables.specs.Kinds.{clash, is_controller, may_have_owner}
 use Rattle.world_rules.specs.World.{World}
 use Rattle.world_rules.specs.RoomParts.{RoomPart}
 use Rattle.world_rules.specs.Rules.{IsOnWrongTile}

@@ -1,9 +1,9 @@
 -- The ranges of fields within a tick, where they are wider than between ticks.
 use Rattle.std.specs.Prelude.{◌≡◌, ◌≢◌, ◌≤◌, Bool, true, false, [], length}
-use Rattle.game_tables.specs.Bodies.{parts_bound}
-use Rattle.game_tables.specs.Fields.{energy_bound, timer_bound, extra_bound, other_ticks_bound}
-use Rattle.game_tables.specs.Kinds.{most_hits}
-use Rattle.game_tables.specs.Levels.{downgrade_at, total_at}
+use Rattle.game_tables.specs.Bodies.{most_parts}
+use Rattle.game_tables.specs.Fields.{most_energy, most_timer, most_extra, most_other_ticks}
+use Rattle.game_tables.specs.Kinds.{hits_max}
+use Rattle.game_tables.specs.Levels.{downgrade_number, total_for_next}
 use Rattle.game_tables.specs.declared.kind.Kind.{Kind}
 use Rattle.game_tables.specs.declared.kind.Kind.TheVariants.{Creep, Controller}
 use Rattle.object_store.specs.declared.object.Object.{Object}
@@ -13,15 +13,15 @@ use Rattle.world_rules.specs.Rules.{IsFrom1To, IsProgress, IsDowngradeTimer, IsC
 -- do, and it keeps whether it moved.
 pub record IsCreepWithin (object : Object) : Type 0 where
   pub owner : 1 ≤ object.owner
-  pub hits : object.hits ≤ most_hits Creep object.body
-  pub energy : object.energy ≤ energy_bound Creep (most_hits Creep object.body) object.body
-  pub timer : IsFrom1To (timer_bound Creep object.extra object.body) object.timer
-  pub extra : object.extra ≤ extra_bound Creep
+  pub hits : object.hits ≤ hits_max Creep object.body
+  pub energy : object.energy ≤ most_energy Creep (hits_max Creep object.body) object.body
+  pub timer : IsFrom1To (most_timer Creep object.extra object.body) object.timer
+  pub extra : object.extra ≤ most_extra Creep
   pub progress : object.progress ≡ 0
   pub other : object.other ≡ 0
   pub other_ticks : object.other_ticks ≤ 1
   pub some_parts : 1 ≤ length object.body
-  pub parts : length object.body ≤ parts_bound
+  pub parts : length object.body ≤ most_parts
 
 -- A controller with an owner keeps what it was upgraded by.
 pub record IsControllerWithin (object : Object) : Type 0 where
@@ -29,12 +29,12 @@ pub record IsControllerWithin (object : Object) : Type 0 where
   pub owned : object.owner ≢ 0 → 1 ≤ object.extra
   pub hits : object.hits ≡ 0
   pub energy : object.energy ≡ 0
-  pub timer : IsDowngradeTimer (downgrade_at object.extra) object.timer
-  pub extra : object.extra ≤ extra_bound Controller
-  pub progress : IsProgress (total_at object.extra) object.progress
+  pub timer : IsDowngradeTimer (downgrade_number object.extra) object.timer
+  pub extra : object.extra ≤ most_extra Controller
+  pub progress : IsProgress (total_for_next object.extra) object.progress
   pub other : object.other ≢ 0 → object.extra ≡ 0
   pub free : object.owner ≡ 0 → object.other ≡ 0 → object.other_ticks ≡ 0
-  pub reserved : object.other ≢ 0 → IsFrom1To (other_ticks_bound Controller) object.other_ticks
+  pub reserved : object.other ≢ 0 → IsFrom1To (most_other_ticks Controller) object.other_ticks
   pub body : object.body ≡ []
 
 -- The fields are in the kind's ranges: of those within a tick, or of those between ticks.

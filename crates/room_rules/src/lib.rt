@@ -26,6 +26,9 @@ pub fn rules_keep_rooms()
 /// a sound world does, and a world whose rooms follow those of a sound one and keep their rules is
 /// sound, where its players are the same. It does nothing when it runs.
 pub fn sound_rooms()
-    ensures rooms { (stored : Stored) (index : ℕ) (room : Room) → IsSound stored → slice_get stored.rooms index ≡ Some room → KeepsRoomRules (is_player (world_of stored)) false (part_stored room) }
-    ensures worlds { (stored : Stored) (after : Stored) → IsSound stored → FollowRooms (is_player (world_of stored)) stored after → KeepsPlayers stored after → IsSound after }
+    ensures rooms { (stored : Stored) (index : ℕ) (room : Room) → IsSound stored
+        → slice_get stored.rooms index ≡ Some room
+        → KeepsRoomRules (is_player (world_of stored)) false (part_stored room) }
+    ensures worlds { (stored : Stored) (after : Stored) → IsSound stored
+        → FollowRooms (is_player (world_of stored)) stored after → KeepsPlayers stored after → IsSound after }
 {}

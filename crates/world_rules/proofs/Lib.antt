@@ -8,6 +8,7 @@ pub mod Each
 pub mod Same
 pub mod Ticks
 pub mod Follows
+pub mod Checked
 pub mod Orderly
 pub mod Listed
 pub mod Roomless

@@ -2,18 +2,20 @@
 use Rattle.std.proofs.Common.{ℕ, ◌+◌, ◌-◌, ◌==◌, min, List, Option, Some, None}
 use Rattle.std.specs.List.{filter, find}
 use Rattle.std.specs.FinMap.{get, values}
-use Rattle.game_tables.specs.Kinds.{source_room}
+use Rattle.game_tables.specs.Kinds.{source_capacity}
 use Rattle.game_tables.specs.declared.action.Action.{Action}
 use Rattle.game_tables.specs.declared.action.Action.TheVariants.{DropLoad}
+use Rattle.object_store.specs.Controllers.{is_taken}
 use Rattle.object_store.specs.declared.object.Object.{Object}
 use Rattle.intent_book.specs.declared.intent.Intent.{Intent}
 use Rattle.world_rules.specs.RoomParts.{RoomPart}
 use Rattle.world_rules.specs.Changes.{with_object}
 use Rattle.world_rules.specs.RuleBook.{Sums, Follows, StaysInRoom, IsOrderly}
-use Rattle.world_rules.specs.Drops.{pile_bound, pile_on, pile_of, fallen_on, fallen, wanted_of, can_drop, dropped_by, dropped_of}
+use Rattle.world_rules.specs.Checks.{may_take_effect}
+use Rattle.world_rules.specs.Drops.{pile_bound, pile_on, pile_of, fallen_on, fallen, wanted_of, dropped_by, dropped_of}
 use Rattle.world_rules.specs.Steps.{over_objects}
 use Rattle.world_rules.specs.Movement.{Mover, movers, has_mover, stepped, worn_as, moved_by}
-use Rattle.world_rules.specs.Upkeep.{is_taken, controller_of, renewed_as, decayed_as}
+use Rattle.world_rules.specs.Upkeep.{controller_of, renewed_as, decayed_as}
 use Rattle.world_rules.specs.Tick.{rule_of, book}
 use Rattle.world_rules.proofs.Follows.{follows_self, follows_trans, follows_if, follows_object, follows_new, follows_over, follows_each}
 
@@ -31,7 +33,7 @@ by_follows creep amount part =
 
 of_follows : (entry : Intent) (creep : Option Object) (part : RoomPart) → Follows part (dropped_of entry creep part)
 of_follows entry None part = follows_self part
-of_follows entry (Some creep) part = follows_if (can_drop entry creep) part (dropped_by creep (wanted_of entry.amount creep.energy) part) part (by_follows creep (wanted_of entry.amount creep.energy) part) (follows_self part)
+of_follows entry (Some creep) part = follows_if (may_take_effect DropLoad entry part) part (dropped_by creep (wanted_of entry.amount creep.energy) part) part (by_follows creep (wanted_of entry.amount creep.energy) part) (follows_self part)
 
 rule_follows : (action : Action) (entry : Intent) → StaysInRoom (λ part. (rule_of action entry part).part)
 rule_follows DropLoad entry part = of_follows entry (get part.objects entry.actor) part
@@ -59,7 +61,7 @@ book_orderly = record {
               (
                 rests,
                 (
-                  (λ sums part. follows_each (λ object. renewed_as object.kind (source_room (is_taken (controller_of part))) object) part),
+                  (λ sums part. follows_each (λ object. renewed_as object.kind (source_capacity (is_taken (controller_of part))) object) part),
                   (rests, ((λ sums. follows_each (λ object. decayed_as object.kind object)), tt)),
                 ),
               ),

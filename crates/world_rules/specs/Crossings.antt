@@ -7,7 +7,7 @@ use Rattle.room_terrain.specs.declared.terrain.Ground.{Ground}
 use Rattle.room_terrain.specs.declared.terrain.Ground.TheVariants.{Wall}
 use Rattle.object_store.specs.declared.object.Object.{Object}
 use Rattle.world_rules.specs.World.{Placed, Frame, World}
-use Rattle.world_rules.specs.Kinds.{is_creep}
+use Rattle.game_tables.specs.Kinds.{is_creep}
 
 -- a tile of a room
 pub record Place : Type 0 where
@@ -47,8 +47,7 @@ with_place object place = record { room = place.room; object = record object { x
 abbrev pub with_object_on : World → ℕ → Object → Place → World
 with_object_on world id object place =
     record world {
-      objects =
-          insert world.objects id (with_place object place);
+      objects = insert world.objects id (with_place object place);
     }
 
 -- the world after a crosser goes to the place beyond its border, where there is one and it may enter; else

@@ -1,18 +1,20 @@
 -- Energy that falls on a tile, and what a creep drops.
-use Rattle.std.specs.Prelude.{ℕ, ◌+◌, ◌-◌, ◌==◌, ◌&&◌, min, Bool, nat_lt, if◌then◌else◌, [], Option, Some, None}
+use Rattle.std.specs.Prelude.{ℕ, ◌+◌, ◌-◌, ◌==◌, ◌&&◌, min, Bool, if◌then◌else◌, [], Option, Some, None}
 use Rattle.std.specs.List.{find}
 use Rattle.std.specs.FinMap.{get, values}
-use Rattle.game_tables.specs.Fields.{energy_bound}
+use Rattle.game_tables.specs.Fields.{most_energy}
+use Rattle.game_tables.specs.declared.action.Action.TheVariants.{DropLoad}
 use Rattle.game_tables.specs.declared.kind.Kind.TheVariants.{Pile}
 use Rattle.object_store.specs.declared.object.Object.{Object}
 use Rattle.intent_book.specs.declared.intent.Intent.{Intent}
-use Rattle.world_rules.specs.Kinds.{is_creep, is_pile}
+use Rattle.game_tables.specs.Kinds.{is_pile}
 use Rattle.world_rules.specs.RoomParts.{RoomPart}
 use Rattle.world_rules.specs.Changes.{with_object, with_new}
+use Rattle.world_rules.specs.Checks.{may_take_effect}
 
 -- the most energy of a pile
 abbrev pub pile_bound : ℕ
-pile_bound = energy_bound Pile 0 []
+pile_bound = most_energy Pile 0 []
 
 -- It is a pile on this tile.
 abbrev pub is_pile_on : ℕ → ℕ → Object → Bool
@@ -55,11 +57,6 @@ fallen x y amount part = if amount == 0 then part else fallen_on (pile_on x y pa
 abbrev pub wanted_of : ℕ → ℕ → ℕ
 wanted_of amount all = if amount == 0 then all else min amount all
 
--- The creep is the player's and lives, and carries something.
-abbrev pub can_drop : Intent → Object → Bool
-can_drop entry creep =
-    is_creep creep.kind && (creep.owner == entry.player) && nat_lt 0 creep.hits && nat_lt 0 creep.energy
-
 -- The amount leaves the creep and falls on its tile.
 abbrev pub dropped_by : Object → ℕ → RoomPart → RoomPart
 dropped_by creep amount part =
@@ -68,7 +65,9 @@ dropped_by creep amount part =
 abbrev pub dropped_of : Intent → Option Object → RoomPart → RoomPart
 dropped_of entry None part = part
 dropped_of entry (Some creep) part =
-    if can_drop entry creep then dropped_by creep (wanted_of entry.amount creep.energy) part else part
+    if may_take_effect DropLoad entry part
+    then dropped_by creep (wanted_of entry.amount creep.energy) part
+    else part
 
 -- what an entry to drop makes of a room's part
 abbrev pub dropped : Intent → RoomPart → RoomPart

@@ -2,7 +2,7 @@
 use Rattle.std.specs.Prelude.{ℕ, ◌/◌, ◌==◌, ◌&&◌, ◌||◌, not, Bool, true, false, nat_lt, if◌then◌else◌, List, [], ◌∷◌, Option, Some, None, option_map}
 use Rattle.std.specs.List.{filter, list_any}
 use Rattle.std.specs.FinMap.{get, contains_key}
-use Rattle.game_tables.specs.Actions.{action_number, drops}
+use Rattle.game_tables.specs.Actions.{action_number, dominates}
 use Rattle.game_tables.specs.declared.action.Action.{Action}
 use Rattle.game_tables.specs.declared.action.Action.TheVariants as actions
 use Rattle.game_tables.specs.declared.kind.Kind.{Kind}
@@ -16,7 +16,8 @@ abbrev pub all_actions : List Action
 all_actions =
     actions.DropLoad ∷ actions.Transfer ∷ actions.Withdraw ∷ actions.Pickup ∷ actions.Heal
     ∷ actions.RangedHeal ∷ actions.Dismantle ∷ actions.Attack ∷ actions.Harvest ∷ actions.Repair
-    ∷ actions.Build ∷ actions.RangedMassAttack ∷ actions.RangedAttack ∷ actions.Suicide ∷ actions.ClaimController
+    ∷ actions.Build ∷ actions.RangedMassAttack ∷ actions.RangedAttack ∷ actions.Suicide
+    ∷ actions.ClaimController
     ∷ actions.Upgrade ∷ actions.Reserve ∷ actions.AttackController ∷ actions.CreateSite ∷ actions.RemoveSite
     ∷ actions.SpawnCreep ∷ actions.Move ∷ []
 
@@ -91,17 +92,17 @@ last_of_each [] = []
 last_of_each (entry ∷ later) =
     if list_any (same_entry entry) later then last_of_each later else entry ∷ last_of_each later
 
--- An entry drops another of the same creep.
-abbrev pub dominates : Intent → Intent → Bool
-dominates one other =
-    (one.player == other.player) && (one.actor == other.actor) && drops one.action other.action
+-- An entry overrules another of the same creep, which then does not count.
+abbrev pub overrules : Intent → Intent → Bool
+overrules one other =
+    (one.player == other.player) && (one.actor == other.actor) && dominates one.action other.action
 
--- those that none of a list drops
+-- those that none of a list overrules
 abbrev pub undropped : List Intent → List Intent
-undropped standing = filter (λ entry. not (list_any (λ one. dominates one entry) standing)) standing
+undropped standing = filter (λ entry. not (list_any (λ one. overrules one entry) standing)) standing
 
 -- The entries that count: of those that fit the last of each player, action and actor, without those that
--- another of these drops.
+-- another of these overrules.
 abbrev pub kept : World → List Intent → List Intent
 kept world list = undropped (last_of_each (filter (fits world) list))
 

@@ -1,9 +1,9 @@
-pub mod Kinds
 pub mod World
 pub mod RoomParts
 pub mod Changes
 pub mod Steps
 pub mod RuleBook
+pub mod Checks
 pub mod Drops
 pub mod Intents
 pub mod Upkeep

@@ -5,7 +5,7 @@ use Rattle.std.specs.FinMap.{values}
 use Rattle.game_tables.specs.declared.kind.Kind.{Kind}
 use Rattle.game_tables.specs.declared.kind.Kind.TheVariants.{Road}
 use Rattle.object_store.specs.declared.object.Object.{Object}
-use Rattle.world_rules.specs.Kinds.{is_creep}
+use Rattle.game_tables.specs.Kinds.{is_creep}
 use Rattle.world_rules.specs.RoomParts.{RoomPart}
 use Rattle.world_rules.specs.Changes.{with_object}
 use Rattle.world_rules.specs.Steps.{over_objects}

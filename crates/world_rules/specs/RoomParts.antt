@@ -61,8 +61,7 @@ entries_elsewhere world room = filter (λ entry. not (stands_in room entry)) (en
 abbrev pub with_room : World → ℕ → Frame → FinMap nat_cmp Object → World
 with_room world room frame objects = record world {
   rooms = insert world.rooms room frame;
-  objects =
-      from_entries (placed_in room (entries objects) ++ entries_elsewhere world room);
+  objects = from_entries (placed_in room (entries objects) ++ entries_elsewhere world room);
 }
 
 -- the world with this in the place of a room's part: its objects and its serial, for a room's name and

@@ -14,7 +14,8 @@ pub record IsSoundRoom (room : Room) : Type 0 where
   pub begun : 1 ≤ room.table.next
   pub tiles : AllByRecursion IsOnTile room.table.objects
 
--- Each table's index is its room's place, its objects stand in rising id, the accounts stand in rising player, and each rule is kept but for the counts, and the sites, which a tick by any intents need not keep.
+-- Each table's index is its room's place, its objects stand in rising id, the accounts stand in rising
+-- player, and each rule is kept but for the counts, and the sites, which a tick by any intents need not keep.
 pub record IsSound (stored : Stored) : Type 0 where
   pub places : (index : ℕ) (room : Room) → slice_get stored.rooms index ≡ Some room → room.table.index ≡ index
   pub tables : HaveRisingTables stored.rooms

@@ -5,7 +5,7 @@ use Rattle.std.specs.FinMap.{from_entries, entries}
 use Rattle.std.specs.Option.{option_to_list}
 use Rattle.game_tables.specs.declared.action.Action.{Action}
 use Rattle.game_tables.specs.declared.action.Action.TheVariants.{DropLoad, Move}
-use Rattle.game_tables.specs.Limits.{bucket_bound, points_bound, unit_size}
+use Rattle.game_tables.specs.Limits.{most_bucket, most_points, unit_instructions}
 use Rattle.object_store.specs.declared.account.Account.{Account}
 use Rattle.intent_book.specs.declared.intent.Intent.{Intent}
 use Rattle.intent_book.specs.declared.player_run.PlayerRun.{PlayerRun}
@@ -165,11 +165,11 @@ crossed world = world
 -- counts whole
 abbrev pub bucket_after : Account → ℕ → ℕ
 bucket_after account used =
-    min bucket_bound (account.limit + account.bucket - (used + (unit_size - 1)) / unit_size)
+    min most_bucket (account.limit + account.bucket - (used + (unit_instructions - 1)) / unit_instructions)
 
 -- the points of an account after it gained some
 abbrev pub points_after : Account → ℕ → ℕ
-points_after account gain = min points_bound (account.points + gain)
+points_after account gain = min most_points (account.points + gain)
 
 -- the same account with the points that its player gained
 abbrev pub account_raised : ℕ → Account → Account

@@ -2,25 +2,20 @@
 use Rattle.std.specs.Prelude.{ℕ, ◌-◌, ◌==◌, ◌||◌, not, max, Bool, false, nat_lt, if◌then◌else◌, List, [], ◌∷◌, Option, Some, None}
 use Rattle.std.specs.List.{find}
 use Rattle.std.specs.FinMap.{values}
-use Rattle.game_tables.specs.Kinds.{source_room, renewal_timer, pile_loss}
+use Rattle.game_tables.specs.Kinds.{source_capacity, renewal_ticks, pile_decay, is_controller}
 use Rattle.game_tables.specs.declared.kind.Kind.{Kind}
 use Rattle.game_tables.specs.declared.kind.Kind.TheVariants.{Source, Pile}
+use Rattle.object_store.specs.Controllers.{controller_among, is_taken}
 use Rattle.object_store.specs.declared.object.Object.{Object}
-use Rattle.world_rules.specs.Kinds.{is_controller}
 use Rattle.world_rules.specs.RoomParts.{RoomPart}
 use Rattle.world_rules.specs.RuleBook.{Step}
 use Rattle.world_rules.specs.Steps.{each}
 
 -- ---- sources
 
--- Somebody owns or reserves this controller.
-abbrev pub is_taken : Option Object → Bool
-is_taken None = false
-is_taken (Some controller) = not (controller.owner == 0) || not (controller.other == 0)
-
 -- the controller of a room
 abbrev pub controller_of : RoomPart → Option Object
-controller_of part = find (λ object. is_controller object.kind) (values part.objects)
+controller_of part = controller_among (values part.objects)
 
 -- A timer above 0 falls by 1, and at 0 the energy becomes at least the capacity. A source with timer 0 and
 -- less than its capacity gets the timer to its renewal.
@@ -28,7 +23,7 @@ abbrev pub source_renewed : ℕ → Object → Object
 source_renewed capacity source =
     if nat_lt 1 source.timer then record source { timer = source.timer - 1 }
     else if source.timer == 1 then record source { timer = 0; energy = max source.energy capacity }
-    else if nat_lt source.energy capacity then record source { timer = renewal_timer }
+    else if nat_lt source.energy capacity then record source { timer = renewal_ticks }
     else source
 
 abbrev pub renewed_as : Kind → ℕ → Object → Option Object
@@ -39,14 +34,14 @@ renewed_as _ capacity object = Some object
 -- another.
 abbrev pub renewed : RoomPart → RoomPart
 renewed part =
-    each (λ object. renewed_as object.kind (source_room (is_taken (controller_of part))) object) part
+    each (λ object. renewed_as object.kind (source_capacity (is_taken (controller_of part))) object) part
 
 -- ---- piles
 
 -- A pile loses a part of its energy; at 0 it is removed.
 abbrev pub pile_decayed : Object → Option Object
 pile_decayed pile =
-    let left : ℕ = pile.energy - pile_loss pile.energy in
+    let left : ℕ = pile.energy - pile_decay pile.energy in
     if left == 0 then None else Some (record pile { energy = left })
 
 abbrev pub decayed_as : Kind → Object → Option Object

@@ -7,6 +7,7 @@ use Rattle.std.specs.FinMap.{FinMap, from_entries, entries, retain_keys}
 use Rattle.room_terrain.specs.declared.name.RoomName.{RoomName}
 use Rattle.room_terrain.specs.declared.terrain.Ground.{Ground}
 use Rattle.object_store.specs.declared.object.Object.{Object}
+use Rattle.object_store.specs.declared.standing.Standing.{Standing}
 use Rattle.object_store.specs.declared.account.Account.{Account}
 use Rattle.object_store.specs.declared.world.Room.{Room}
 use Rattle.object_store.specs.Stored.{Stored}
@@ -15,6 +16,10 @@ use Rattle.object_store.specs.Stored.{Stored}
 pub record Placed : Type 0 where
   pub room : ℕ
   pub object : Object
+
+-- the same, as it is lent
+abbrev pub shown : Standing → Placed
+shown standing = record { room = standing.room; object = standing.object.now }
 
 -- the objects of the world, by id
 abbrev pub Objects : Type 0

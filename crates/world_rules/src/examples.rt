@@ -45,24 +45,35 @@ pub fn drop_examples()
 /// does nothing when it runs.
 pub fn entry_examples()
     // Actions go by their numbers.
-    ensures actions { map action_number all_actions ≡ 1 ∷ 2 ∷ 3 ∷ 4 ∷ 5 ∷ 6 ∷ 7 ∷ 8 ∷ 9 ∷ 10 ∷ 11 ∷ 12 ∷ 13 ∷ 14 ∷ 15 ∷ 16 ∷ 17 ∷ 18 ∷ 19 ∷ 20 ∷ 21 ∷ 22 ∷ [] }
+    ensures actions { map action_number all_actions ≡ 1 ∷ 2 ∷ 3 ∷ 4 ∷ 5 ∷ 6 ∷ 7 ∷ 8 ∷ 9 ∷ 10 ∷ 11 ∷ 12 ∷ 13
+        ∷ 14 ∷ 15 ∷ 16 ∷ 17 ∷ 18 ∷ 19 ∷ 20 ∷ 21 ∷ 22 ∷ [] }
 
     // A player's own creep may act. Another player's creep, an object that is no creep and one that is
     // not there may not, and no entry counts without a player.
-    ensures actors { CountOf (entry_of 1 DropLoad 3 1 ∷ entry_of 1 DropLoad 5 2 ∷ entry_of 1 DropLoad 8 3 ∷ entry_of 1 DropLoad 9 4 ∷ entry_of 0 DropLoad 8 5 ∷ entry_of 2 DropLoad 5 6 ∷ []) (entry_of 1 DropLoad 3 1 ∷ entry_of 2 DropLoad 5 6 ∷ []) }
+    ensures actors { CountOf (entry_of 1 DropLoad 3 1 ∷ entry_of 1 DropLoad 5 2 ∷ entry_of 1 DropLoad 8 3
+        ∷ entry_of 1 DropLoad 9 4 ∷ entry_of 0 DropLoad 8 5 ∷ entry_of 2 DropLoad 5 6 ∷ [])
+        (entry_of 1 DropLoad 3 1 ∷ entry_of 2 DropLoad 5 6 ∷ []) }
 
     // A site is removed by itself, a creep is made by a spawn, and a new site is named by a tile.
-    ensures removals { CountOf (entry_of 1 RemoveSite 3 0 ∷ entry_of 1 RemoveSite 6 0 ∷ []) (entry_of 1 RemoveSite 6 0 ∷ []) }
-    ensures spawns { CountOf (entry_of 1 SpawnCreep 7 0 ∷ entry_of 1 SpawnCreep 3 0 ∷ []) (entry_of 1 SpawnCreep 7 0 ∷ []) }
-    ensures sites { CountOf (entry_of 1 CreateSite 2499 0 ∷ entry_of 1 CreateSite 2500 0 ∷ []) (entry_of 1 CreateSite 2499 0 ∷ []) }
+    ensures removals { CountOf (entry_of 1 RemoveSite 3 0 ∷ entry_of 1 RemoveSite 6 0 ∷ [])
+        (entry_of 1 RemoveSite 6 0 ∷ []) }
+    ensures spawns { CountOf (entry_of 1 SpawnCreep 7 0 ∷ entry_of 1 SpawnCreep 3 0 ∷ [])
+        (entry_of 1 SpawnCreep 7 0 ∷ []) }
+    ensures sites { CountOf (entry_of 1 CreateSite 2499 0 ∷ entry_of 1 CreateSite 2500 0 ∷ [])
+        (entry_of 1 CreateSite 2499 0 ∷ []) }
 
     // Of two entries of one player, action and actor the last counts.
-    ensures repeated { CountOf (entry_of 1 DropLoad 3 1 ∷ entry_of 1 DropLoad 3 2 ∷ []) (entry_of 1 DropLoad 3 2 ∷ []) }
-    ensures last { last_of_each (entry_of 1 DropLoad 3 5 ∷ entry_of 1 DropLoad 4 6 ∷ entry_of 1 DropLoad 3 7 ∷ []) ≡ entry_of 1 DropLoad 4 6 ∷ entry_of 1 DropLoad 3 7 ∷ [] }
-    ensures each { last_of_each (entry_of 1 DropLoad 3 5 ∷ entry_of 2 DropLoad 3 6 ∷ entry_of 1 Harvest 3 7 ∷ []) ≡ entry_of 1 DropLoad 3 5 ∷ entry_of 2 DropLoad 3 6 ∷ entry_of 1 Harvest 3 7 ∷ [] }
+    ensures repeated { CountOf (entry_of 1 DropLoad 3 1 ∷ entry_of 1 DropLoad 3 2 ∷ [])
+        (entry_of 1 DropLoad 3 2 ∷ []) }
+    ensures last { last_of_each (entry_of 1 DropLoad 3 5 ∷ entry_of 1 DropLoad 4 6 ∷ entry_of 1 DropLoad 3 7
+        ∷ []) ≡ entry_of 1 DropLoad 4 6 ∷ entry_of 1 DropLoad 3 7 ∷ [] }
+    ensures each { last_of_each (entry_of 1 DropLoad 3 5 ∷ entry_of 2 DropLoad 3 6 ∷ entry_of 1 Harvest 3 7
+        ∷ []) ≡ entry_of 1 DropLoad 3 5 ∷ entry_of 2 DropLoad 3 6 ∷ entry_of 1 Harvest 3 7 ∷ [] }
 
     // Within an action they go by player, and those of a player by actor.
-    ensures order { in_order (entry_of 2 DropLoad 3 1 ∷ entry_of 1 DropLoad 9 2 ∷ entry_of 2 DropLoad 2 3 ∷ entry_of 1 DropLoad 4 4 ∷ []) ≡ entry_of 1 DropLoad 4 4 ∷ entry_of 1 DropLoad 9 2 ∷ entry_of 2 DropLoad 2 3 ∷ entry_of 2 DropLoad 3 1 ∷ [] }
+    ensures order { in_order (entry_of 2 DropLoad 3 1 ∷ entry_of 1 DropLoad 9 2 ∷ entry_of 2 DropLoad 2 3
+        ∷ entry_of 1 DropLoad 4 4 ∷ []) ≡ entry_of 1 DropLoad 4 4 ∷ entry_of 1 DropLoad 9 2
+        ∷ entry_of 2 DropLoad 2 3 ∷ entry_of 2 DropLoad 3 1 ∷ [] }
 {}
 
 /// Says what the definition of the bucket after a tick gives in worked examples. It does nothing when

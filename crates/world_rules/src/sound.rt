@@ -8,5 +8,6 @@ ghost use Rattle.world_rules.specs.Sound.{IsSound, bare};
 /// equal, but for the room that their tables keep for new objects, and so are the texts and frames
 /// that are made of them. It does nothing when it runs.
 pub fn stored_in_one_way()
-    ensures { (one other : Stored) → IsSound one → IsSound other → world_of one ≡ world_of other → bare one ≡ bare other }
+    ensures { (one other : Stored) → IsSound one → IsSound other → world_of one ≡ world_of other
+        → bare one ≡ bare other }
 {}

@@ -15,10 +15,10 @@ pub returns-in_default-clause-rule : goal.returns-in_default-clause-rule
 returns-in_default-clause-rule c =
     λ grounds. dropped_by_none grounds c.args.room.now c.args.intent.now (sym c.get.ensures ∙ sym c.copied.ensures ∙ c.in_default.is)
 
-pub returns-then-not-can_drop-clause-rule : goal.returns-then-not-can_drop-clause-rule
-returns-then-not-can_drop-clause-rule c =
+pub returns-then-not-takes_effect-clause-rule : goal.returns-then-not-takes_effect-clause-rule
+returns-then-not-takes_effect-clause-rule c =
     let found = sym c.get.ensures ∙ sym c.copied.ensures ∙ c.in-Some.is in
-    λ grounds. dropped_by_other grounds c.args.room.now c.args.intent.now c.in-Some.creep found (sym c.can_drop.ensures ∙ c.if-not-can_drop.true)
+    λ grounds. dropped_by_other grounds c.args.room.now c.args.intent.now c.in-Some.creep found (sym (c.takes_effect.ensures grounds) ∙ c.if-not-takes_effect.true)
 
 pub set-requires-clause-tile : goal.set-requires-clause-tile
 set-requires-clause-tile c =
@@ -57,17 +57,16 @@ returns-clause-rule c =
     let table = c.args.room.now in
     let creep = c.in-Some.creep in
     let found = sym c.get.ensures ∙ sym c.copied.ensures ∙ c.in-Some.is in
-    let may = sym c.can_drop.ensures ∙ c.if-not-can_drop.false in
     let left = c.set.ensures ∙ ap (λ (n : ℕ). record table { objects = with_object (record creep { energy = creep.energy - n }) table.objects }) c.wanted-amount.ensures in
     λ grounds. c.fall.ensures.rule grounds
     ∙ (λ i. fallen creep.x creep.y (c.wanted-amount.ensures i) (table_part grounds (left i)))
-    ∙ sym (dropped_by_creep grounds table c.args.intent.now creep found may)
+    ∙ sym (dropped_by_creep grounds table c.args.intent.now creep found (sym (c.takes_effect.ensures grounds) ∙ c.if-not-takes_effect.false))
 
 pub returns-in_default-clause-keeps : goal.returns-in_default-clause-keeps
 returns-in_default-clause-keeps c = unchanged c.args.room.now c.requires.ready
 
-pub returns-then-not-can_drop-clause-keeps : goal.returns-then-not-can_drop-clause-keeps
-returns-then-not-can_drop-clause-keeps c = unchanged c.args.room.now c.requires.ready
+pub returns-then-not-takes_effect-clause-keeps : goal.returns-then-not-takes_effect-clause-keeps
+returns-then-not-takes_effect-clause-keeps c = unchanged c.args.room.now c.requires.ready
 
 pub returns-clause-keeps : goal.returns-clause-keeps
 returns-clause-keeps c =

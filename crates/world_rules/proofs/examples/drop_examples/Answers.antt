@@ -1,12 +1,15 @@
 -- What the definitions of what a creep drops give in worked examples.
-use Rattle.std.proofs.Common.{◌≡◌, ℕ, ◌+◌, ◌-◌, ◌==◌, min, Bool, true, false, if◌then◌else◌, nat_lt, List, [], ◌∷◌, map, Option, Some, None, refl, ap, ◌∙◌}
+use Rattle.std.proofs.Common.{◌≡◌, ℕ, ◌+◌, ◌-◌, ◌==◌, min, Bool, true, false, if◌then◌else◌, nat_lt, List, [], ◌∷◌, map, Option, Some, None, option_map, refl, ap, ◌∙◌}
 use Rattle.std.specs.List.{find}
 use Rattle.std.specs.Ordering.{nat_cmp}
 use Rattle.std.specs.Cmp.{nat_cmp_total}
 use Rattle.std.specs.FinMap.{get, put, insert, entries, get-insert, get-from_entries, entries-insert}
 use Rattle.object_store.specs.declared.object.Object.{Object}
+use Rattle.game_tables.specs.declared.action.Action.TheVariants.{DropLoad}
+use Rattle.world_rules.specs.World.{Placed}
 use Rattle.world_rules.specs.RoomParts.{RoomPart}
-use Rattle.world_rules.specs.Drops.{can_drop, dropped, dropped_by, dropped_of, fallen, fallen_on, is_pile_on, pile_bound, pile_of, pile_on, wanted_of}
+use Rattle.world_rules.specs.Checks.{standing_at, takes_effect}
+use Rattle.world_rules.specs.Drops.{dropped, dropped_by, dropped_of, fallen, fallen_on, is_pile_on, pile_bound, pile_of, pile_on, wanted_of}
 use Rattle.world_rules.specs.Changes.{put as put_object, with_object}
 use Rattle.world_rules.specs.Examples.{Drops, DropsNothing, Grows, creep_with, drop_of, room_with}
 use Rattle.world_rules.proofs.Keys.{entries_of_sorted}
@@ -41,11 +44,20 @@ pile_then : (part : RoomPart) (es : List (ℕ × Object)) (load : ℕ) → entri
 pile_then part es load are =
     ap (λ (list : List (ℕ × Object)). find (is_pile_on 30 30) (map (λ entry. entry.1) list)) (entries-insert nat_cmp_total part.objects 3 (creep_with load) ∙ ap (put nat_cmp 3 (creep_with load)) are)
 
+-- an object in the room of a part
+abbrev in_room : RoomPart → Object → Placed
+in_room part object = record { room = part.index; object = object }
+
+-- an entry of this player takes effect, where this is the creep
+abbrev takes : ℕ → Object → ℕ → RoomPart → Bool
+takes player creep amount part = takes_effect DropLoad (drop_of player amount) (Some (in_room part creep)) (standing_at part 0)
+
 -- what is dropped falls on what lies on the tile
-falls_so : (part : RoomPart) (load amount all : ℕ) (found : Option Object) → get part.objects 3 ≡ Some (creep_with load) → nat_lt 0 load ≡ true → wanted_of amount load ≡ all → (all == 0) ≡ false → pile_on 30 30 (taken load all part) ≡ found
+falls_so : (part : RoomPart) (load amount all : ℕ) (found : Option Object) → get part.objects 3 ≡ Some (creep_with load) → takes 1 (creep_with load) amount part ≡ true → wanted_of amount load ≡ all → (all == 0) ≡ false → pile_on 30 30 (taken load all part) ≡ found
     → dropped (drop_of 1 amount) part ≡ fallen_on found 30 30 all (taken load all part)
 falls_so part load amount all found there some wanted falls lies =
     ap (λ (o : Option Object). dropped_of (drop_of 1 amount) o part) there
+    ∙ ap (λ (o : Option Object). if takes_effect DropLoad (drop_of 1 amount) (option_map (in_room part) o) (standing_at part 0) then dropped_by (creep_with load) (wanted_of amount load) part else part) there
     ∙ ap (λ (b : Bool). if b then dropped_by (creep_with load) (wanted_of amount load) part else part) some
     ∙ ap (λ (n : ℕ). dropped_by (creep_with load) n part) wanted
     ∙ ap (λ (p : RoomPart). fallen 30 30 all p) (held (creep_with (load - all)) (creep_with load) part there)
@@ -53,7 +65,7 @@ falls_so part load amount all found there some wanted falls lies =
     ∙ ap (λ (o : Option Object). fallen_on o 30 30 all (taken load all part)) lies
 
 -- where nothing lies there, a new pile is made
-drops : (load amount all : ℕ) → nat_lt 0 load ≡ true → wanted_of amount load ≡ all → (all == 0) ≡ false → Drops load amount (load - all) (min pile_bound all)
+drops : (load amount all : ℕ) → takes 1 (creep_with load) amount (alone load) ≡ true → wanted_of amount load ≡ all → (all == 0) ≡ false → Drops load amount (load - all) (min pile_bound all)
 drops load amount all some wanted falls =
     let pile : Object = pile_of 4 30 30 (min pile_bound all) in
     let after : RoomPart = taken load all (alone load) in
@@ -78,10 +90,13 @@ grows energy amount all wanted falls =
     )
 
 -- an entry of another player, or to a creep without a load or hits, changes nothing
-drops_nothing : (player hits load : ℕ) → can_drop (drop_of player 5) (record (creep_with load) { hits = hits }) ≡ false → DropsNothing player hits load
+drops_nothing : (player hits load : ℕ) → takes player (record (creep_with load) { hits = hits }) 5 (room_with (record (creep_with load) { hits = hits } ∷ [])) ≡ false → DropsNothing player hits load
 drops_nothing player hits load no_drop =
     let creep : Object = record (creep_with load) { hits = hits } in
-    ap (λ (o : Option Object). dropped_of (drop_of player 5) o (room_with (creep ∷ []))) (get-from_entries nat_cmp_total ((3, creep) ∷ []) 3)
+    let part : RoomPart = room_with (creep ∷ []) in
+    let there = get-from_entries nat_cmp_total ((3, creep) ∷ []) 3 in
+    ap (λ (o : Option Object). dropped_of (drop_of player 5) o part) there
+    ∙ ap (λ (o : Option Object). if takes_effect DropLoad (drop_of player 5) (option_map (in_room part) o) (standing_at part 0) then dropped_by creep (wanted_of 5 load) part else part) there
     ∙ ap (λ (b : Bool). if b then dropped_by creep (wanted_of 5 load) (room_with (creep ∷ [])) else room_with (creep ∷ [])) no_drop
 
 -- ---- the examples

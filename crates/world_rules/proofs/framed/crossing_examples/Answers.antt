@@ -9,7 +9,7 @@ use Rattle.room_terrain.specs.declared.terrain.Ground.{Ground}
 use Rattle.room_terrain.specs.declared.terrain.Ground.TheVariants.{Plain, Swamp, Wall}
 use Rattle.object_store.specs.declared.object.Object.{Object}
 use Rattle.world_rules.specs.World.{Placed, Frame, World}
-use Rattle.world_rules.specs.Kinds.{is_creep}
+use Rattle.game_tables.specs.Kinds.{is_creep}
 use Rattle.world_rules.specs.Crossings.{Place, is_open_in, may_enter, with_place, with_object_on, crossed_to, crossed_by, crossed_in, rested, crossed}
 use Rattle.world_rules.specs.FrameExamples.{room_of_ground, beyond, world_with, moved_to, resting_at, container_at}
 use Rattle.world_rules.proofs.Keys.{entries_of_sorted}

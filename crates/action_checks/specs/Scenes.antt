@@ -1,0 +1,14 @@
+-- What a check reads, as it is given.
+use Rattle.std.specs.Prelude.{option_map}
+use Rattle.world_rules.specs.World.{shown}
+use Rattle.world_rules.specs.Checks as checks
+use Rattle.action_checks.specs.declared.checks.Scene.{Scene}
+
+abbrev pub scene_view : Scene → checks.Scene
+scene_view scene = record {
+  player = scene.player;
+  actor = option_map shown scene.actor;
+  target = option_map shown scene.target;
+  amount = scene.amount;
+  least = scene.least;
+}

@@ -1,0 +1,10 @@
+// The checks of the actions of creeps, which the desk of a player and the rules of a room read alike.
+#![tactic(auto)]
+
+mod checks;
+mod effect;
+#[cfg(test)]
+mod tests;
+
+pub use checks::{Scene, all_hold, first_failing};
+pub use effect::takes_effect;
