@@ -1,195 +1,202 @@
--- The tables in the course of the entries: ready for each, and what each makes of them.
-use Rattle.std.proofs.Common.{◌≡◌, ℕ, zero, suc, ◌+◌, ◌-◌, ◌^◌, ◌/◌, if◌then◌else◌, ◌<◌, ◌≤◌, true, All, List, [], ◌∷◌, ◌++◌, map, length, get_or, set, Option, Some, None, option_map, slice_get, refl, sym, ap, subst, ◌∙◌, arith}
-use Rattle.std.proofs.lemmas.List.{length-set, length-map, length_push}
-use Rattle.std.proofs.lemmas.List.Elements.{All-map, All-set, All-weaker}
-use Rattle.game_tables.specs.declared.action.Action.{Action}
-use Rattle.intent_book.specs.declared.intent.Intent.{Intent}
+-- The rooms in the course of the entries: ready for each, and what each makes of them.
+use Rattle.std.proofs.Common.{◌≡◌, ℕ, suc, ◌+◌, ◌^◌, ◌<◌, ◌≤◌, ◌==◌, Bool, true, false, cond, List, [], ◌∷◌, ◌++◌, map, length, get_or, set, take, drop, Option, Some, None, option_map, slice_get, refl, sym, ap, subst, ◌∙◌, arith}
+use Rattle.std.proofs.lemmas.Bool.{eq-eqb, eqb-true}
+use Rattle.std.proofs.Math.Seq.{drop-cons}
+use Rattle.std.proofs.lemmas.List.{length-set, length_push, map_push, take_all, take_more}
+use Rattle.std.proofs.lemmas.Option.{slice_get-map, slice_get_within, get_or_from_slice_get}
 use Rattle.object_store.specs.declared.world.Room.{Room}
 use Rattle.object_store.specs.Tables.{Table}
 use Rattle.object_store.specs.Stored.{Stored}
-use Rattle.world_rules.specs.World.{Placed, World, world_of}
+use Rattle.object_store.proofs.Moved.{count_head}
+use Rattle.kept_entries.specs.declared.entries.Entry.{Entry}
+use Rattle.kept_entries.specs.Turns.{placed}
+use Rattle.world_rules.specs.World.{World, ListedRoom, listed_room, world_listed, world_of}
 use Rattle.world_rules.specs.RoomParts.{RoomPart, in_room, in_frame}
-use Rattle.game_tables.specs.declared.action.Action.TheVariants.{DropLoad}
-use Rattle.world_rules.specs.Intents.{kept, names_tile, room_of, entries_of}
-use Rattle.world_rules.specs.Intents.{room_at as room_at_id}
-use Rattle.world_rules.specs.Tick.{begun, after_rule, book}
+use Rattle.world_rules.specs.Tick.{book}
 use Rattle.world_rules.specs.Sound.{IsSound, HaveSerials, serials_bound}
-use Rattle.ruled_tick.specs.declared.standing.Standing.{Standing}
-use Rattle.ruled_tick.specs.Standing.{is_drop, room_at, StandAsIn}
-use Rattle.ruled_tick.specs.Entered.{entered, entered_all, with_tables, table_or, tables_in, AreEntered, HasSerial, IsRuled, IsRuledIn, IsRuledAt, IsActed}
-use Rattle.ruled_tick.proofs.Actions.{dropping, entered_all_push}
+use Rattle.world_rules.proofs.Follows.{follows_self}
 use Rattle.world_rules.proofs.Lifting.{frame_stored}
-use Rattle.ruled_tick.proofs.Entered.{frame_at, has_serial, ruled_sound, ruled_world}
+use Rattle.world_rules.proofs.Same.{same_lists, tables_at}
+use Rattle.room_rules.specs.Calls.{IsReady}
+use Rattle.room_rules.specs.RoomRules.{is_player}
+use Rattle.room_rules.specs.Followed.{part_stored, FollowsAt}
+use Rattle.room_rules.proofs.Sound.{sound_keeps}
+use Rattle.room_rules.proofs.Followed.{followed_sound}
+use Rattle.ruled_tick.specs.inner.Entered.{entered_in, entered_all, many_in, widened, IsRuled, IsRuledIn, HasRoomFor, IsActed}
+use Rattle.ruled_tick.specs.inner.Ticked.{ticked_room, AreInPlace, IsRuledRooms}
+use Rattle.ruled_tick.proofs.Actions.{entered_append}
+use Rattle.ruled_tick.proofs.Entered.{frame_at, is_ready, ruled_sound, ruled_world}
+use Rattle.ruled_tick.proofs.Places.{get_set, split_at}
 
--- ---- lists
+-- ---- before the first entry
 
-pub at_place : {A : Type 0} (xs : List A) (i : ℕ) (x : A) → slice_get xs i ≡ Some x → (i < length xs) × ((d : A) → get_or xs i d ≡ x)
-at_place [] i x is = absurd (cc)
-at_place (first ∷ xs) zero x is = (omega arith, λ d. cc)
-at_place (first ∷ xs) (suc i) x is = let rest = at_place xs i x is in (omega (arith, rest.0), rest.1)
+module _ (stored : Stored) (entries : List Entry) (rooms : List Room) (sound : IsSound stored)
+    (are : (k : ℕ) → slice_get rooms k ≡ option_map (widened (many_in k entries)) (slice_get stored.rooms k)) where
+  abbrev now : Stored
+  now = record stored { rooms = rooms }
 
--- a table among those of the rooms
-record Split (rooms : List Room) (tables : List Table) (i : ℕ) (t : Table) : Type 0 where
-  before : List Room
-  room : Room
-  after : List Room
-  place : length before ≡ i
-  whole : with_tables rooms tables ≡ before ++ room ∷ after
-  table : (d : Table) → get_or tables i d ≡ room.table
-  other : with_tables rooms (set tables i t) ≡ before ++ record room { table = t } ∷ after
+  wide_follows : (k n : ℕ) (found : Option Room) → slice_get stored.rooms k ≡ found → FollowsAt (is_player (world_of stored)) found (option_map (widened n) found)
+  wide_follows k n None is = tt
+  wide_follows k n (Some room) is = record {
+    name = refl;
+    terrain = refl;
+    index = refl;
+    rising = tables_at stored.rooms k room sound.tables is;
+    follows = follows_self (part_stored room);
+    keeps = sound_keeps stored sound k room is;
+  }
 
-split_at : (rooms : List Room) (tables : List Table) (i : ℕ) (t : Table) → i < length tables → length tables ≡ length rooms → Split rooms tables i t
-split_at [] [] i t inside many = absurd (omega arith)
-split_at [] (table ∷ tables) i t inside many = absurd (omega arith)
-split_at (room ∷ rooms) [] i t inside many = absurd (omega arith)
-split_at (room ∷ rooms) (table ∷ tables) zero t inside many = record {
-  before = [];
-  room = record room { table = table };
-  after = with_tables rooms tables;
-  place = refl;
-  whole = refl;
-  table = λ d. refl;
-  other = refl;
-}
-split_at (room ∷ rooms) (table ∷ tables) (suc i) t inside many =
-    let rest = split_at rooms tables i t (omega arith) (omega arith) in
-    record {
-      before = record room { table = table } ∷ rest.before;
-      room = rest.room;
-      after = rest.after;
-      place = ap suc rest.place;
-      whole = ap (λ (more : List Room). record room { table = table } ∷ more) rest.whole;
-      table = rest.table;
-      other = ap (λ (more : List Room). record room { table = table } ∷ more) rest.other;
-    }
+  wide_sound : IsSound now
+  wide_sound = followed_sound stored now sound (λ k.
+      subst (FollowsAt (is_player (world_of stored)) (slice_get stored.rooms k)) (sym (are k)) (wide_follows k (many_in k entries) (slice_get stored.rooms k) refl))
+      (record { rising = sound.accounts; players = λ player listed. listed; fewer = λ player. omega arith })
 
-pub with_same : (rooms : List Room) → with_tables rooms (map (λ (room : Room). room.table) rooms) ≡ rooms
-with_same [] = refl
-with_same (room ∷ rooms) = ap (λ (more : List Room). room ∷ more) (with_same rooms)
+  wide_listed : (n : ℕ) (found : Option Room) → option_map listed_room (option_map (widened n) found) ≡ option_map listed_room found
+  wide_listed n None = refl
+  wide_listed n (Some room) = refl
 
-past_tables : (rooms : List Room) (tables : List Table) (i : ℕ) → slice_get tables i ≡ None → length tables ≡ length rooms → slice_get (with_tables rooms tables) i ≡ None
-past_tables [] tables i none many = refl
-past_tables (room ∷ rooms) [] i none many = absurd (omega arith)
-past_tables (room ∷ rooms) (table ∷ tables) zero none many = absurd (cc)
-past_tables (room ∷ rooms) (table ∷ tables) (suc i) none many = past_tables rooms tables i none (omega arith)
+  same_listed : map listed_room rooms ≡ map listed_room stored.rooms
+  same_listed = same_lists (map listed_room rooms) (map listed_room stored.rooms) (λ k.
+      slice_get-map listed_room rooms k
+      ∙ ap (option_map listed_room) (are k)
+      ∙ wide_listed (many_in k entries) (slice_get stored.rooms k)
+      ∙ sym (slice_get-map listed_room stored.rooms k))
 
--- ---- an entry, on a world
+  wide_ready : HaveSerials stored.rooms → (k : ℕ) (room : Room) (found : Option Room) → slice_get stored.rooms k ≡ found → option_map (widened (many_in k entries)) found ≡ Some room → HasRoomFor 0 (many_in k entries) room.table
+  wide_ready serials k room None is at = absurd cc
+  wide_ready serials k room (Some old) is at =
+      let same : widened (many_in k entries) old ≡ room = cc in
+      let within = slice_get_within stored.rooms k old is in
+      let serial : old.table.next ≤ serials_bound = subst (λ (r : Room). r.table.next ≤ serials_bound) (get_or_from_slice_get stored.rooms k old old is) (serials k old within) in
+      subst (λ (r : Room). HasRoomFor 0 (many_in k entries) r.table) same (record { serial = omega arith; spare = omega arith })
 
--- the change that an entry makes of its room's part
-abbrev effect_of : Intent → RoomPart → RoomPart
-effect_of entry part = (book.effect entry part).part
+  pub acted_first : HaveSerials stored.rooms → length rooms ≡ length stored.rooms → IsActed stored [] entries rooms
+  acted_first serials many = record {
+    many = many;
+    sound = wide_sound;
+    ready = λ k room is. wide_ready serials k room (slice_get stored.rooms k) refl (sym (are k) ∙ is);
+    same = ap (λ (listed : List ListedRoom). world_listed (record { rules = 1; tick = stored.tick; rooms = listed; accounts = stored.accounts })) same_listed;
+  }
 
-entered_room : (before world : World) (intent : Intent) (index : ℕ) → room_of before intent ≡ Some index → entered before world intent ≡ in_room (effect_of intent) index world
-entered_room before world intent index at = ap (λ (room : Option ℕ). (after_rule book before (begun world) intent room).world) at
+-- ---- before each, and after it
 
-entered_nowhere : (before world : World) (intent : Intent) → room_of before intent ≡ None → entered before world intent ≡ world
-entered_nowhere before world intent at = ap (λ (room : Option ℕ). (after_rule book before (begun world) intent room).world) at
+module _ (stored : Stored) (done : List Entry) (entry : Entry) (later : List Entry) (rooms : List Room) (acted : IsActed stored done (entry ∷ later) rooms) where
+  abbrev world : List Room → World
+  world list = world_of (record stored { rooms = list })
 
--- the room of a dropping actor is known
-pub drop_room : (world : World) (all : List Standing) → StandAsIn world all → (intent : Intent) → is_drop intent ≡ true → room_of world intent ≡ room_at intent.actor all
-drop_room world all same intent is =
-    ap (λ (a : Action). if names_tile a then Some (intent.actor / 2500) else room_at_id world intent.actor) (dropping intent.action is) ∙ ap (option_map (λ (placed : Placed). placed.room)) (sym (same intent.actor))
+  abbrev change : RoomPart → RoomPart
+  change part = (book.effect entry.intent part).part
 
--- ---- before the first entry, and before each
+  many_head : (k : ℕ) → many_in k (entry ∷ later) ≡ cond (entry.room == k) 1 0 + many_in k later
+  many_head k = count_head (λ (e : Entry). e.room == k) entry later
 
-pub acted_first : (stored : Stored) (tables : List Table) → IsSound stored → HaveSerials stored.rooms → tables ≡ map (λ (room : Room). room.table) stored.rooms → IsActed stored [] tables
-acted_first stored tables sound serials is =
-    let same : with_tables stored.rooms tables ≡ stored.rooms = ap (with_tables stored.rooms) is ∙ with_same stored.rooms in
-    let at : List Room → Stored = λ rooms. record stored { rooms = rooms } in
-    record {
-      many = ap length is ∙ length-map stored.rooms (λ (room : Room). room.table);
-      sound = subst (λ (rooms : List Room). IsSound (at rooms)) (sym same) sound;
-      serials = subst (λ (ts : List Table). All (λ (table : Table). table.next ≤ serials_bound + 0) ts) (sym is)
-          (All-map (λ (table : Table). table.next ≤ serials_bound + 0) (λ (room : Room). room.table) stored.rooms
-          (All-weaker (λ (room : Room). room.table.next ≤ serials_bound) (λ (room : Room). room.table.next ≤ serials_bound + 0) (λ room less. omega arith) stored.rooms serials));
-      same = ap (λ (rooms : List Room). world_of (at rooms)) same;
-    }
+  here : many_in entry.room (entry ∷ later) ≡ 1 + many_in entry.room later
+  here = many_head entry.room ∙ ap (λ (b : Bool). cond b 1 0 + many_in entry.room later) (eq-eqb entry.room entry.room refl)
 
-module _ (stored : Stored) (done : List Intent) (tables : List Table) (acted : IsActed stored done tables) (few : length done < 2 ^ 18) where
-  serial_below : (n : ℕ) → n ≤ serials_bound + length done → n < 2 ^ 32 - 1
-  serial_below n less = omega arith
+  pub acted_ready : length done < 2 ^ 18 → (room : Room) → slice_get rooms entry.room ≡ Some room → IsReady room.table
+  acted_ready few room at =
+      let parts = split_at rooms entry.room room room at in
+      let for = acted.ready entry.room room at in
+      let sound : IsSound (record { tick = stored.tick; rooms = parts.before ++ room ∷ parts.after; accounts = stored.accounts }) = subst (λ (list : List Room). IsSound (record stored { rooms = list })) parts.whole acted.sound in
+      is_ready stored.tick stored.accounts parts.before room parts.after sound (omega (arith, for.serial)) (omega (arith, for.spare, here))
 
-  pub acted_ready : All HasSerial tables
-  acted_ready k d inside =
-      let parts = split_at stored.rooms tables k d inside acted.many in
-      let at : (e : Table) → get_or tables k e ≡ parts.room.table = parts.table in
-      let below : parts.room.table.next < 2 ^ 32 - 1 = serial_below _ (subst (λ (t : Table). t.next ≤ serials_bound + length done) (at d) (acted.serials k d inside)) in
-      let sound : IsSound (record { tick = stored.tick; rooms = parts.before ++ parts.room ∷ parts.after; accounts = stored.accounts }) = subst (λ (rooms : List Room). IsSound (record stored { rooms = rooms })) parts.whole acted.sound in
-      subst HasSerial (sym (at d)) (has_serial stored.tick stored.accounts parts.before parts.room parts.after sound below)
+  fewer : (k : ℕ) → many_in k later ≤ many_in k (entry ∷ later)
+  fewer k = omega (arith, many_head k)
 
-  module _ (intent : Intent) where
-    abbrev done_then : List Intent
-    done_then = done ++ intent ∷ []
+  others_ready : (k : ℕ) (room : Room) → HasRoomFor (length done) (many_in k (entry ∷ later)) room.table → HasRoomFor (length (done ++ entry ∷ [])) (many_in k later) room.table
+  others_ready k room for = record { serial = omega (arith, for.serial, length_push done entry); spare = omega (arith, for.spare, fewer k) }
 
-    serials_weaker : (ts : List Table) → All (λ (table : Table). table.next ≤ serials_bound + length done) ts → All (λ (table : Table). table.next ≤ serials_bound + length done_then) ts
-    serials_weaker ts all = All-weaker (λ (table : Table). table.next ≤ serials_bound + length done) (λ (table : Table). table.next ≤ serials_bound + length done_then) (λ table less. omega (arith, length_push done intent)) ts all
+  pushed : entered_all (world_of stored) (map placed (done ++ entry ∷ [])) ≡ entered_in entry.intent (entered_all (world_of stored) (map placed done)) (Some entry.room)
+  pushed = ap (entered_all (world_of stored)) (map_push placed done entry) ∙ entered_append (world_of stored) (map placed done) (placed entry ∷ [])
 
-    acted_unchanged : entered (world_of stored) (world_of (tables_in stored tables)) intent ≡ world_of (tables_in stored tables) → IsActed stored done_then tables
-    acted_unchanged stays = record {
-      many = acted.many;
-      sound = acted.sound;
-      serials = serials_weaker tables acted.serials;
-      same = sym stays ∙ ap (λ (w : World). entered (world_of stored) w intent) acted.same ∙ sym (entered_all_push (world_of stored) (world_of stored) done intent);
-    }
+  acted_unchanged : slice_get rooms entry.room ≡ None → IsActed stored (done ++ entry ∷ []) later rooms
+  acted_unchanged none = record {
+    many = acted.many;
+    sound = acted.sound;
+    ready = λ k room is. others_ready k room (acted.ready k room is);
+    same = sym (ap (in_frame change entry.room (world rooms)) (frame_stored (record stored { rooms = rooms }) entry.room ∙ ap frame_at none))
+        ∙ ap (in_room change entry.room) acted.same
+        ∙ sym pushed;
+  }
 
-    acted_in : (index : ℕ) (old table : Table) → slice_get tables index ≡ Some old → IsRuled intent old table → room_of (world_of stored) intent ≡ Some index → IsActed stored done_then (set tables index table)
-    acted_in index old table at d room =
-        let there = at_place tables index old at in
-        let parts = split_at stored.rooms tables index table there.0 acted.many in
-        let one : old ≡ parts.room.table = sym (there.1 old) ∙ parts.table old in
-        let ruled : IsRuled intent parts.room.table table = subst (λ (t : Table). IsRuled intent t table) one d in
-        let most : parts.room.table.next ≤ serials_bound + length done = subst (λ (t : Table). t.next ≤ serials_bound + length done) (parts.table old) (acted.serials index old there.0) in
-        let sound : IsSound (record { tick = stored.tick; rooms = parts.before ++ parts.room ∷ parts.after; accounts = stored.accounts }) = subst (λ (rooms : List Room). IsSound (record stored { rooms = rooms })) parts.whole acted.sound in
-        let world : List Room → World = λ rooms. world_of (record stored { rooms = rooms }) in
+  module _ (room : Room) (table : Table) (at : slice_get rooms entry.room ≡ Some room) (ruled : IsRuled entry.intent room.table table) where
+    abbrev other : Room
+    other = record room { table = table }
+
+    ruled_ready : HasRoomFor (length (done ++ entry ∷ [])) (many_in entry.room later) table
+    ruled_ready =
+        let for = acted.ready entry.room room at in
         record {
-          many = length-set tables index table ∙ acted.many;
-          sound = subst (λ (rooms : List Room). IsSound (record stored { rooms = rooms })) (sym parts.other) (ruled_sound stored.tick stored.accounts parts.before parts.room parts.after sound intent table ruled);
-          serials = All-set (λ (t : Table). t.next ≤ serials_bound + length done_then) tables index table (omega (arith, length_push done intent, ruled.made)) (serials_weaker tables acted.serials);
-          same = ap world parts.other
-              ∙ sym (ruled_world stored.tick stored.accounts parts.before parts.room parts.after sound intent table ruled)
-              ∙ ap (λ (n : ℕ). in_room (effect_of intent) n (world (parts.before ++ parts.room ∷ parts.after))) parts.place
-              ∙ ap (λ (rooms : List Room). in_room (effect_of intent) index (world rooms)) (sym parts.whole)
-              ∙ sym (entered_room (world_of stored) (world_of (tables_in stored tables)) intent index room)
-              ∙ ap (λ (w : World). entered (world_of stored) w intent) acted.same
-              ∙ sym (entered_all_push (world_of stored) (world_of stored) done intent);
+          serial = omega (arith, for.serial, ruled.keeps.made, length_push done entry);
+          spare = omega (arith, for.spare, here, ruled.keeps.used, ruled.keeps.made);
         }
 
-    acted_in_room : (index : ℕ) (found : Option Table) (new : List Table) → slice_get tables index ≡ found → IsRuledIn found index intent tables new → room_of (world_of stored) intent ≡ Some index → IsActed stored done_then new
-    acted_in_room index None new at stays room =
-        subst (IsActed stored done_then) (sym stays) (acted_unchanged (entered_room (world_of stored) (world_of (tables_in stored tables)) intent index room ∙ ap (in_frame (effect_of intent) index (world_of (tables_in stored tables))) (frame_stored (tables_in stored tables) index ∙ ap frame_at (past_tables stored.rooms tables index at acted.many))))
-    acted_in_room index (Some old) new at d room = subst (IsActed stored done_then) (sym d.1) (acted_in index old d.0 at d.2 room)
+    ready_at : (k : ℕ) (found : Room) → slice_get (set rooms entry.room other) k ≡ Some found → HasRoomFor (length (done ++ entry ∷ [])) (many_in k later) found.table
+    ready_at k found is =
+        elim (k == entry.room) as (λ b. (k == entry.room) ≡ b → cond b (Some other) (slice_get rooms k) ≡ Some found → HasRoomFor (length (done ++ entry ∷ [])) (many_in k later) found.table) [
+          | true ↦ λ same there.
+              let one : other ≡ found = cc in
+              subst (λ (n : ℕ). HasRoomFor (length (done ++ entry ∷ [])) (many_in n later) found.table) (sym (eqb-true k entry.room same))
+              (subst (λ (r : Room). HasRoomFor (length (done ++ entry ∷ [])) (many_in entry.room later) r.table) one ruled_ready)
+          | false ↦ λ apart there. others_ready k found (acted.ready k found there)
+        ] refl (sym (get_set rooms entry.room k other (slice_get_within rooms entry.room room at)) ∙ is)
 
-    -- after one entry more
-    pub acted_more : (found : Option ℕ) (new : List Table) → IsRuledAt found intent tables new → room_of (world_of stored) intent ≡ found → IsActed stored done_then new
-    acted_more None new stays room = subst (IsActed stored done_then) (sym stays) (acted_unchanged (entered_nowhere (world_of stored) (world_of (tables_in stored tables)) intent room))
-    acted_more (Some index) new d room = acted_in_room index (slice_get tables index) new refl d room
+    acted_in : IsActed stored (done ++ entry ∷ []) later (set rooms entry.room other)
+    acted_in =
+        let parts = split_at rooms entry.room room other at in
+        let sound : IsSound (record { tick = stored.tick; rooms = parts.before ++ room ∷ parts.after; accounts = stored.accounts }) = subst (λ (list : List Room). IsSound (record stored { rooms = list })) parts.whole acted.sound in
+        record {
+          many = length-set rooms entry.room other ∙ acted.many;
+          sound = subst (λ (list : List Room). IsSound (record stored { rooms = list })) (sym parts.other) (ruled_sound stored.tick stored.accounts parts.before room parts.after sound entry.intent table ruled);
+          ready = ready_at;
+          same = ap world parts.other
+              ∙ sym (ruled_world stored.tick stored.accounts parts.before room parts.after sound entry.intent table ruled)
+              ∙ ap (λ (n : ℕ). in_room change n (world (parts.before ++ room ∷ parts.after))) parts.place
+              ∙ ap (λ (list : List Room). in_room change entry.room (world list)) (sym parts.whole)
+              ∙ ap (in_room change entry.room) acted.same
+              ∙ sym pushed;
+        }
 
--- ---- tables in their rooms
+  acted_found : (found : Option Room) (new : List Room) → slice_get rooms entry.room ≡ found → IsRuledIn found entry.room entry.intent rooms new → IsActed stored (done ++ entry ∷ []) later new
+  acted_found None new at stays = subst (IsActed stored (done ++ entry ∷ []) later) (sym stays) (acted_unchanged at)
+  acted_found (Some room) new at d = subst (IsActed stored (done ++ entry ∷ []) later) (sym d.1) (acted_in room d.0 at d.2)
 
-with_none : (rooms : List Room) → with_tables rooms [] ≡ rooms
-with_none [] = refl
-with_none (room ∷ rooms) = refl
+  -- after one entry more
+  pub acted_more : (new : List Room) → IsRuledIn (slice_get rooms entry.room) entry.room entry.intent rooms new → IsActed stored (done ++ entry ∷ []) later new
+  acted_more new d = acted_found (slice_get rooms entry.room) new refl d
 
-pub with_length : (rooms : List Room) (tables : List Table) → length (with_tables rooms tables) ≡ length rooms
-with_length [] tables = refl
-with_length (room ∷ rooms) [] = refl
-with_length (room ∷ rooms) (table ∷ tables) = ap suc (with_length rooms tables)
+-- ---- along the entries
 
-pub read_place : {A : Type 0} (xs : List A) (i : ℕ) (x : A) → i < length xs → x ≡ get_or xs i x → slice_get xs i ≡ Some x
-read_place [] i x inside is = absurd (omega arith)
-read_place (first ∷ xs) zero x inside is = ap Some (sym is)
-read_place (first ∷ xs) (suc i) x inside is = read_place xs i x (omega arith) is
+pub acted_next : (stored : Stored) (entries : List Entry) (i : ℕ) (entry : Entry) (rooms : List Room) → i < length entries → entry ≡ get_or entries i entry → IsActed stored (take i entries) (drop i entries) rooms → IsActed stored (take i entries) (entry ∷ drop (i + 1) entries) rooms
+acted_next stored entries i entry rooms inside is acted =
+    let next : suc i ≡ i + 1 = omega arith in
+    subst (λ (later : List Entry). IsActed stored (take i entries) later rooms)
+    (drop-cons entries i entry inside ∙ ap (λ (e : Entry). e ∷ drop (suc i) entries) (sym is) ∙ ap (λ (n : ℕ). entry ∷ drop n entries) next) acted
 
-pub with_place : (rooms : List Room) (tables : List Table) (i : ℕ) (room : Room) → slice_get rooms i ≡ Some room → slice_get (with_tables rooms tables) i ≡ Some (record room { table = table_or room (slice_get tables i) })
-with_place [] tables i room is = absurd (cc)
-with_place (first ∷ rooms) [] i room is = is
-with_place (first ∷ rooms) (table ∷ tables) zero room is = let same : first ≡ room = cc in ap (λ (r : Room). Some (record r { table = table })) same
-with_place (first ∷ rooms) (table ∷ tables) (suc i) room is = with_place rooms tables i room is
+pub acted_then : (stored : Stored) (entries : List Entry) (i : ℕ) (entry : Entry) (rooms : List Room) → i < length entries → entry ≡ get_or entries i entry → IsActed stored (take i entries ++ entry ∷ []) (drop (i + 1) entries) rooms → IsActed stored (take (i + 1) entries) (drop (i + 1) entries) rooms
+acted_then stored entries i entry rooms inside is acted =
+    subst (λ (done : List Entry). IsActed stored done (drop (i + 1) entries) rooms) (ap (λ (e : Entry). take i entries ++ e ∷ []) is ∙ sym (take_more entries i entry inside)) acted
 
-pub entered_none : (stored : Stored) (intents : List Intent) (tables : List Table) → IsSound stored → entries_of DropLoad (kept (world_of stored) intents) ≡ [] → tables ≡ [] → AreEntered stored intents tables
-entered_none stored intents tables sound none empty =
-    let same : with_tables stored.rooms tables ≡ stored.rooms = ap (with_tables stored.rooms) empty ∙ with_none stored.rooms in
-    record {
-      sound = subst (λ (rooms : List Room). IsSound (record stored { rooms = rooms })) (sym same) sound;
-      same = ap (λ (rooms : List Room). world_of (record stored { rooms = rooms })) same ∙ ap (entered_all (world_of stored) (world_of stored)) (sym none);
-    }
+-- ---- after the last entry
+
+ticked_index : (index : ℕ) (found : Option Room) (room : Room) → ((old : Room) → found ≡ Some old → old.table.index ≡ index) → option_map ticked_room found ≡ Some room → room.table.index ≡ index
+ticked_index index None room places at = absurd cc
+ticked_index index (Some old) room places at =
+    let same : ticked_room old ≡ room = cc in
+    ap (λ (r : Room). r.table.index) (sym same) ∙ places old refl
+
+pub ticked_in_place : (rooms : List Room) → AreInPlace rooms → AreInPlace (map ticked_room rooms)
+ticked_in_place rooms places index room at =
+    ticked_index index (slice_get rooms index) room (λ old is. places index old is) (sym (slice_get-map ticked_room rooms index) ∙ at)
+
+pub acted_last : (stored : Stored) (entries : List Entry) (i : ℕ) (rooms : List Room) (next : Stored) → length entries ≤ i → IsActed stored (take i entries) (drop i entries) rooms
+    → next ≡ record { tick = stored.tick + 1; rooms = map ticked_room rooms; accounts = [] } → IsRuledRooms stored entries next
+acted_last stored entries i rooms next past acted is = record {
+  acted = record stored { rooms = rooms };
+  tick = refl;
+  accounts = refl;
+  rooms = acted.many;
+  sound = acted.sound;
+  same = acted.same ∙ ap (λ (done : List Entry). entered_all (world_of stored) (map placed done)) (take_all i entries past);
+  next = is;
+}

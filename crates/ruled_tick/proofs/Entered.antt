@@ -17,13 +17,14 @@ use Rattle.world_rules.proofs.Follows.{follows_self}
 use Rattle.world_rules.proofs.Orderly.{book_orderly}
 use Rattle.world_rules.proofs.Lifting.{stored_part, in_room-stored, other_rooms, room_at}
 use Rattle.world_rules.proofs.Same.{once, tables_at}
+use Rattle.room_rules.specs.Calls.{IsReady}
 use Rattle.room_rules.specs.RoomRules.{KeepsRoomRules, is_player}
 use Rattle.room_rules.specs.Followed.{part_stored, FollowsRoom, FollowsAt, FollowRooms}
 use Rattle.room_rules.proofs.Sound.{sound_keeps}
 use Rattle.room_rules.proofs.Followed.{followed_sound}
 use Rattle.room_rules.proofs.Rules.{rule_keeps}
 use Rattle.falling_energy.proofs.Parts.{get_table_part}
-use Rattle.ruled_tick.specs.Entered.{IsRuled, HasSerial}
+use Rattle.ruled_tick.specs.inner.Entered.{IsRuled}
 
 abbrev pub frame_at : Option Room → Option Frame
 frame_at found = option_map (λ room. (listed_room room).frame) found
@@ -60,9 +61,9 @@ module _ (tick : ℕ) (accounts : List Account) (before : List Room) (room : Roo
   keeps : KeepsRoomRules players false (part_stored room)
   keeps = sound_keeps was s index room (room_at before room after)
 
-  -- a table of a sound world has a serial for an object more, where serials are left
-  pub has_serial : room.table.next < 2 ^ 32 - 1 → HasSerial room.table
-  has_serial below = record { serial = below; fresh = fresh_as (find_object fresh room.table.objects) refl; tiles = (sound_here before room after s.rooms).tiles }
+  -- a table of a sound world is ready, where serials and memory are left
+  pub is_ready : room.table.next < 2 ^ 32 - 1 → 1 ≤ room.table.spare → IsReady room.table
+  is_ready below spare = record { spare = spare; serial = below; fresh = fresh_as (find_object fresh room.table.objects) refl; tiles = (sound_here before room after s.rooms).tiles }
     where
       fresh : ℕ
       fresh = room.table.index * 2 ^ 32 + room.table.next
@@ -88,9 +89,6 @@ module _ (tick : ℕ) (accounts : List Account) (before : List Room) (room : Roo
 
     follows : Follows (part_stored room) (part_stored other)
     follows = subst (Follows (part_stored room)) (sym part_then) (book_orderly.effect entry (part_stored room))
-
-    pub serial_later : room.table.next ≤ table.next
-    serial_later = follows.serial
 
     follows_here : FollowsRoom players room other
     follows_here = record {

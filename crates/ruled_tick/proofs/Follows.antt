@@ -3,10 +3,10 @@ use Rattle.std.proofs.Common.{◌≡◌, ℕ, ◌≤◌, ◌==◌, Bool, true, f
 use Rattle.std.specs.List.{AllByRecursion, count_by}
 use Rattle.std.specs.Ordering.{nat_cmp}
 use Rattle.std.specs.Cmp.{nat_cmp_total}
-use Rattle.std.specs.FinMap.{find, get, from_entries, entries, get-from_entries}
+use Rattle.std.specs.FinMap.{find, get, from_entries, get-from_entries}
 use Rattle.std.proofs.lemmas.Option.{slice_get-map}
 use Rattle.std.proofs.lemmas.List.Sums.{sum_by-cons}
-use Rattle.game_tables.specs.Kinds.{source_room}
+use Rattle.game_tables.specs.Kinds.{source_capacity}
 use Rattle.object_store.specs.declared.account.Account.{Account}
 use Rattle.object_store.specs.declared.world.Room.{Room}
 use Rattle.object_store.specs.Tables.{IsRising}
@@ -14,11 +14,12 @@ use Rattle.object_store.specs.Stored.{Stored, AreRising, IsLast}
 use Rattle.intent_book.specs.declared.player_run.PlayerRun.{PlayerRun}
 use Rattle.world_rules.specs.World.{world_of}
 use Rattle.world_rules.specs.RuleBook.{Follows}
-use Rattle.world_rules.specs.Upkeep.{is_taken, controller_of, renewed_as, renewed, decayed_as, decayed}
+use Rattle.object_store.specs.Controllers.{is_taken}
+use Rattle.world_rules.specs.Upkeep.{controller_of, renewed_as, renewed, decayed_as, decayed}
 use Rattle.world_rules.specs.Tick.{account_after, run_of}
 use Rattle.world_rules.specs.Sound.{IsSound}
 use Rattle.world_rules.proofs.Follows.{follows_trans, follows_each}
-use Rattle.world_rules.proofs.Keys.{keyed, accounts_sorted, entries_of_sorted, find_mapped}
+use Rattle.world_rules.proofs.Keys.{keyed, find_mapped}
 use Rattle.world_rules.proofs.Lifting.{with_table}
 use Rattle.world_rules.proofs.Each.{IsRising-filter_map}
 use Rattle.world_rules.proofs.Same.{tables_at}
@@ -27,7 +28,7 @@ use Rattle.room_rules.specs.Followed.{part_stored, FollowsRoom, FollowsAt, Keeps
 use Rattle.room_rules.proofs.Sound.{sound_keeps}
 use Rattle.room_rules.proofs.Steps.{keeps_renewed, keeps_decayed}
 use Rattle.room_rules.proofs.Followed.{followed_sound}
-use Rattle.ruled_tick.specs.Ticked.{capacity_among, accounted, renewed_to, decayed_by_kind, upkept, ticked, ticked_room}
+use Rattle.ruled_tick.specs.inner.Ticked.{capacity_among, accounted, renewed_to, decayed_by_kind, upkept, ticked, ticked_room}
 use Rattle.ruled_tick.proofs.Objects.{upkept-id}
 use Rattle.ruled_tick.proofs.Steps.{renewed_table, renewed_stored, decayed_stored, renewed_rises, both_in_turn}
 
@@ -56,7 +57,7 @@ ticked_follows players room rise keeps =
       rising = IsRising-filter_map (upkept capacity) (upkept-id capacity) room.table.objects rise;
       follows = subst (Follows (part_stored room)) (sym is)
           (follows_trans (part_stored room) (renewed (part_stored room)) (decayed (renewed (part_stored room)))
-          (follows_each (λ object. renewed_as object.kind (source_room (is_taken (controller_of (part_stored room)))) object) (part_stored room))
+          (follows_each (λ object. renewed_as object.kind (source_capacity (is_taken (controller_of (part_stored room)))) object) (part_stored room))
           (follows_each (λ object. decayed_as object.kind object) (renewed (part_stored room))));
       keeps = subst (KeepsRoomRules players false) (sym is) (keeps_decayed players false (renewed (part_stored room)) (keeps_renewed players false (part_stored room) keeps));
     }
@@ -112,19 +113,10 @@ module _ (f : Account → Account) (same : (account : Account) → (f account).p
   pub changed-IsSound : (w : Stored) → IsSound w → IsSound (record (ticked w) { accounts = map f w.accounts })
   changed-IsSound w s = sound_then w s (map f w.accounts) (record { rising = changed_rise w.accounts s.accounts; players = changed_players w; fewer = λ n. changed_count n w.accounts })
 
-  pub same_players : (accounts : List Account) → map (λ (account : Account). account.player) (map f accounts) ≡ map (λ (account : Account). account.player) accounts
-  same_players [] = refl
-  same_players (account ∷ accounts) = let rest = same_players accounts in λ i. same account i ∷ rest i
-
   -- an account comes after others also where they are changed
   pub changed_last : (player : ℕ) (accounts : List Account) → IsLast player accounts → IsLast player (map f accounts)
   changed_last player [] last = tt
   changed_last player (account ∷ accounts) last = (subst (λ (n : ℕ). n < player) (sym (same account)) last.0, changed_last player accounts last.1)
-
-  pub changed_entries : (w : Stored) → IsSound w → from_entries {R = nat_cmp} (map (λ (e : ℕ × Account). (e.0, f e.1)) (entries (world_of w).accounts)) ≡ (world_of (record w { accounts = map f w.accounts })).accounts
-  changed_entries w s =
-      ap (λ (es : List (ℕ × Account)). from_entries (map (λ (e : ℕ × Account). (e.0, f e.1)) es)) (entries_of_sorted (keyed (λ (account : Account). account.player) w.accounts) (accounts_sorted w.accounts s.accounts))
-      ∙ ap from_entries (keyed_changed w.accounts)
 
 pub accounted-player : (runs : List PlayerRun) (account : Account) → (accounted runs account).player ≡ account.player
 accounted-player runs account = elim (run_of account.player runs) as (λ run. (account_after 0 account run).player ≡ account.player) [ None ↦ refl | Some run ↦ refl ]

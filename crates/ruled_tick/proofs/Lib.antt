@@ -2,10 +2,11 @@ pub mod Objects
 pub mod Entered
 pub mod Actions
 pub mod Acted
+pub mod Places
+pub mod Upkeeping
 pub mod Rising
 pub mod Steps
 pub mod Follows
-pub mod Chosen
-pub mod Wanted
-pub mod Known
+pub mod Few
+pub mod Counting
 pub mod Next

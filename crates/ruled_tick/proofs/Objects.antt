@@ -7,7 +7,7 @@ use Rattle.object_store.specs.declared.object.Object.{Object}
 use Rattle.world_rules.specs.Upkeep.{source_renewed, pile_decayed, renewed_as, decayed_as}
 use Rattle.world_rules.proofs.Each.{KeepsIds}
 use Rattle.room_rules.proofs.Steps.{renewed_stays, decayed_stays}
-use Rattle.ruled_tick.specs.Ticked.{renewed_to, decayed_by_kind, upkept}
+use Rattle.ruled_tick.specs.inner.Ticked.{renewed_to, decayed_by_kind, upkept}
 
 -- ---- ids stay
 

@@ -1,16 +1,8 @@
--- Fewer objects after a tick, and accounts that come one after the other.
-use Rattle.std.proofs.Common.{◌≡◌, ℕ, zero, suc, ◌<◌, ◌≤◌, List, [], ◌∷◌, length, take, get_or, filter_map, Option, Some, None, sym, subst, arith}
-use Rattle.std.specs.List.{cons_option, AllByRecursion}
+-- Accounts that come one after the other.
+use Rattle.std.proofs.Common.{◌≡◌, ℕ, zero, suc, ◌<◌, List, [], ◌∷◌, length, take, get_or, sym, subst, arith}
+use Rattle.std.specs.List.{AllByRecursion}
 use Rattle.object_store.specs.declared.account.Account.{Account}
 use Rattle.object_store.specs.Stored.{AreRising, IsLast}
-
-pub length-filter_map : {A B : Type 0} (f : A → Option B) (xs : List A) → length (filter_map f xs) ≤ length xs
-length-filter_map f [] = omega arith
-length-filter_map f (x ∷ xs) =
-    let rest = length-filter_map f xs in
-    elim (f x) as (λ o. length (cons_option o (filter_map f xs)) ≤ length (x ∷ xs)) [ None ↦ omega arith | Some y ↦ omega arith ]
-
--- ---- accounts
 
 all_at : {A : Type 0} (P : A → Type 0) (xs : List A) (i : ℕ) (x : A) → AllByRecursion P xs → i < length xs → x ≡ get_or xs i x → P x
 all_at P [] i x all inside is = absurd (omega arith)

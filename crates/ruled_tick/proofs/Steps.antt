@@ -2,20 +2,21 @@
 use Rattle.std.proofs.Common.{◌≡◌, ℕ, ◌+◌, List, [], ◌∷◌, map, Option, Some, None, option_and_then, refl, sym, ap, ◌∙◌}
 use Rattle.std.specs.List.{cons_option, filter_map}
 use Rattle.std.specs.List as lists
-use Rattle.game_tables.specs.Kinds.{source_room}
-use Rattle.game_tables.specs.declared.action.Action.TheVariants.{DropLoad}
+use Rattle.game_tables.specs.Kinds.{source_capacity, is_controller}
 use Rattle.intent_book.specs.declared.intent.Intent.{Intent}
 use Rattle.object_store.specs.declared.object.Object.{Object}
 use Rattle.object_store.specs.declared.world.Room.{Room}
 use Rattle.object_store.specs.Tables.{Table, IsRising}
 use Rattle.object_store.specs.Stored.{Stored, HaveRisingTables}
-use Rattle.world_rules.specs.Kinds.{is_controller}
 use Rattle.world_rules.specs.World.{World, ListedRoom, listed_room, world_listed, world_of}
 use Rattle.world_rules.specs.RoomParts.{in_every_room}
 use Rattle.world_rules.specs.RuleBook.{Sums, Step}
 use Rattle.world_rules.specs.Steps.{each}
-use Rattle.world_rules.specs.Upkeep.{unchanged, renewed, decayed, controller_of, is_taken, steps}
-use Rattle.world_rules.specs.Intents.{kept, entries_of}
+use Rattle.object_store.specs.Controllers.{controller_among, is_taken}
+use Rattle.kept_entries.specs.declared.entries.Entry.{Entry}
+use Rattle.kept_entries.specs.Turns.{in_turn, placed, placed_in, AreKept}
+use Rattle.world_rules.specs.Upkeep.{unchanged, renewed, decayed, controller_of, steps}
+use Rattle.world_rules.specs.Intents.{kept}
 use Rattle.world_rules.specs.Tick.{Course, acted, movement, sums_in, after_steps, ruled, book, crossed}
 use Rattle.world_rules.specs.Sound.{IsSound}
 use Rattle.world_rules.proofs.Keys.{keyed, table_sorted, entries_of_sorted, values_of}
@@ -23,8 +24,8 @@ use Rattle.world_rules.proofs.Lifting.{AreIdsOnce, SaysSame, stored_part, with_t
 use Rattle.world_rules.proofs.Unchanged.{in_every_room-unchanged}
 use Rattle.world_rules.proofs.Each.{each-stored, each_in_table, IsRising-filter_map, times_in-filter_map}
 use Rattle.world_rules.proofs.Same.{once, tables_at}
-use Rattle.ruled_tick.specs.Entered.{entered_all}
-use Rattle.ruled_tick.specs.Ticked.{controller_among, capacity_among, renewed_to, decayed_by_kind, ticked, ticked_room}
+use Rattle.ruled_tick.specs.inner.Entered.{entered_all}
+use Rattle.ruled_tick.specs.inner.Ticked.{capacity_among, renewed_to, decayed_by_kind, ticked, ticked_room}
 use Rattle.ruled_tick.proofs.Objects.{renewed-id, decayed-id}
 use Rattle.ruled_tick.proofs.Actions.{acted_world}
 
@@ -54,7 +55,7 @@ abbrev counted : World → World
 counted after = record after { tick = after.tick + 1 }
 
 -- after the entries a tick renews and decays
-pub ruled_in_force : (world : World) (intents : List Intent) → ruled book crossed world intents ≡ counted (upkept_rooms (entered_all world world (entries_of DropLoad (kept world intents))))
+pub ruled_in_force : (world : World) (intents : List Intent) → ruled book crossed world intents ≡ counted (upkept_rooms (entered_all world (map (placed_in world) (in_turn (kept world intents)))))
 ruled_in_force world intents =
     let after : Course = acted book world intents in
     ap (λ (moved : World). counted (after_steps (sums_in after) steps moved)) (in_every_room-unchanged (movement book world intents) (λ room part. refl) after.world)
@@ -79,7 +80,7 @@ renewed_stored index room rise =
     let capacity = capacity_among room.table.objects in
     let stands = each-stored (renewed_to capacity) (renewed-id capacity) index room rise in
     record {
-      part = ap (λ (controller : Option Object). each (renewed_to (source_room (is_taken controller))) (stored_part index room)) (controller_stored index room rise) ∙ stands.part;
+      part = ap (λ (controller : Option Object). each (renewed_to (source_capacity (is_taken controller))) (stored_part index room)) (controller_stored index room rise) ∙ stands.part;
       ids = stands.ids;
     }
 
@@ -133,10 +134,11 @@ ticked_upkeep stored sound =
     ∙ ap listing (listed_same stored.rooms)
 
 -- a tick of what is stored, as the entries leave it, is a tick of the world
-pub ticked-IsRuled : (stored acted : Stored) (intents : List Intent) → IsSound acted → world_of acted ≡ entered_all (world_of stored) (world_of stored) (entries_of DropLoad (kept (world_of stored) intents))
+pub ticked-IsRuled : (stored acted : Stored) (intents : List Intent) (entries : List Entry) → AreKept (world_of stored) intents entries → IsSound acted → world_of acted ≡ entered_all (world_of stored) (map placed entries)
     → world_of (ticked acted) ≡ ruled book crossed (world_of stored) intents
-ticked-IsRuled stored acted intents sound same = sym (
+ticked-IsRuled stored acted intents entries are sound same = sym (
     ruled_in_force (world_of stored) intents
+    ∙ ap (λ (list : List (Option ℕ × Intent)). counted (upkept_rooms (entered_all (world_of stored) list))) (sym are)
     ∙ ap (λ (w : World). counted (upkept_rooms w)) (sym same)
     ∙ ticked_upkeep acted sound
     )

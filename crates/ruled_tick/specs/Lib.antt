@@ -1,4 +1,1 @@
-pub mod Ticked
-pub mod Placing
-pub mod Standing
-pub mod Entered
+pub mod inner

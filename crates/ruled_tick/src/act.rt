@@ -1,103 +1,87 @@
 // What the entries of a tick make of the rooms.
-ghost use Rattle.std.specs.Prelude.{◌≡◌, ◌≤◌, ◌^◌, All, map, length, IsTrue, OnOk, IfOk};
-ghost use Rattle.std.specs.List.{AllByRecursion};
-ghost use Rattle.object_store.specs.Tables.{IsOnTile};
-ghost use Rattle.object_store.proofs.Rising.{Rises};
-ghost use Rattle.game_tables.specs.declared.action.Action.TheVariants as actions;
-ghost use Rattle.world_rules.specs.World.{world_of};
-ghost use Rattle.world_rules.specs.Intents.{kept, entries_of};
-ghost use Rattle.world_rules.specs.Sound.{IsSound, HaveSerials};
-ghost use Rattle.ruled_tick.specs.Standing.{id_in, room_at};
-ghost use Rattle.std.specs.Prelude.{List};
+ghost use Rattle.std.specs.Prelude.{◌≡◌, IsTrue, ◌<◌, ◌≤◌, ◌^◌, ℕ, List, length, Some, option_map, slice_get, OnOk, IfOk};
 ghost use Rattle.room_terrain.specs.declared.terrain.Ground.{Ground};
+ghost use Rattle.object_store.specs.declared.world.Room.{Room};
 ghost use Rattle.world_rules.specs.RoomParts.{table_part};
 ghost use Rattle.world_rules.specs.Tick.{book};
 ghost use Rattle.room_rules.specs.Calls.{IsReady, Keeps};
-ghost use Rattle.ruled_tick.specs.Entered.{AreEntered, IsActed, IsRuled, IsRuledAt, HasSerial};
+ghost use Rattle.ruled_tick.specs.inner.Entered.{many_in, widened, AreCounts, IsRuled, IsRuledIn};
 
-use crate::entries::{have_drop, ruled_entries};
-use crate::standing::{Standing, all_standing, room_of};
 use creep_logistics::drop_load;
 use game_tables::Action;
 use intent_book::Intent;
-use object_store::{Object, Room, RoomTable, World};
-use std::alloc::{AllocError, Global};
+use kept_entries::Entry;
+use object_store::{Room, RoomTable};
+use std::alloc::{AllocError as NoMemory, Global};
 
-/// The tables of all rooms after the entries, in the order of the rooms, or none where no entry is
-/// of an action in force.
-pub fn entered_tables(
-    alloc: Global,
-    world: &World,
-    intents: &[Intent],
-) -> Result<Vec<RoomTable>, AllocError>
-    requires sound { IsSound world.now }
-    requires few { length intents.now ≤ 2 ^ 18 }
-    requires serials { HaveSerials world.now.rooms }
-    ensures { IfOk result (λ tables. AreEntered world.now intents.now tables.items) }
+/// Copies the table of each room, with memory for what its entries and a step of upkeep may make.
+pub fn widen_all(alloc: Global, rooms: &mut [Room], entries: &[Entry]) -> Result<(), NoMemory>
+    requires few { length entries.now ≤ 2 ^ 18 }
+    ensures { OnOk result ((index : ℕ) → slice_get rooms.new index
+        ≡ option_map (widened (many_in index entries.now)) (slice_get rooms.old index)) }
 {
-    if !have_drop(intents) {
-        return Ok(Vec::new(alloc));
-    }
-    acted_tables(alloc, world, intents)
-}
-
-// The tables of all rooms after the entries.
-fn acted_tables(
-    alloc: Global,
-    world: &World,
-    intents: &[Intent],
-) -> Result<Vec<RoomTable>, AllocError>
-    requires sound { IsSound world.now }
-    requires few { length intents.now ≤ 2 ^ 18 }
-    requires serials { HaveSerials world.now.rooms }
-    ensures { IfOk result (λ tables. IsActed world.now (entries_of actions.DropLoad (kept (world_of world.now) intents.now)) tables.items) }
-{
-    let all = all_standing(alloc, world)?;
-    let entries = ruled_entries(alloc, &all, intents)?;
-    let mut tables = copied_tables(alloc, world.room_list())?;
-    for intent in &entries {
-        enter(&all, &mut tables, intent)?;
-    }
-    Ok(tables)
-}
-
-// Rules an entry in the room of its actor.
-fn enter(all: &[Standing], tables: &mut Vec<RoomTable>, intent: &Intent) -> Result<(), AllocError>
-    requires rising { Rises id_in all.now }
-    requires ready { All HasSerial tables.old.items }
-    ensures { OnOk result (IsRuledAt (room_at intent.now.actor all.now) intent.now tables.old.items tables.new.items) }
-{
-    match room_of(all, intent.actor) {
-        Some(room) => enter_at(tables, room as usize, intent),
-        None => Ok(()),
-    }
-}
-
-fn enter_at(tables: &mut Vec<RoomTable>, index: usize, intent: &Intent) -> Result<(), AllocError>
-    requires ready { All HasSerial tables.old.items }
-    ensures { OnOk result (IsRuledAt (Some index) intent.now tables.old.items tables.new.items) }
-{
-    if index < tables.len() {
-        rule_in(&mut tables[index], intent)?;
+    let counts = counts_of(alloc, rooms.len(), entries)?;
+    for (index, room) in rooms.iter_mut().enumerate() {
+        widen(alloc, room, counts[index])?;
     }
     Ok(())
 }
 
-// Rules an entry in a room, with memory for an object more.
-fn rule_in(table: &mut RoomTable, intent: &Intent) -> Result<(), AllocError>
-    requires ready { HasSerial table.old }
-    ensures { OnOk result (IsRuled intent.now table.old table.new) }
+/// Rules an entry in its room, if there is such a room.
+pub fn enter(rooms: &mut [Room], entry: &Entry)
+    requires ready { (room : Room) → slice_get rooms.old entry.now.room ≡ Some room → IsReady room.table }
+    ensures { IsRuledIn
+        (slice_get rooms.old entry.now.room) entry.now.room entry.now.intent rooms.old rooms.new }
 {
-    make_room(table)?;
-    rule(table, intent);
-    let _rising = table.objects();
+    let index = entry.room as usize;
+    if index < rooms.len() {
+        rule_in(&mut rooms[index], &entry.intent);
+    }
+}
+
+// How many entries each of so many rooms has.
+fn counts_of(alloc: Global, rooms: usize, entries: &[Entry]) -> Result<Vec<u32>, NoMemory>
+    requires few { length entries.now ≤ 2 ^ 18 }
+    ensures { IfOk result (λ counts. AreCounts rooms entries.now counts.items) }
+{
+    let mut counts = vec![in alloc; 0_u32; rooms]?;
+    for entry in entries {
+        let index = entry.room as usize;
+        if index < counts.len() {
+            counts[index] += 1;
+        }
+    }
+    Ok(counts)
+}
+
+// Copies the table of a room that has so many entries. Where its objects and that memory come to 2^32, it is
+// refused as one without memory; a room that keeps the rules has at most 7,500 objects.
+fn widen(alloc: Global, room: &mut Room, entries: u32) -> Result<(), NoMemory>
+    ensures { OnOk result (room.new ≡ widened entries room.old) }
+{
+    let len = u64::from(room.table.len());
+    let spare = u64::from(entries) + (4 * len + 196);
+    if len + spare > u64::from(u32::MAX) {
+        return Err(NoMemory);
+    }
+    room.table = room.table.copy(alloc, spare)?;
     Ok(())
+}
+
+fn rule_in(room: &mut Room, intent: &Intent)
+    requires ready { IsReady room.old.table }
+    ensures rest { room.new ≡ record room.old { table = room.new.table } }
+    ensures ruled { IsRuled intent.now room.old.table room.new.table }
+{
+    rule(&mut room.table, intent);
+    let _rising = room.table.objects();
 }
 
 // The rule of each action. One that is not in force yet does nothing.
 fn rule(table: &mut RoomTable, intent: &Intent)
     requires ready { IsReady table.old }
-    ensures rule { (grounds : List Ground) → table_part grounds table.new ≡ (book.effect intent.now (table_part grounds table.old)).part }
+    ensures rule { (grounds : List Ground)
+        → table_part grounds table.new ≡ (book.effect intent.now (table_part grounds table.old)).part }
     ensures keeps { Keeps table.old table.new }
 {
     match intent.action {
@@ -106,228 +90,139 @@ fn rule(table: &mut RoomTable, intent: &Intent)
     }
 }
 
-// Takes memory for an object more, unless there are too many.
-fn make_room(table: &mut RoomTable) -> Result<(), AllocError>
-    ensures same { table.new ≡ record table.old { spare = table.new.spare } }
-    ensures spare { OnOk result (1 ≤ table.new.spare) }
-{
-    if table.len() == u32::MAX {
-        return Err(AllocError);
-    }
-    table.reserve(1)
-}
-
-// The tables of all rooms, once more.
-fn copied_tables(alloc: Global, rooms: &[Room]) -> Result<Vec<RoomTable>, AllocError>
-    ensures { IfOk result (λ tables. tables.items ≡ map (λ room. room.table) rooms.now) }
-{
-    let mut tables = Vec::with_capacity(alloc, rooms.len())?;
-    for room in rooms {
-        let spare = room.table.spare();
-        tables.push(room.table.copy(alloc, u64::from(spare))?)?;
-    }
-    Ok(tables)
-}
-
 #[cfg(test)]
-mod tests {
+pub mod tests {
     use super::*;
-    use crate::standing::tests::two_rooms;
-    use crate::upkeep::tests::object;
-    use game_tables::{Action, Body, Kind};
+    use crate::upkeep::tests::{are_on_tiles, object};
+    use game_tables::{Body, Kind};
+    use object_store::{Ground, Object, RoomName, Terrain};
     use std::test::Fail;
 
-    // A creep of a player, with this load.
-    fn creep(id: u64, owner: u32, energy: u64) -> Object
+    // A creep of a player, with 20 of energy.
+    fn creep(id: u64, owner: u32) -> Object
         ensures { result.id ≡ id }
     {
         Object {
             owner,
             hits: 200,
-            ..object(id, Kind::Creep, energy, 1500)
+            ..object(id, Kind::Creep, 20, 1500)
         }
     }
 
-    // The entry of this player, action, actor and amount.
-    fn entry(row: (u32, Action, u64, u64)) -> Intent {
-        Intent {
-            player: row.0,
-            action: row.1,
-            actor: row.2,
-            target: 0,
-            amount: row.3,
-            body: Body::new(),
-        }
-    }
-
-    // What is asked of rooms before an entry.
-    fn are_ready(tables: &[RoomTable]) -> bool
-        ensures { IsTrue result → All HasSerial tables.now }
+    /// A room of plains with a table.
+    pub fn room_of(alloc: Global, column: i32, table: RoomTable) -> Result<Room, NoMemory>
+        ensures { IfOk result (λ room. room.table ≡ table) }
     {
-        for table in tables {
-            if !is_ready(table) {
-                return false;
-            }
-        }
-        true
+        let grounds = [Ground::Plain; 2500];
+        Ok(Room {
+            name: RoomName { column, row: 5 },
+            terrain: Terrain::of(alloc, &grounds)?,
+            table,
+        })
     }
 
-    fn are_on_tiles(objects: &[Object]) -> bool
-        ensures { IsTrue result → AllByRecursion IsOnTile objects.now }
-    {
-        for object in objects {
-            if object.x > 49 || object.y > 49 {
-                return false;
-            }
+    // Two rooms with a creep of each of two players on one tile.
+    fn two_rooms(alloc: Global) -> Result<Vec<Room>, NoMemory> {
+        let mut rooms = Vec::new(alloc);
+        for index in 0_u32..2 {
+            let mut objects = Vec::new(alloc);
+            objects.push(creep(3, 1))?;
+            objects.push(creep(5, 2))?;
+            let table = RoomTable::of(alloc, index, 9, objects)?;
+            rooms.push(room_of(alloc, index as i32, table)?)?;
         }
-        true
+        Ok(rooms)
     }
 
+    // The entry of this room, player, action, actor and amount.
+    fn entry(row: (u32, u32, Action, u64, u64)) -> Entry {
+        Entry {
+            room: row.0,
+            intent: Intent {
+                player: row.1,
+                action: row.2,
+                actor: row.3,
+                target: 0,
+                amount: row.4,
+                body: Body::new(),
+            },
+        }
+    }
+
+    // What is asked of a room before an entry.
     fn is_ready(table: &RoomTable) -> bool
-        ensures { IsTrue result → HasSerial table.now }
+        ensures { IsTrue result → IsReady table.now }
     {
         let fresh = u64::from(table.index()) * (1 << 32) + u64::from(table.next());
-        are_on_tiles(table.objects()) && table.next() < u32::MAX && table.get(fresh).is_none()
+        table.spare() >= 1
+            && are_on_tiles(table.objects())
+            && table.next() < u32::MAX
+            && table.get(fresh).is_none()
     }
 
     // Rules entries one after the other.
-    fn enter_all(
-        all: &[Standing],
-        tables: &mut Vec<RoomTable>,
-        entries: &[Intent],
-    ) -> Result<(), Fail>
-        requires rising { Rises id_in all.now }
-    {
-        for intent in entries {
-            if !are_ready(tables) {
-                return Err("not ready".into());
+    fn enter_all(rooms: &mut [Room], entries: &[Entry]) -> Result<(), Fail> {
+        for entry in entries {
+            if let Some(room) = rooms.get(entry.room as usize) {
+                if !is_ready(&room.table) {
+                    return Err("not ready".into());
+                }
             }
-            enter(all, tables, intent)?;
+            enter(rooms, entry);
         }
         Ok(())
     }
 
-    // The player, the actor and the amount of the entry at a place.
-    fn at(entries: &[Intent], place: usize) -> Option<(u32, u64, u64)> {
-        let intent = entries.get(place)?;
-        Some((intent.player, intent.actor, intent.amount))
-    }
-
-    // A room with a creep of each of two players on one tile.
-    fn one_room(alloc: Global) -> Result<RoomTable, AllocError> {
-        let mut objects = Vec::new(alloc);
-        objects.push(creep(3, 1, 20))?;
-        objects.push(creep(5, 2, 20))?;
-        Ok(RoomTable::of(0, 9, objects))
-    }
-
-    // The energy of the object at a place of the first room.
-    fn energy_at(tables: &[RoomTable], place: u32) -> Option<u64> {
-        let object = tables.first()?.nth(place)?;
-        Some(object.energy)
+    // The energies of the two creeps of a room and of what lies there, and the memory that is left.
+    fn state(rooms: &[Room], index: usize) -> Option<(u64, u64, Option<u64>, u32)> {
+        let table = &rooms.get(index)?.table;
+        let pile = table.nth(2).map(|pile| pile.energy);
+        Some((
+            table.nth(0)?.energy,
+            table.nth(1)?.energy,
+            pile,
+            table.spare(),
+        ))
     }
 
     #[test]
-    fn entries_are_chosen_and_ruled(rt: HostRuntime) -> Result<(), Fail> {
-        let first = creep(3, 1, 20);
-        let second = creep(5, 2, 20);
-        let source = object(7, Kind::Source, 3000, 0);
-        let mut all = Vec::new(rt.alloc());
-        all.push(Standing {
-            room: 0,
-            object: &first,
-        })?;
-        all.push(Standing {
-            room: 0,
-            object: &second,
-        })?;
-        all.push(Standing {
-            room: 0,
-            object: &source,
-        })?;
-        for (one, other, chosen, loads, pile) in [
-            // Of two entries of one creep the last counts.
-            (
-                (1, Action::DropLoad, 3, 4),
-                (1, Action::DropLoad, 3, 5),
-                (Some((1, 3, 5)), None),
-                (15, 20),
-                Some(5),
-            ),
+    fn entries_are_ruled_in_their_rooms(rt: HostRuntime) -> Result<(), Fail> {
+        for (one, other, first, second) in [
             // Two creeps on one tile, of two players.
             (
-                (2, Action::DropLoad, 5, 0),
-                (1, Action::DropLoad, 3, 5),
-                (Some((1, 3, 5)), Some((2, 5, 0))),
-                (15, 0),
-                Some(25),
+                (0, 1, Action::DropLoad, 3, 5),
+                (0, 2, Action::DropLoad, 5, 0),
+                (15, 0, Some(25), 205),
+                (20, 20, None, 204),
             ),
-            // Another action, whose rule is not in force.
+            // Two rooms.
             (
-                (1, Action::Harvest, 3, 0),
-                (2, Action::DropLoad, 5, 1),
-                (Some((2, 5, 1)), None),
-                (20, 19),
-                Some(1),
+                (1, 1, Action::DropLoad, 3, 20),
+                (0, 1, Action::DropLoad, 3, 1),
+                (19, 20, Some(1), 204),
+                (0, 20, Some(20), 204),
+            ),
+            // Another action, whose rule is not in force, and a room that there is not.
+            (
+                (0, 1, Action::Harvest, 3, 0),
+                (2, 1, Action::DropLoad, 3, 5),
+                (20, 20, None, 205),
+                (20, 20, None, 204),
             ),
             // A creep of another player.
             (
-                (2, Action::DropLoad, 3, 1),
-                (1, Action::DropLoad, 5, 1),
-                (None, None),
-                (20, 20),
-                None,
-            ),
-            // An object that is no creep, and none at all.
-            (
-                (1, Action::DropLoad, 7, 1),
-                (1, Action::DropLoad, 9, 1),
-                (None, None),
-                (20, 20),
-                None,
-            ),
-            // Nobody's entry.
-            (
-                (0, Action::DropLoad, 7, 1),
-                (1, Action::DropLoad, 3, 20),
-                (Some((1, 3, 20)), None),
-                (0, 20),
-                Some(20),
+                (1, 2, Action::DropLoad, 3, 5),
+                (1, 2, Action::DropLoad, 5, 5),
+                (20, 20, None, 204),
+                (20, 15, Some(5), 205),
             ),
         ] {
-            let given = [entry(one), entry(other)];
-            let entries = ruled_entries(rt.alloc(), &all, &given)?;
-            assert_eq!(rt; (at(&entries, 0), at(&entries, 1)), chosen);
-            assert!(rt; entries.len() < 3);
-            let mut tables = Vec::new(rt.alloc());
-            tables.push(one_room(rt.alloc())?)?;
-            enter_all(&all, &mut tables, &entries)?;
-            assert_eq!(rt; energy_at(&tables, 0), Some(loads.0));
-            assert_eq!(rt; energy_at(&tables, 1), Some(loads.1));
-            assert_eq!(rt; energy_at(&tables, 2), pile);
-        }
-        Ok(())
-    }
-
-    #[test]
-    fn tables_are_copied_with_their_spare(rt: HostRuntime) -> Result<(), Fail> {
-        let world = two_rooms(rt.alloc())?;
-        let tables = copied_tables(rt.alloc(), world.room_list())?;
-        assert_eq!(rt; tables.len(), 2);
-        for (table, (index, spare, first, last)) in tables
-            .iter()
-            .zip([(0_u32, 0_u32, 2_u64, 5_u64), (1, 3, 1, 4)])
-        {
-            assert_eq!(rt; (table.index(), table.next()), (index, 9));
-            assert_eq!(rt; (table.len(), table.spare()), (2, spare));
-            assert_eq!(rt;
-                table.nth(0).map(|pile| (pile.id, pile.energy)),
-                Some((first, 7))
-            );
-            assert_eq!(rt;
-                table.nth(1).map(|pile| (pile.id, pile.energy)),
-                Some((last, 8))
-            );
+            let mut rooms = two_rooms(rt.alloc())?;
+            let entries = [entry(one), entry(other)];
+            widen_all(rt.alloc(), &mut rooms, &entries)?;
+            enter_all(&mut rooms, &entries)?;
+            assert_eq!(rt; state(&rooms, 0), Some(first));
+            assert_eq!(rt; state(&rooms, 1), Some(second));
         }
         Ok(())
     }

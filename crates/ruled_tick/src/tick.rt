@@ -1,24 +1,30 @@
 // One tick of the whole world.
-ghost use Rattle.std.specs.Prelude.{◌≡◌, ◌<◌, ◌≤◌, ◌-◌, ◌+◌, ◌^◌, [], map, length, slice_get, option_map, IfOk, OnOk};
+ghost use Rattle.std.specs.Prelude.{◌≡◌, IsTrue, ◌<◌, ◌≤◌, ◌-◌, ◌+◌, ◌^◌, List, [], map, length, option_map, IfOk, OnOk};
+ghost use Rattle.std.specs.List.{AllByRecursion};
+ghost use Rattle.object_store.specs.Stored.{AreRising};
+ghost use Rattle.intent_book.specs.declared.intent.Intent.{Intent};
+ghost use Rattle.kept_entries.specs.Turns.{AreKept};
 ghost use Rattle.world_rules.specs.World.{world_of};
 ghost use Rattle.world_rules.specs.Tick.{book, plain_world, next_world, intents_of, gained, account_raised, account_after, run_of, bucket_after, points_after};
-ghost use Rattle.world_rules.specs.Sound.{IsSound, HaveSerials};
-ghost use Rattle.ruled_tick.specs.Entered.{with_tables, tables_in, table_or};
-ghost use Rattle.ruled_tick.specs.Ticked.{accounted, ticked, IsRuledRooms, AreInPlace};
+ghost use Rattle.world_rules.specs.Sound.{IsSound, IsSoundRoom, HaveSerials};
+ghost use Rattle.ruled_tick.specs.inner.Ticked.{accounted, IsRuledRooms, AreInPlace};
 
-use crate::act::entered_tables;
-use crate::upkeep::tick_table;
+use crate::act::{enter, widen_all};
+use crate::upkeep::tick_all;
 use game_tables::{most_bucket, most_points, unit_instructions};
 use intent_book::{Intent, PlayerRun};
-use object_store::{Account, Bytes, Room, RoomTable, World};
+use kept_entries::{Entry, kept_entries};
+use object_store::{Account, Bytes, Room, World};
 use std::alloc::{AllocError as NoMemory, Global};
+use world_roster::Roster;
 
 /// The world after one tick with these entries: each account has the points that its player gained, up
 /// to 2^53, with the bucket and the memory text as they were.
 ///
 /// Of the entries that fit the world the last of each player, action and actor counts. They go by
-/// action, then player, then actor; then upkeep goes through all rooms. An entry in a room that holds
-/// 2^32 - 1 objects is refused as one without memory; a room that keeps the rules has at most 7,500.
+/// action, then player, then actor; then upkeep goes through all rooms. A room whose objects and what may
+/// be made there come to 2^32 is refused as one without memory; a room that keeps the rules has at most
+/// 7,500 objects.
 pub fn tick_plain(alloc: Global, world: &World, intents: &[Intent]) -> Result<World, NoMemory>
     requires tick { world.now.tick < 2 ^ 64 - 1 }
     requires sound { IsSound world.now }
@@ -27,33 +33,61 @@ pub fn tick_plain(alloc: Global, world: &World, intents: &[Intent]) -> Result<Wo
     ensures ruled { IfOk result (λ next. world_of next ≡ plain_world (world_of world.now) intents.now) }
     ensures sound { IfOk result IsSound }
 {
-    let mut next = ruled_rooms(alloc, world, intents)?;
-    push_raised(alloc, world, &mut next)?;
-    Ok(next)
+    let roster = Roster::of(alloc, world)?;
+    let entries = kept_entries(alloc, world, &roster, intents)?;
+    tick_taken(alloc, world.copy(alloc)?, &entries)
 }
 
-/// The world after one tick with these runs: its rooms are ruled with all that they want, and each
-/// account gets its limit of CPU units into its bucket, up to 10,000, without what its player's run
-/// used, and the memory text that the run left. A player has one run at most; of two, the first would
-/// count for the bucket and the memory text, and what both want would be ruled.
-pub fn next_world(alloc: Global, world: &World, runs: &[PlayerRun]) -> Result<World, NoMemory>
-    requires tick { world.now.tick < 2 ^ 64 - 1 }
-    requires sound { IsSound world.now }
-    requires few { length (intents_of runs.now) ≤ 2 ^ 18 }
-    requires serials { HaveSerials world.now.rooms }
-    ensures next { IfOk result (λ next. world_of next ≡ next_world (world_of world.now) runs.now) }
+/// The same as `tick_plain` of a world that is taken: no terrain is copied, and each table once, with room
+/// for what its entries may make. `entries` are those that count (`kept_entries`), each with its room.
+pub fn tick_taken(alloc: Global, world: World, entries: &[Entry]) -> Result<World, NoMemory>
+    requires tick { world.tick < 2 ^ 64 - 1 }
+    requires sound { IsSound world }
+    requires few { length entries.now ≤ 2 ^ 18 }
+    requires serials { HaveSerials world.rooms }
+    ensures ruled { IfOk result (λ next. (list : List Intent) → AreKept (world_of world) list entries.now
+        → world_of next ≡ plain_world (world_of world) list) }
     ensures sound { IfOk result IsSound }
-    ensures accounts { IfOk result (λ next. next.accounts ≡ map (λ account. account_after (gained book (world_of world.now) (intents_of runs.now) account.player) account (run_of account.player runs.now)) world.now.accounts) }
-    ensures rooms { IfOk result (λ next. length next.rooms ≡ length world.now.rooms) }
 {
-    let intents = all_intents(alloc, runs)?;
-    let mut next = ruled_rooms(alloc, world, &intents)?;
-    push_accounted(alloc, world, runs, &mut next)?;
+    let (mut next, accounts) = ruled_rooms(alloc, world, entries)?;
+    push_raised(alloc, &accounts, &mut next)?;
     Ok(next)
 }
 
-// What all runs want, in their order.
-fn all_intents(alloc: Global, runs: &[PlayerRun]) -> Result<Vec<Intent>, NoMemory>
+/// The world after one tick with these runs, in place of the world before, which is taken: its rooms are
+/// ruled with all that they want, and each account gets its limit of CPU units into its bucket, up to
+/// 10,000, without what its player's run used, and the memory text that the run left. A player has one run
+/// at most; of two, the first would count for the bucket and the memory text, and what both want would be
+/// ruled.
+///
+/// `entries` are those that count of what the runs want (`all_intents`, `kept_entries`).
+pub fn next_world(
+    alloc: Global,
+    world: World,
+    entries: &[Entry],
+    runs: &[PlayerRun],
+) -> Result<World, NoMemory>
+    requires tick { world.tick < 2 ^ 64 - 1 }
+    requires sound { IsSound world }
+    requires few { length entries.now ≤ 2 ^ 18 }
+    requires serials { HaveSerials world.rooms }
+    ensures next { IfOk result (λ next. AreKept (world_of world) (intents_of runs.now) entries.now
+        → world_of next ≡ next_world (world_of world) runs.now) }
+    ensures sound { IfOk result IsSound }
+    ensures accounts { IfOk result
+        (λ next. next.accounts
+        ≡ map (λ account.
+        account_after (gained book (world_of world) (intents_of runs.now) account.player) account
+        (run_of account.player runs.now)) world.accounts) }
+    ensures rooms { IfOk result (λ next. length next.rooms ≡ length world.rooms) }
+{
+    let (mut next, accounts) = ruled_rooms(alloc, world, entries)?;
+    push_accounted(alloc, &accounts, runs, &mut next)?;
+    Ok(next)
+}
+
+/// What all runs want, in their order.
+pub fn all_intents(alloc: Global, runs: &[PlayerRun]) -> Result<Vec<Intent>, NoMemory>
     ensures { IfOk result (λ intents. intents.items ≡ intents_of runs.now) }
 {
     let mut intents = Vec::new(alloc);
@@ -63,51 +97,57 @@ fn all_intents(alloc: Global, runs: &[PlayerRun]) -> Result<Vec<Intent>, NoMemor
     Ok(intents)
 }
 
-// The world after a tick with these entries, without accounts yet.
-fn ruled_rooms(alloc: Global, world: &World, intents: &[Intent]) -> Result<World, NoMemory>
-    requires tick { world.now.tick < 2 ^ 64 - 1 }
-    requires sound { IsSound world.now }
-    requires few { length intents.now ≤ 2 ^ 18 }
-    requires serials { HaveSerials world.now.rooms }
-    ensures { IfOk result (IsRuledRooms world.now intents.now) }
+// The world after a tick with these entries, without accounts yet, and its accounts as they were.
+fn ruled_rooms(
+    alloc: Global,
+    world: World,
+    entries: &[Entry],
+) -> Result<(World, Vec<Account>), NoMemory>
+    requires tick { world.tick < 2 ^ 64 - 1 }
+    requires sound { IsSound world }
+    requires few { length entries.now ≤ 2 ^ 18 }
+    requires serials { HaveSerials world.rooms }
+    ensures rooms { IfOk result (λ parts. IsRuledRooms world entries.now parts.0) }
+    ensures accounts { IfOk result (λ parts. parts.1.items ≡ world.accounts) }
+    ensures within { IfOk result (λ parts. length parts.1.items < 2 ^ 32) }
 {
-    let tables = entered_tables(alloc, world, intents)?;
-    tick_rooms(alloc, world, &tables)
+    let tick = world.tick() + 1;
+    // The numbers of rooms and of accounts are below 2^32.
+    let _rooms = world.room_list();
+    let _accounts = world.account_list();
+    let (mut rooms, accounts) = world.into_parts();
+    widen_all(alloc, &mut rooms, entries)?;
+    for entry in entries {
+        enter(&mut rooms, entry);
+    }
+    tick_all(&mut rooms);
+    let next = world_of_rooms(alloc, tick, rooms)?;
+    Ok((next, accounts))
 }
 
-// The world after upkeep, without accounts yet, where these are the tables of the rooms, or those of
-// the world where there are none.
-fn tick_rooms(alloc: Global, world: &World, tables: &[RoomTable]) -> Result<World, NoMemory>
-    requires tick { world.now.tick < 2 ^ 64 - 1 }
-    requires places { AreInPlace (with_tables world.now.rooms tables.now) }
-    ensures { IfOk result (λ next. next ≡ record (ticked (tables_in world.now tables.now)) { accounts = [] }) }
+// The world of these rooms, without accounts yet.
+fn world_of_rooms(alloc: Global, tick: u64, rooms: Vec<Room>) -> Result<World, NoMemory>
+    requires places { AreInPlace rooms.items }
+    requires within { length rooms.items < 2 ^ 32 }
+    ensures { IfOk result (λ next. next ≡ record { tick = tick; rooms = rooms.items; accounts = [] }) }
 {
-    let mut next = World::empty(alloc, world.tick() + 1);
-    for (index, room) in world.room_list().iter().enumerate() {
-        let terrain = room.terrain.copy(alloc)?;
-        let table = tick_table(alloc, table_of(room, tables, index))?;
-        next.push_room(room.name, terrain, table)?;
+    let mut next = World::empty(alloc, tick);
+    for room in rooms {
+        next.push_room(room.name, room.terrain, room.table)?;
     }
     Ok(next)
 }
 
-// The table at an index, or that of the room where there is none.
-fn table_of<'a>(room: &'a Room, tables: &'a [RoomTable], index: usize) -> &'a RoomTable
-    ensures { result.now ≡ table_or room.now (slice_get tables.now index) }
-{
-    match tables.get(index) {
-        Some(table) => table,
-        None => &room.table,
-    }
-}
-
 // The accounts with the points that their players gained, which are none: no action that gains some is in
 // force.
-fn push_raised(alloc: Global, world: &World, next: &mut World) -> Result<(), NoMemory>
+fn push_raised(alloc: Global, accounts: &[Account], next: &mut World) -> Result<(), NoMemory>
+    requires rising { AreRising accounts.now }
+    requires within { length accounts.now < 2 ^ 32 }
     requires none { next.old.accounts ≡ [] }
-    ensures { OnOk result (next.new ≡ record next.old { accounts = map (account_raised 0) world.now.accounts }) }
+    ensures { OnOk result
+        (next.new ≡ record next.old { accounts = map (account_raised 0) accounts.now }) }
 {
-    for account in world.account_list() {
+    for account in accounts {
         next.push_account(raised(alloc, account)?)?;
     }
     Ok(())
@@ -128,14 +168,17 @@ fn raised(alloc: Global, account: &Account) -> Result<Account, NoMemory>
 // The accounts after the runs.
 fn push_accounted(
     alloc: Global,
-    world: &World,
+    accounts: &[Account],
     runs: &[PlayerRun],
     next: &mut World,
 ) -> Result<(), NoMemory>
+    requires rising { AreRising accounts.now }
+    requires within { length accounts.now < 2 ^ 32 }
     requires none { next.old.accounts ≡ [] }
-    ensures { OnOk result (next.new ≡ record next.old { accounts = map (accounted runs.now) world.now.accounts }) }
+    ensures { OnOk result
+        (next.new ≡ record next.old { accounts = map (accounted runs.now) accounts.now }) }
 {
-    for account in world.account_list() {
+    for account in accounts {
         next.push_account(after_runs(alloc, account, runs)?)?;
     }
     Ok(())
@@ -159,7 +202,12 @@ fn run_of(runs: &[PlayerRun], player: u32) -> Option<&PlayerRun>
 
 // The account with its bucket after a run that took so many instructions, and with a memory text.
 fn filled(alloc: Global, account: &Account, used: u64, memory: &Bytes) -> Result<Account, NoMemory>
-    ensures { IfOk result (λ next. next ≡ record account.now { bucket = bucket_after account.now used; points = points_after account.now 0; memory = memory.now }) }
+    ensures { IfOk result
+        (λ next. next ≡ record account.now {
+          bucket = bucket_after account.now used;
+          points = points_after account.now 0;
+          memory = memory.now;
+        }) }
 {
     Ok(Account {
         player: account.player,
@@ -185,10 +233,23 @@ fn filled_bucket(account: &Account, used: u64) -> u32
 #[cfg(test)]
 mod tests {
     use super::*;
-    use crate::upkeep::tests::{controller, object};
+    use crate::act::tests::room_of;
+    use crate::upkeep::tests::{are_on_tiles, controller, object};
     use intent_book::{Intents, RunOutcome};
-    use object_store::{Ground, Kind, RoomName, Terrain};
+    use object_store::{Kind, RoomTable};
     use std::test::Fail;
+
+    // What is asked of rooms before upkeep.
+    fn are_sound(rooms: &[Room]) -> bool
+        ensures { IsTrue result → AllByRecursion IsSoundRoom rooms.now }
+    {
+        for room in rooms {
+            if room.table.next() < 1 || !are_on_tiles(room.table.objects()) {
+                return false;
+            }
+        }
+        true
+    }
 
     // The table of a room with an empty source that is renewed now, a pile, and perhaps a controller
     // with this owner and reserver.
@@ -201,7 +262,7 @@ mod tests {
         if let Some((owner, other)) = holders {
             objects.push(controller(3, owner, other))?;
         }
-        Ok(RoomTable::of(index, 4, objects))
+        RoomTable::of(alloc, index, 4, objects)
     }
 
     // An account with this limit and bucket, and with something in each other field.
@@ -230,44 +291,26 @@ mod tests {
 
     #[test]
     fn rooms_are_ticked(rt: HostRuntime) -> Result<(), Fail> {
-        let mut grounds = [Ground::Plain; 2500];
-        grounds[49] = Ground::Wall;
-        let mut world = World::empty(rt.alloc(), 7);
-        let owned = table(rt.alloc(), 0, Some((7, 0)))?;
-        let free = table(rt.alloc(), 1, Some((0, 0)))?;
-        let alone = table(rt.alloc(), 2, None)?;
-        world.push_room(
-            RoomName { column: 0, row: 5 },
-            Terrain::of(rt.alloc(), &grounds)?,
-            owned,
-        )?;
-        world.push_room(
-            RoomName { column: 1, row: 5 },
-            Terrain::of(rt.alloc(), &grounds)?,
-            free,
-        )?;
-        world.push_room(
-            RoomName { column: 2, row: 5 },
-            Terrain::of(rt.alloc(), &grounds)?,
-            alone,
-        )?;
-        let none = Vec::new(rt.alloc());
-        let next = tick_rooms(rt.alloc(), &world, &none)?;
-        assert_eq!(rt; (next.tick(), next.rooms(), next.accounts()), (8, 3, 0));
-        for (room, (column, index, energy, len)) in next
-            .room_list()
+        let mut rooms = Vec::new(rt.alloc());
+        for (index, holders) in [(0_u32, Some((7, 0))), (1, Some((0, 0))), (2, None)] {
+            let table = table(rt.alloc(), index, holders)?;
+            rooms.push(room_of(rt.alloc(), index as i32, table)?)?;
+        }
+        if !are_sound(&rooms) {
+            return Err("not sound".into());
+        }
+        tick_all(&mut rooms);
+        for (room, (column, energy, len)) in rooms
             .iter()
-            .zip([(0, 0, 3000, 3), (1, 1, 1500, 3), (2, 2, 1500, 2)])
+            .zip([(0, 3000, 3), (1, 1500, 3), (2, 1500, 2)])
         {
             assert_eq!(rt; (room.name.column, room.name.row), (column, 5));
-            assert_eq!(rt; room.terrain.at(49, 0), Ground::Wall);
-            assert_eq!(rt; (room.table.index(), room.table.next()), (index, 4));
-            assert_eq!(rt; room.table.len(), len);
+            assert_eq!(rt; (room.table.next(), room.table.len()), (4, len));
             let source = room
                 .table
                 .nth(0)
                 .map(|source| (source.energy, source.timer));
-            assert_eq!(rt; source, Some((energy, 0)), "in {index}");
+            assert_eq!(rt; source, Some((energy, 0)), "in {column}");
             assert_eq!(rt; room.table.nth(1).map(|pile| pile.energy), Some(999));
         }
         Ok(())
@@ -313,19 +356,20 @@ mod tests {
 
     #[test]
     fn accounts_follow_runs_or_stay(rt: HostRuntime) -> Result<(), Fail> {
-        let mut world = World::empty(rt.alloc(), 7);
-        world.push_account(account(rt.alloc(), 1, 20, 9_990)?)?;
-        world.push_account(account(rt.alloc(), 2, 500, 0)?)?;
+        let mut before = World::empty(rt.alloc(), 7);
+        before.push_account(account(rt.alloc(), 1, 20, 9_990)?)?;
+        before.push_account(account(rt.alloc(), 2, 500, 0)?)?;
+        let (_rooms, before) = before.into_parts();
         let mut runs = Vec::new(rt.alloc());
         runs.push(run(rt.alloc(), 2, 10_001)?)?;
         let mut next = World::empty(rt.alloc(), 8);
-        push_accounted(rt.alloc(), &world, &runs, &mut next)?;
+        push_accounted(rt.alloc(), &before, &runs, &mut next)?;
         let accounts = next.account_list();
         assert_eq!(rt; accounts.len(), 2);
         assert_eq!(rt; (accounts[0].player, accounts[0].bucket), (1, 10_000));
         assert_eq!(rt; (accounts[1].player, accounts[1].bucket), (2, 498));
         let mut plain = World::empty(rt.alloc(), 8);
-        push_raised(rt.alloc(), &world, &mut plain)?;
+        push_raised(rt.alloc(), &before, &mut plain)?;
         assert_eq!(rt; plain.accounts(), 2);
         assert_eq!(rt; plain.account_list()[0].bucket, 9_990);
         Ok(())
@@ -355,11 +399,15 @@ mod tests {
     #[test]
     fn an_empty_world_is_ticked(rt: HostRuntime) -> Result<(), Fail> {
         let world = World::empty(rt.alloc(), 7);
-        let intents = Vec::new(rt.alloc());
+        let runs = Vec::new(rt.alloc());
+        let intents = all_intents(rt.alloc(), &runs)?;
+        assert_eq!(rt; intents.len(), 0);
         let plain = tick_plain(rt.alloc(), &world, &intents)?;
         assert_eq!(rt; (plain.tick(), plain.rooms(), plain.accounts()), (8, 0, 0));
-        let runs = Vec::new(rt.alloc());
-        let next = next_world(rt.alloc(), &world, &runs)?;
+        let taken = tick_taken(rt.alloc(), world, &Vec::new(rt.alloc()))?;
+        assert_eq!(rt; (taken.tick(), taken.rooms(), taken.accounts()), (8, 0, 0));
+        let world = World::empty(rt.alloc(), 7);
+        let next = next_world(rt.alloc(), world, &Vec::new(rt.alloc()), &runs)?;
         assert_eq!(rt; (next.tick(), next.rooms(), next.accounts()), (8, 0, 0));
         Ok(())
     }

@@ -1,109 +1,130 @@
 // What a tick makes of the objects of a room.
-ghost use Rattle.std.specs.Prelude.{◌≡◌, ℕ, filter_map, option_map, IfOk};
-ghost use Rattle.world_rules.specs.Kinds.{is_controller as is_controller_kind};
-ghost use Rattle.world_rules.specs.Upkeep.{is_taken as is_taken_by, source_renewed, pile_decayed as decayed};
-ghost use Rattle.ruled_tick.specs.Ticked.{controller_among, upkept, ticked_table};
+ghost use Rattle.std.specs.Prelude.{◌≡◌, IsTrue, ◌∷◌, ◌++◌, ℕ, List, Some, length, map};
+ghost use Rattle.std.specs.List.{AllByRecursion, cons_option};
+ghost use Rattle.std.specs.Option.{is_some};
+ghost use Rattle.object_store.specs.declared.object.Object.{Object};
+ghost use Rattle.object_store.specs.Tables.{IsOnTile};
+ghost use Rattle.world_rules.specs.Sound.{IsSoundRoom};
+ghost use Rattle.world_rules.specs.Upkeep.{source_renewed, pile_decayed as decayed};
+ghost use Rattle.ruled_tick.specs.inner.Ticked.{upkept, left_of, ticked_table, ticked_room};
 
-use game_tables::{pile_decay, renewal_ticks, source_capacity};
-use object_store::{Kind, Object, RoomTable};
-use std::alloc::{AllocError, Global};
+use game_tables::{Kind, pile_decay, renewal_ticks, source_capacity};
+use object_store::{Object, Room, RoomTable, is_taken};
 
-/// The objects of a room after upkeep. The table is made anew in one pass, once the room's
-/// controller is found, which says how much its sources hold.
-pub fn tick_table(alloc: Global, table: &RoomTable) -> Result<RoomTable, AllocError>
-    ensures { IfOk result (λ next. next ≡ ticked_table table.now) }
+/// The rooms after upkeep.
+pub fn tick_all(rooms: &mut [Room])
+    requires sound { AllByRecursion IsSoundRoom rooms.old }
+    ensures { rooms.new ≡ map ticked_room rooms.old }
 {
-    let capacity = source_capacity(is_taken(table.objects()));
-    let objects = tick_objects(alloc, table.objects(), capacity)?;
-    Ok(RoomTable::of(table.index(), table.next(), objects))
-}
-
-// Whether somebody owns or reserves the controller among the objects of a room.
-fn is_taken(objects: &[Object]) -> bool
-    ensures { result ≡ is_taken_by (controller_among objects.now) }
-{
-    match controller_of(objects) {
-        Some(controller) => controller.owner != 0 || controller.other != 0,
-        None => false,
+    for room in rooms.iter_mut() {
+        tick_table(&mut room.table);
     }
 }
 
-// The controller among the objects of a room, which is the first in rising id.
-fn controller_of(objects: &[Object]) -> Option<&Object>
-    ensures { option_map (λ object. object.now) result ≡ controller_among objects.now }
+// The objects of a room after upkeep, once the room's controller is found, which says how much its
+// sources hold.
+fn tick_table(table: &mut RoomTable)
+    requires tiles { AllByRecursion IsOnTile table.old.objects }
+    ensures { table.new ≡ ticked_table table.old }
 {
-    objects.iter().find(|object| is_controller(object))
-}
-
-fn is_controller(object: &Object) -> bool
-    ensures { result ≡ is_controller_kind object.now.kind }
-{
-    matches!(object.kind, Kind::Controller)
-}
-
-fn tick_objects(alloc: Global, objects: &[Object], capacity: u64) -> Result<Vec<Object>, AllocError>
-    ensures { IfOk result (λ next. next.items ≡ filter_map (upkept capacity) objects.now) }
-{
-    let mut next = Vec::with_capacity(alloc, objects.len())?;
-    for object in objects {
-        if let Some(left) = keep_up(object, capacity) {
-            next.push(left)?;
+    let capacity = source_capacity(is_taken(table.controller()));
+    let mut place = 0;
+    while place < table.len() {
+        if is_left(table, place, capacity) {
+            place += 1;
         }
     }
-    Ok(next)
 }
 
-// An object after upkeep, where sources hold so much, or nothing where it goes.
+// Keeps up the object at a place, and tells whether it is left. One that does not change is not written.
+fn is_left(table: &mut RoomTable, place: u32, capacity: u64) -> bool
+    requires tiles { AllByRecursion IsOnTile table.old.objects }
+    ensures tiles { AllByRecursion IsOnTile table.new.objects }
+    ensures left { (before after : List Object) (object : Object)
+        → table.old.objects ≡ before ++ object ∷ after → length before ≡ place
+        → result ≡ is_some (upkept capacity object) }
+    ensures table { (before after : List Object) (object : Object)
+        → table.old.objects ≡ before ++ object ∷ after → length before ≡ place
+        → table.new ≡ record table.old { objects = before ++ cons_option (upkept capacity object) after } }
+{
+    let Some(object) = table.nth(place).copied() else {
+        return false;
+    };
+    let _rising = table.objects();
+    match keep_up(&object, capacity) {
+        Upkept::Stays => true,
+        Upkept::Changes(left) => {
+            table.set(left);
+            true
+        }
+        Upkept::Goes => {
+            let _gone = table.remove(object.id);
+            false
+        }
+    }
+}
+
+// What upkeep makes of an object.
+#[derive(Clone, Copy)]
+enum Upkept {
+    Stays,
+    Changes(Object),
+    Goes,
+}
+
+// An object after upkeep, where sources hold so much.
 #[tactic(auto, using(crate::proofs::Objects::by_kind))]
-fn keep_up(object: &Object, capacity: u64) -> Option<Object>
-    ensures { result ≡ upkept capacity object.now }
+fn keep_up(object: &Object, capacity: u64) -> Upkept
+    ensures { left_of object.now result ≡ upkept capacity object.now }
 {
     match object.kind {
-        Kind::Source => Some(renew_source(object, capacity)),
+        Kind::Source => renew_source(object, capacity),
         Kind::Pile => decay_pile(object),
-        _ => Some(*object),
+        _ => Upkept::Stays,
     }
 }
 
-fn renew_source(source: &Object, capacity: u64) -> Object
-    ensures { result ≡ source_renewed capacity source.now }
+fn renew_source(source: &Object, capacity: u64) -> Upkept
+    ensures { left_of source.now result ≡ Some (source_renewed capacity source.now) }
 {
     if source.timer > 1 {
-        Object {
+        Upkept::Changes(Object {
             timer: source.timer - 1,
             ..*source
-        }
+        })
     } else if source.timer == 1 {
-        Object {
+        Upkept::Changes(Object {
             timer: 0,
             energy: source.energy.max(capacity),
             ..*source
-        }
+        })
     } else if source.energy < capacity {
-        Object {
+        Upkept::Changes(Object {
             timer: renewal_ticks(),
             ..*source
-        }
+        })
     } else {
-        *source
+        Upkept::Stays
     }
 }
 
-fn decay_pile(pile: &Object) -> Option<Object>
-    ensures { result ≡ decayed pile.now }
+fn decay_pile(pile: &Object) -> Upkept
+    ensures { left_of pile.now result ≡ decayed pile.now }
 {
     let energy = pile.energy - pile_decay(pile.energy);
     if energy == 0 {
-        None
+        Upkept::Goes
     } else {
-        Some(Object { energy, ..*pile })
+        Upkept::Changes(Object { energy, ..*pile })
     }
 }
 
 #[cfg(test)]
 pub mod tests {
     use super::*;
-    use object_store::Body;
+    use crate::NoMemory;
+    use object_store::{Body, Objects};
+    use std::alloc::Global;
     use std::test::Fail;
 
     /// An object with these fields, and 0 in those that sources and piles do not use.
@@ -138,6 +159,27 @@ pub mod tests {
         }
     }
 
+    /// Whether all objects stand on tiles.
+    pub fn are_on_tiles(objects: Objects<'_>) -> bool
+        ensures { IsTrue result → AllByRecursion IsOnTile objects.entry }
+    {
+        for object in objects {
+            if object.x > 49 || object.y > 49 {
+                return false;
+            }
+        }
+        true
+    }
+
+    // The table of a room after upkeep.
+    fn ticked(mut table: RoomTable) -> Result<RoomTable, Fail> {
+        if !are_on_tiles(table.objects()) {
+            return Err("not on tiles".into());
+        }
+        tick_table(&mut table);
+        Ok(table)
+    }
+
     // The energy and the timer of a source after a tick, in a room whose controller has this owner
     // and reserver, or that has no controller.
     fn renewed(
@@ -145,13 +187,13 @@ pub mod tests {
         energy: u64,
         timer: u32,
         holders: Option<(u32, u32)>,
-    ) -> Result<Option<(u64, u32)>, AllocError> {
+    ) -> Result<Option<(u64, u32)>, Fail> {
         let mut objects = Vec::new(alloc);
         objects.push(object(1, Kind::Source, energy, timer))?;
         if let Some((owner, other)) = holders {
             objects.push(controller(2, owner, other))?;
         }
-        let table = tick_table(alloc, &RoomTable::of(0, 3, objects))?;
+        let table = ticked(RoomTable::of(alloc, 0, 3, objects)?)?;
         Ok(table.nth(0).map(|source| (source.energy, source.timer)))
     }
 
@@ -182,8 +224,17 @@ pub mod tests {
         Ok(())
     }
 
+    // A table of a pile, a pile that goes, and a source that is renewed.
+    fn table(alloc: Global, energy: u64) -> Result<RoomTable, NoMemory> {
+        let mut objects = Vec::new(alloc);
+        objects.push(object(1, Kind::Pile, energy, 0))?;
+        objects.push(object(2, Kind::Pile, 1, 0))?;
+        objects.push(object(3, Kind::Source, 0, 1))?;
+        RoomTable::of(alloc, 4, 9, objects)
+    }
+
     #[test]
-    fn piles_decay(rt: HostRuntime) {
+    fn piles_decay_and_a_table_keeps_its_order(rt: HostRuntime) -> Result<(), Fail> {
         for (energy, left) in [
             (0, None),
             (1, None),
@@ -192,31 +243,18 @@ pub mod tests {
             (1001, Some(999)),
             (1_000_000_000, Some(999_000_000)),
         ] {
-            let pile = decay_pile(&object(1, Kind::Pile, energy, 0));
-            assert_eq!(rt; pile.map(|pile| pile.energy), left, "at {energy}");
+            let table = ticked(table(rt.alloc(), energy)?)?;
+            let pile = table.get(1).map(|pile| pile.energy);
+            assert_eq!(rt; pile, left, "at {energy}");
+            assert!(rt; table.get(2).is_none());
+            let source = table
+                .get(3)
+                .map(|source| (source.energy, source.x, source.y));
+            assert_eq!(rt; source, Some((1500, 10, 20)));
+            let last = table.len().saturating_sub(1);
+            assert_eq!(rt; table.nth(last).map(|object| object.id), Some(3));
+            assert_eq!(rt; (table.index(), table.next()), (4, 9));
         }
-    }
-
-    #[test]
-    fn a_table_keeps_its_order(rt: HostRuntime) -> Result<(), Fail> {
-        let mut objects = Vec::new(rt.alloc());
-        objects.push(object(1, Kind::Pile, 1001, 0))?;
-        objects.push(object(2, Kind::Pile, 1, 0))?;
-        objects.push(object(3, Kind::Source, 0, 1))?;
-        let table = tick_table(rt.alloc(), &RoomTable::of(4, 9, objects))?;
-        assert_eq!(rt; (table.index(), table.next(), table.len()), (4, 9, 2));
-        assert_eq!(rt;
-            table.nth(0).map(|pile| (pile.id, pile.energy)),
-            Some((1, 999))
-        );
-        assert_eq!(rt;
-            table.nth(1).map(|source| (source.id, source.energy)),
-            Some((3, 1500))
-        );
-        assert_eq!(rt;
-            table.nth(1).map(|source| (source.x, source.y)),
-            Some((10, 20))
-        );
         Ok(())
     }
 }

@@ -10,19 +10,19 @@ use Rattle.std.proofs.lemmas.List.Sorted.{Contains-permutation, IsPermutation-sy
 use Rattle.std.proofs.lemmas.Map.Steps.{length-le_from_distinct_below}
 use Rattle.game_tables.specs.declared.kind.Kind.{Kind}
 use Rattle.game_tables.specs.declared.kind.Kind.TheVariants.{Source, Controller, Creep, Spawn, Extension, Storage, Container, Road, Pile, Site, Tower, Rampart, Wall, Tombstone}
-use Rattle.game_tables.specs.Limits.{rooms_bound}
+use Rattle.game_tables.specs.Limits.{most_rooms}
 use Rattle.object_store.specs.declared.object.Object.{Object}
 use Rattle.object_store.specs.declared.world.Room.{Room}
 use Rattle.object_store.specs.Stored.{Stored}
 use Rattle.object_store.proofs.Rising.{Rises}
 use Rattle.world_rules.specs.declared.rule.Rule.TheVariants.{Range, Shared}
-use Rattle.world_rules.specs.Kinds.{is_creep, is_pile, stands_fixed, clash}
+use Rattle.game_tables.specs.Kinds.{is_creep, is_pile, stands_fixed, clash}
 use Rattle.world_rules.specs.Rules.{Stands, IsInRangeAs}
 use Rattle.object_store.specs.Tables.{IsOnTile}
 use Rattle.world_rules.specs.Sound.{IsSound, IsSoundRoom}
 use Rattle.world_rules.specs.World.{Placed, World, placed, placed_from, listed_room, listing_of, world_of}
 use Rattle.world_rules.proofs.Entries.{Entries}
-use Rattle.visible_view.specs.Gathered.{is_seen, from_each, room_if_seen, sites_at}
+use Rattle.visible_view.specs.inner.Gathered.{is_seen, from_each, room_if_seen, sites_at}
 use Rattle.visible_view.specs.Sights.{SeenRoom}
 use Rattle.object_store.proofs.Moved.{all_from_within}
 use Rattle.visible_view.proofs.Seen.{rises_from_sorted, entry_at, moved, stands, sites_stored, is_site_entry}
@@ -124,7 +124,7 @@ code_below e so =
 
 -- ---- a sound world
 
-module _ (stored : Stored) (sound : IsSound stored) (few : length stored.rooms ≤ rooms_bound) where
+module _ (stored : Stored) (sound : IsSound stored) (few : length stored.rooms ≤ most_rooms) where
   abbrev listed : Entries
   listed = placed (listing_of stored)
 

@@ -10,11 +10,10 @@ use Rattle.object_store.specs.declared.object.Object.{Object}
 use Rattle.object_store.specs.declared.world.Room.{Room}
 use Rattle.object_store.proofs.Accounts.{all_push}
 use Rattle.object_store.proofs.Rising.{Rises, all_weaker}
-use Rattle.game_tables.specs.Kinds.{building}
-use Rattle.world_rules.specs.Kinds.{is_controller, is_creep, is_site}
+use Rattle.game_tables.specs.Kinds.{is_building, is_controller, is_creep, is_site}
 use Rattle.world_rules.specs.World.{Placed}
 use Rattle.visible_view.specs.Sights.{SeenRoom, gives_sight}
-use Rattle.visible_view.specs.Gathered.{shown_room, shown_object, controller_in, is_seen, is_site_of, placed_at, from_each, objects_if_seen, room_if_seen, sites_at, is_controller_at, kept_controller, HaveControllers, KeepsRoom, KeepsRoomIf, IsAdded, IsGathered}
+use Rattle.visible_view.specs.inner.Gathered.{shown_room, controller_in, is_seen, is_site_of, placed_at, from_each, objects_if_seen, room_if_seen, sites_at, is_controller_at, kept_controller, HaveControllers, KeepsRoom, KeepsRoomIf, IsAdded, IsGathered}
 use Rattle.visible_view.specs.declared.gather.RoomInView.{RoomInView}
 use Rattle.visible_view.specs.declared.gather.Gathered.{Gathered}
 
@@ -129,26 +128,26 @@ gathered_more player index taken room old new place so added =
       shown = shown_more player index room (is_seen player room) old.rooms.items new.rooms.items refl added.rooms
           ∙ (λ i. so.shown i ++ room_if_seen player (place i) room)
           ∙ sym (from_each_push (room_if_seen player) 0 taken room ∙ ap (λ (n : ℕ). from_each (room_if_seen player) 0 taken ++ room_if_seen player n room) (omega arith));
-      objects = added.objects
-          ∙ (λ i. so.objects i ++ objects_if_seen player (place i) room)
-          ∙ sym (from_each_push (objects_if_seen player) 0 taken room ∙ ap (λ (n : ℕ). from_each (objects_if_seen player) 0 taken ++ objects_if_seen player n room) (omega arith));
+      flags = added.flags ∙ ap (λ (flags : List Bool). flags ++ is_seen player room ∷ []) so.flags ∙ sym (map-append (is_seen player) taken (room ∷ []));
       sites = added.sites ∙ ap (λ (n : ℕ). n + sites_at player room) so.sites ∙ sym (sum_by_push (sites_at player) taken room);
       rising = rising_more index room (is_seen player room) old.rooms.items new.rooms.items below so.rising added.rooms;
       below = subst (λ (n : ℕ). AllByRecursion (λ (r : RoomInView). r.index < n) new.rooms.items) (ap suc place ∙ sym (grown taken room)) (below_more index room (is_seen player room) old.rooms.items new.rooms.items below added.rooms);
-      controllers = subst (HaveControllers new.rooms.items) (sym added.objects) (controllers_if player index room (is_seen player room) old.rooms.items new.rooms.items (map shown_object old.objects.items) refl below so.controllers added.rooms);
+      controllers = subst (HaveControllers new.rooms.items)
+          ((λ i. from_each (objects_if_seen player) 0 taken ++ objects_if_seen player (place i) room) ∙ sym (from_each_push (objects_if_seen player) 0 taken room ∙ ap (λ (n : ℕ). from_each (objects_if_seen player) 0 taken ++ objects_if_seen player n room) (omega arith)))
+          (controllers_if player index room (is_seen player room) old.rooms.items new.rooms.items (from_each (objects_if_seen player) 0 taken) refl below so.controllers added.rooms);
     }
 
 -- ---- a room in which the player owns nothing
 
-none_seen : (player : ℕ) (objects : List Object) → list_any (λ (o : Object). o.owner == player) objects ≡ false → list_any (gives_sight player) objects ≡ false
+pub none_seen : (player : ℕ) (objects : List Object) → list_any (λ (o : Object). o.owner == player) objects ≡ false → list_any (gives_sight player) objects ≡ false
 none_seen player [] none = refl
 none_seen player (o ∷ objects) none =
-    elim (o.owner == player) as (λ b. (b || list_any (λ (p : Object). p.owner == player) objects) ≡ false → (b && (is_creep o.kind || building o.kind || is_controller o.kind) || list_any (gives_sight player) objects) ≡ false) [
+    elim (o.owner == player) as (λ b. (b || list_any (λ (p : Object). p.owner == player) objects) ≡ false → (b && (is_creep o.kind || is_building o.kind || is_controller o.kind) || list_any (gives_sight player) objects) ≡ false) [
       | true ↦ λ is. absurd (cc)
       | false ↦ λ is. none_seen player objects is
     ] none
 
-none_sited : (player : ℕ) (objects : List Object) → list_any (λ (o : Object). o.owner == player) objects ≡ false → count_by (is_site_of player) objects ≡ 0
+pub none_sited : (player : ℕ) (objects : List Object) → list_any (λ (o : Object). o.owner == player) objects ≡ false → count_by (is_site_of player) objects ≡ 0
 none_sited player [] none = refl
 none_sited player (o ∷ objects) none =
     let all = sum_by-cons (λ (p : Object). cond {A = ℕ} (is_site_of player p) 1 0) o objects in
@@ -164,12 +163,3 @@ none_sited player (o ∷ objects) none =
     neither : (b : Bool) → cond {A = ℕ} (b && false) 1 0 ≡ 0
     neither true = refl
     neither false = refl
-
-pub unowned_added : (player index : ℕ) (room : Room) (gathered : Gathered) → list_any (λ (o : Object). o.owner == player) room.table.objects ≡ false → IsAdded player index room gathered gathered
-unowned_added player index room gathered none =
-    let unseen = none_seen player room.table.objects none in
-    record {
-      rooms = subst (λ (b : Bool). KeepsRoomIf b index room gathered.rooms.items gathered.rooms.items) (sym unseen) refl;
-      objects = sym (ap (λ (b : Bool). map shown_object gathered.objects.items ++ (if b then placed_at index room.table.objects else [])) unseen ∙ append-nil (map shown_object gathered.objects.items));
-      sites = omega (arith, none_sited player room.table.objects none);
-    }

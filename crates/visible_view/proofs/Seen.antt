@@ -1,12 +1,12 @@
--- What is gathered, in rising id, is what the player sees of the world.
-use Rattle.std.proofs.Common.{Less, Equal, Greater, ◌≡◌, ℕ, zero, suc, ◌+◌, ◌<◌, ◌≤◌, ◌==◌, ◌&&◌, ◌||◌, Bool, true, false, cond, if◌then◌else◌, T, List, [], ◌∷◌, ◌++◌, map, length, Some, None, option_map, refl, sym, ap, subst, ◌∙◌, inl, inr, arith}
+-- What is gathered, and the objects of the rooms that are flagged, are what the player sees of the world.
+use Rattle.std.proofs.Common.{Less, Equal, Greater, ◌≡◌, ℕ, zero, suc, ◌+◌, ◌<◌, ◌≤◌, ◌==◌, ◌&&◌, ◌||◌, Bool, true, false, cond, if◌then◌else◌, T, List, [], ◌∷◌, ◌++◌, map, length, get_or, Option, Some, None, option_map, refl, sym, ap, subst, ◌∙◌, inl, inr, arith}
 use Rattle.std.specs.Prelude.{slice_get}
 use Rattle.std.specs.List as lists
 use Rattle.std.specs.List.{AllByRecursion, Contains, count_by, filter, list_any, sum_by}
-use Rattle.std.specs.List.Sorted.{IsPermutation, IsNonDecreasingBy}
+use Rattle.std.specs.List.Sorted.{IsPermutation}
 use Rattle.std.specs.declared.cmp.Ordering.{Ordering}
 use Rattle.std.specs.Ordering.{nat_cmp, is_eq, is_lt}
-use Rattle.std.specs.Cmp.{nat_cmp_total, ranked, unsigned_tied}
+use Rattle.std.specs.Cmp.{nat_cmp_total, ranked}
 use Rattle.std.specs.FinMap.{find, empty, from_entries, entries, entries_sorted, entries-insert, get-entries, get-from_entries, is_sorted, len-empty, len-entries}
 use Rattle.std.specs.FinMap.Entries.{by_order, put, below_all}
 use Rattle.std.proofs.lemmas.Bool.{cases_eq, eq-eqb, eqb-true, ne_eqb}
@@ -14,25 +14,27 @@ use Rattle.std.proofs.lemmas.List.{length-map, map-append, nil_from_length}
 use Rattle.std.proofs.lemmas.List.Elements.{filter-append}
 use Rattle.std.proofs.lemmas.List.Folds.{list_any-append}
 use Rattle.std.proofs.lemmas.List.Sums.{count_by-le-length, length-filter, sum_by-append, sum_by-cons}
-use Rattle.std.proofs.lemmas.List.Sorted.{IsPermutation-cons, IsPermutation-map, IsPermutation-middle, IsPermutation-refl, IsPermutation-sym, IsPermutation-trans, Contains-permutation, length_permutation, list_any-IsPermutation, sum_by-IsPermutation}
+use Rattle.std.proofs.lemmas.List.Sorted.{IsPermutation-cons, IsPermutation-middle, IsPermutation-refl, IsPermutation-sym, IsPermutation-trans, Contains-permutation, length_permutation, list_any-IsPermutation, sum_by-IsPermutation}
 use Rattle.object_store.specs.declared.account.Account.{Account}
 use Rattle.object_store.specs.declared.object.Object.{Object}
 use Rattle.object_store.specs.declared.world.Room.{Room}
 use Rattle.object_store.specs.Stored.{Stored}
 use Rattle.object_store.proofs.Rising.{Rises, rises-filter}
-use Rattle.world_rules.specs.World.{Placed, World, placed, placed_from, listed_room, listing_of, world_of, framed_from}
+use Rattle.object_store.specs.declared.standing.Standing.{Standing}
+use Rattle.world_rules.specs.World.{Placed, World, shown, placed, placed_from, listed_room, listing_of, world_of, framed_from}
 use Rattle.world_rules.proofs.Lifting.{frames_stored}
 use Rattle.world_rules.specs.declared.rule.Rule.TheVariants.{Controllers}
-use Rattle.world_rules.specs.Kinds.{is_controller}
+use Rattle.game_tables.specs.Kinds.{is_controller}
 use Rattle.world_rules.specs.Rules.{Stands}
 use Rattle.world_rules.specs.Sound.{IsSound}
 use Rattle.world_rules.proofs.Entries.{Entries, times, times_cons, no_times}
 use Rattle.world_rules.proofs.Same.{once}
 use Rattle.visible_view.specs.Sights.{SeenRoom, Sight, sight_of, gives_sight, sees_room, seen_rooms, seen_objects, site_count}
-use Rattle.visible_view.specs.Gathered.{shown_object, shown_room, id_in, is_seen, is_site_of, placed_at, from_each, objects_if_seen, room_if_seen, sites_at, is_controller_at, HaveControllers}
+use Rattle.world_roster.specs.Rosters.{id_in, shown_entry}
+use Rattle.world_roster.proofs.Known.{find_as}
+use Rattle.visible_view.specs.inner.Gathered.{shown_room, is_flagged, is_seen, is_site_of, placed_at, from_each, objects_if_seen, room_if_seen, sites_at, is_controller_at, HaveControllers}
 use Rattle.visible_view.specs.declared.gather.RoomInView.{RoomInView}
-use Rattle.visible_view.specs.declared.gather.ObjectInView.{ObjectInView}
-use Rattle.object_store.proofs.Moved.{Contains-filter, Contains-from_filter, all_from_within, count_head, passed, failed, find_only, find_moved, same_rising, strictly}
+use Rattle.object_store.proofs.Moved.{all_from_within, count_head, passed, failed, find_only, find_moved}
 
 -- ---- the entries of a map that is made of entries whose keys stand once
 
@@ -98,6 +100,17 @@ sees_stored player r index (suc k) (first ∷ rooms) room at is =
     list_any-append (sees player r) (map (entry_at index) first.table.objects) (placed_from (suc index) (map listed_room rooms))
     ∙ (λ i. any_here player r index false (ne_eqb index r (λ same. omega arith)) first.table.objects i || sees_stored player r (suc index) k rooms room (omega arith) is i)
 
+-- which room is seen, by its index
+flag_as : (player r index : ℕ) (rooms : List Room) → get_or (map (is_seen player) rooms) r false ≡ list_any (sees player (index + r)) (placed_from index (map listed_room rooms))
+flag_as player r index [] = refl
+flag_as player zero index (room ∷ rooms) = sym (sees_stored player (index + 0) index 0 (room ∷ rooms) room refl refl)
+flag_as player (suc r) index (room ∷ rooms) =
+    let place : suc index + r ≡ index + suc r = omega arith in
+    flag_as player r (suc index) rooms
+    ∙ ap (λ (n : ℕ). list_any (sees player n) (placed_from (suc index) (map listed_room rooms))) place
+    ∙ sym (list_any-append (sees player (index + suc r)) (map (entry_at index) room.table.objects) (placed_from (suc index) (map listed_room rooms))
+    ∙ ap (λ (b : Bool). b || list_any (sees player (index + suc r)) (placed_from (suc index) (map listed_room rooms))) (any_here player (index + suc r) index false (ne_eqb index (index + suc r) (λ same. omega arith)) room.table.objects))
+
 -- ---- rooms, sites and objects, room by room
 
 -- what is told of each room from an index on
@@ -140,6 +153,10 @@ sites_stored player index (room ∷ rooms) =
 abbrev keyed : Placed → ℕ × Placed
 keyed p = (p.object.id, p)
 
+values_keyed : (ps : List Placed) → map (λ (e : ℕ × Placed). e.1) (map keyed ps) ≡ ps
+values_keyed [] = refl
+values_keyed (p ∷ ps) = ap (λ (more : List Placed). p ∷ more) (values_keyed ps)
+
 filter_here : (seen : ℕ → Bool) (index : ℕ) (b : Bool) → seen index ≡ b → (objects : List Object) → filter (λ (e : ℕ × Placed). seen e.1.room) (map (entry_at index) objects) ≡ map keyed (if b then placed_at index objects else [])
 filter_here seen index true is [] = refl
 filter_here seen index false is [] = refl
@@ -176,58 +193,62 @@ pub rises_from_sorted : (es : Entries) → T (is_sorted nat_cmp es) → Rises (�
 rises_from_sorted [] sorted = tt
 rises_from_sorted (e ∷ es) sorted = let parts = both _ _ sorted in (below_from_sorted e.0 es parts.0, rises_from_sorted es parts.1)
 
--- an object with its room, by its id
-abbrev entry_of : ObjectInView → ℕ × Placed
-entry_of s = keyed (shown_object s)
+-- ---- objects in rising id, and their entries
 
-keyed_shown : (ss : List ObjectInView) → map keyed (map shown_object ss) ≡ map entry_of ss
-keyed_shown [] = refl
-keyed_shown (s ∷ ss) = ap (λ (es : Entries). entry_of s ∷ es) (keyed_shown ss)
+filter_shown : (seen : ℕ → Bool) (listed : List Standing) → map shown (filter (λ s. seen s.room) listed) ≡ map (λ (e : ℕ × Placed). e.1) (filter (λ (e : ℕ × Placed). seen e.1.room) (map shown_entry listed))
+filter_shown seen [] = refl
+filter_shown seen (s ∷ listed) =
+    let rest = filter_shown seen listed in
+    elim (seen s.room) as (λ b. map shown (cond b (s ∷ filter (λ s. seen s.room) listed) (filter (λ s. seen s.room) listed)) ≡ map (λ (e : ℕ × Placed). e.1) (cond b (shown_entry s ∷ filter (λ (e : ℕ × Placed). seen e.1.room) (map shown_entry listed)) (filter (λ (e : ℕ × Placed). seen e.1.room) (map shown_entry listed)))) [ true ↦ ap (λ (ps : List Placed). shown s ∷ ps) rest | false ↦ rest ]
 
-shown_keyed : (ss : List ObjectInView) → map (λ (e : ℕ × Placed). e.1) (map entry_of ss) ≡ map shown_object ss
-shown_keyed [] = refl
-shown_keyed (s ∷ ss) = ap (λ (ps : List Placed). shown_object s ∷ ps) (shown_keyed ss)
+-- ---- the controller of a room
 
-times_of : (q : ℕ) (ss : List ObjectInView) → times q (map entry_of ss) ≡ count_by (λ s. id_in s == q) ss
-times_of q [] = refl
-times_of q (s ∷ ss) =
-    times_cons q (entry_of s) (map entry_of ss) ∙ ap (λ (n : ℕ). cond {A = ℕ} (id_in s == q) 1 0 + n) (times_of q ss) ∙ sym (sum_by-cons (λ (t : ObjectInView). cond {A = ℕ} (id_in t == q) 1 0) s ss)
+-- It is the entry of a controller in the room of this index.
+abbrev controls : ℕ → ℕ × Placed → Bool
+controls index e = is_controller_at index e.1
 
-above_of : (n : ℕ) (ss : List ObjectInView) → AllByRecursion (λ s. n < id_in s) ss → AllByRecursion (λ (e : ℕ × Placed). n < e.0) (map entry_of ss)
-above_of n [] above = tt
-above_of n (s ∷ ss) above = (above.0, above_of n ss above.1)
+find_values : (index : ℕ) (es : Entries) → lists.find (is_controller_at index) (map (λ (e : ℕ × Placed). e.1) es) ≡ option_map (λ (e : ℕ × Placed). e.1) (lists.find (controls index) es)
+find_values index [] = refl
+find_values index (e ∷ es) =
+    let rest = find_values index es in
+    elim (controls index e) as (λ b. cond b (Some e.1) (lists.find (is_controller_at index) (map (λ (f : ℕ × Placed). f.1) es)) ≡ option_map (λ (f : ℕ × Placed). f.1) (cond b (Some e) (lists.find (controls index) es))) [ true ↦ refl | false ↦ rest ]
 
-rises_of : (ss : List ObjectInView) → Rises id_in ss → Rises (λ e. e.0) (map entry_of ss)
-rises_of [] rises = tt
-rises_of (s ∷ ss) rises = (above_of (id_in s) ss rises.0, rises_of ss rises.1)
+module _ (seen : ℕ → Bool) (index : ℕ) where
+  abbrev is_in : ℕ × Placed → Bool
+  is_in e = seen e.1.room
 
-filtered_times : (test : ℕ × Placed → Bool) (q : ℕ) (es : Entries) → times q (filter test es) ≤ times q es
-filtered_times test q [] = omega arith
-filtered_times test q (e ∷ es) =
-    let rest : times q (filter test es) ≤ times q es = filtered_times test q es in
-    let all = times_cons q e es in
-    let more = times_cons q e (filter test es) in
-    elim (test e) as (λ b. times q (cond b (e ∷ filter test es) (filter test es)) ≤ times q (e ∷ es)) [ true ↦ omega arith | false ↦ omega arith ]
+  abbrev found_in : Entries → Option (ℕ × Placed)
+  found_in es = lists.find (controls index) es
 
-all_of : (P : ℕ × Placed → Type 0) (ss : List ObjectInView) → AllByRecursion P (map entry_of ss) → AllByRecursion (λ s. P (entry_of s)) ss
-all_of P [] all = tt
-all_of P (s ∷ ss) all = (all.0, all_of P ss all.1)
+  module _ (e : ℕ × Placed) (es : Entries) (rest : found_in (filter is_in es) ≡ cond (seen index) (found_in es) None) where
+    here : (b : Bool) → seen e.1.room ≡ b → e.1.room ≡ index → found_in (filter is_in (e ∷ es)) ≡ cond (seen index) (found_in (e ∷ es)) None
+    here true is same =
+        let seen_here : seen index ≡ true = ap seen (sym same) ∙ is in
+        ap (λ (b : Bool). found_in (cond b (e ∷ filter is_in es) (filter is_in es))) is
+        ∙ ap (λ (found : Option (ℕ × Placed)). cond (controls index e) (Some e) found) (rest ∙ ap (λ (b : Bool). cond b (found_in es) None) seen_here)
+        ∙ sym (ap (λ (b : Bool). cond b (found_in (e ∷ es)) None) seen_here)
+    here false is same =
+        let unseen : seen index ≡ false = ap seen (sym same) ∙ is in
+        ap (λ (b : Bool). found_in (cond b (e ∷ filter is_in es) (filter is_in es))) is
+        ∙ rest
+        ∙ ap (λ (b : Bool). cond b (found_in es) None) unseen
+        ∙ sym (ap (λ (b : Bool). cond b (found_in (e ∷ es)) None) unseen)
 
--- ---- what is found under an id
+    there : (e.1.room ≡ index → ⊥) → found_in (filter is_in (e ∷ es)) ≡ cond (seen index) (found_in (e ∷ es)) None
+    there apart =
+        let other : controls index e ≡ false = ap (λ (b : Bool). b && is_controller e.1.object.kind) (ne_eqb e.1.room index apart) in
+        let past : (later : Entries) → found_in (e ∷ later) ≡ found_in later = λ later. ap (λ (b : Bool). cond b (Some e) (found_in later)) other in
+        let back = ap (λ (found : Option (ℕ × Placed)). cond (seen index) found None) (sym (past es)) in
+        elim (seen e.1.room) as (λ b. found_in (cond b (e ∷ filter is_in es) (filter is_in es)) ≡ cond (seen index) (found_in (e ∷ es)) None) [ true ↦ past (filter is_in es) ∙ rest ∙ back | false ↦ rest ∙ back ]
 
-flipped : (a b : ℕ) → (a == b) ≡ (b == a)
-flipped a b =
-    elim (cases_eq a b) [
-      | inl same ↦ eq-eqb a b same ∙ sym (eq-eqb b a (sym same))
-      | inr apart ↦ ne_eqb a b apart ∙ sym (ne_eqb b a (λ same. apart (sym same)))
-    ]
-
-find_as : (q : ℕ) (es : Entries) → find nat_cmp q es ≡ option_map (λ (e : ℕ × Placed). e.1) (lists.find (λ (e : ℕ × Placed). e.0 == q) es)
-find_as q [] = refl
-find_as q (e ∷ es) =
-    ap (λ (b : Bool). cond b (Some e.1) (find nat_cmp q es)) (unsigned_tied q e.0 ∙ flipped q e.0)
-    ∙ ap (cond (e.0 == q) (Some e.1)) (find_as q es)
-    ∙ elim (e.0 == q) as (λ b. cond b (Some e.1) (option_map (λ (f : ℕ × Placed). f.1) (lists.find (λ (f : ℕ × Placed). f.0 == q) es)) ≡ option_map (λ (f : ℕ × Placed). f.1) (cond b (Some e) (lists.find (λ (f : ℕ × Placed). f.0 == q) es))) [ true ↦ refl | false ↦ refl ]
+  -- of the rooms that are seen, what is controlling in a room is found as among all
+  find_seen : (es : Entries) → found_in (filter is_in es) ≡ cond (seen index) (found_in es) None
+  find_seen [] = elim (seen index) as (λ b. None ≡ cond {A = Option (ℕ × Placed)} b None None) [ true ↦ refl | false ↦ refl ]
+  find_seen (e ∷ es) =
+      elim (cases_eq e.1.room index) [
+        | inl same ↦ here e es (find_seen es) (seen e.1.room) refl same
+        | inr apart ↦ there e es (find_seen es) apart
+      ]
 
 split : (a b : Bool) → (a && b) ≡ true → (a ≡ true) × (b ≡ true)
 split true b is = (refl, is)
@@ -252,33 +273,46 @@ module _ (stored : Stored) (sound : IsSound stored) where
       ∙ ap (option_map (λ (f : ℕ × Placed). f.1)) (find_only (λ (f : ℕ × Placed). f.0 == e.0) all e within (eq-eqb e.0 e.0 refl) (once stored sound e.0))
 
   -- by the rules, a room has one controller
-  no_more_controllers : (index : ℕ) (s : ObjectInView) (ss : List ObjectInView) → is_controller_at index (shown_object s) ≡ true → Stands world (id_in s) (shown_object s) → AllByRecursion (λ later. id_in s < id_in later) ss → AllByRecursion (λ t. Stands world (id_in t) (shown_object t)) ss → count_by (is_controller_at index) (map shown_object ss) ≡ 0
-  no_more_controllers index s [] is stand above stand_too = refl
-  no_more_controllers index s (t ∷ ss) is stand above stand_too =
-      let rest : count_by (is_controller_at index) (map shown_object ss) ≡ 0 = no_more_controllers index s ss is stand above.1 stand_too.1 in
-      let head = count_head (is_controller_at index) (shown_object t) (map shown_object ss) in
-      let one = split (s.room == index) (is_controller s.object.now.kind) is in
-      elim (is_controller_at index (shown_object t)) as (λ b. is_controller_at index (shown_object t) ≡ b → count_by (is_controller_at index) (map shown_object (t ∷ ss)) ≡ 0) [
+  no_more_controllers : (index : ℕ) (e : ℕ × Placed) (es : Entries) → controls index e ≡ true → Stands world e.0 e.1 → AllByRecursion (λ later. e.0 < later.0) es → AllByRecursion (λ f. Stands world f.0 f.1) es → count_by (controls index) es ≡ 0
+  no_more_controllers index e [] is stand above stand_too = refl
+  no_more_controllers index e (f ∷ es) is stand above stand_too =
+      let rest : count_by (controls index) es ≡ 0 = no_more_controllers index e es is stand above.1 stand_too.1 in
+      let head = count_head (controls index) f es in
+      let one = split (e.1.room == index) (is_controller e.1.object.kind) is in
+      elim (controls index f) as (λ b. controls index f ≡ b → count_by (controls index) (f ∷ es) ≡ 0) [
         | true ↦ λ at.
-            let other = split (t.room == index) (is_controller t.object.now.kind) at in
-            absurd (sound.rules Controllers index (λ e. cc) (λ e. cc) (id_in s, id_in t, shown_object s, shown_object t, above.0, stand, stand_too.0, eqb-true s.room index one.0, eqb-true t.room index other.0, one.1, other.1))
-        | false ↦ λ at. (let none = failed (is_controller_at index (shown_object t)) at in omega arith)
+            let other = split (f.1.room == index) (is_controller f.1.object.kind) at in
+            absurd (sound.rules Controllers index (λ r. cc) (λ r. cc) (e.0, f.0, e.1, f.1, above.0, stand, stand_too.0, eqb-true e.1.room index one.0, eqb-true f.1.room index other.0, one.1, other.1))
+        | false ↦ λ at. (let none = failed (controls index f) at in omega arith)
       ] refl
 
-  one_controller : (index : ℕ) (ss : List ObjectInView) → Rises id_in ss → AllByRecursion (λ s. Stands world (id_in s) (shown_object s)) ss → count_by (is_controller_at index) (map shown_object ss) ≤ 1
+  one_controller : (index : ℕ) (es : Entries) → Rises (λ e. e.0) es → AllByRecursion (λ e. Stands world e.0 e.1) es → count_by (controls index) es ≤ 1
   one_controller index [] rises stand = omega arith
-  one_controller index (s ∷ ss) rises stand =
-      let rest : count_by (is_controller_at index) (map shown_object ss) ≤ 1 = one_controller index ss rises.1 stand.1 in
-      let head = count_head (is_controller_at index) (shown_object s) (map shown_object ss) in
-      elim (is_controller_at index (shown_object s)) as (λ b. is_controller_at index (shown_object s) ≡ b → count_by (is_controller_at index) (map shown_object (s ∷ ss)) ≤ 1) [
+  one_controller index (e ∷ es) rises stand =
+      let rest : count_by (controls index) es ≤ 1 = one_controller index es rises.1 stand.1 in
+      let head = count_head (controls index) e es in
+      elim (controls index e) as (λ b. controls index e ≡ b → count_by (controls index) (e ∷ es) ≤ 1) [
         | true ↦ λ is.
-            (let here = passed (is_controller_at index (shown_object s)) is in
-            let none : count_by (is_controller_at index) (map shown_object ss) ≡ 0 = no_more_controllers index s ss is stand.0 rises.0 stand.1 in
+            (let here = passed (controls index e) is in
+            let none : count_by (controls index) es ≡ 0 = no_more_controllers index e es is stand.0 rises.0 stand.1 in
             omega arith)
-        | false ↦ λ is. (let here = failed (is_controller_at index (shown_object s)) is in omega arith)
+        | false ↦ λ is. (let here = failed (controls index e) is in omega arith)
       ] refl
+
+  all_stand : AllByRecursion (λ e. Stands world e.0 e.1) (entries world.objects)
+  all_stand = all_from_within (λ (e : ℕ × Placed). Stands world e.0 e.1) (entries world.objects) (λ e within. stands e (Contains-permutation (entries world.objects) all e (IsPermutation-sym all (entries world.objects) moved) within))
+
+  controller_moved : (index : ℕ) → lists.find (controls index) all ≡ lists.find (controls index) (entries world.objects)
+  controller_moved index = find_moved (controls index) all (entries world.objects) moved (one_controller index (entries world.objects) (rises_from_sorted (entries world.objects) (entries_sorted world.objects)) all_stand)
 
   module _ (player : ℕ) where
+    -- which room is seen, by its index
+    seen_by_index : (index : ℕ) → get_or (map (is_seen player) stored.rooms) index false ≡ sees_room world player index
+    seen_by_index index =
+        flag_as player index 0 stored.rooms
+        ∙ ap (λ (n : ℕ). list_any (sees player n) all) (let same : 0 + index ≡ index = omega arith in same)
+        ∙ list_any-IsPermutation (sees player index) all (entries world.objects) moved
+
     told : Tells (sees_room world player) player 0 stored.rooms
     told k room is =
         let place : k ≡ 0 + k = omega arith in
@@ -295,52 +329,40 @@ module _ (stored : Stored) (sound : IsSound stored) where
     abbrev in_sight : ℕ × Placed → Bool
     in_sight e = sees_room world player e.1.room
 
-    module _ (gathered sorted : List ObjectInView) (is : map shown_object gathered ≡ from_each (objects_if_seen player) 0 stored.rooms) (same : IsPermutation gathered sorted) (order : IsNonDecreasingBy id_in sorted) where
-      entries_are : IsPermutation (filter in_sight all) (map entry_of sorted)
-      entries_are =
-          subst (λ (es : Entries). IsPermutation es (map entry_of sorted)) (sym (keyed_shown gathered) ∙ ap (map keyed) is ∙ sym (objects_stored (sees_room world player) player 0 stored.rooms told))
-          (IsPermutation-map entry_of gathered sorted same)
+    module _ (listed : List Standing) (are : map shown_entry listed ≡ entries world.objects) (rises : Rises id_in listed) (seen : List Standing) (is : seen ≡ filter (is_flagged (map (is_seen player) stored.rooms)) listed) where
+      in_view : seen ≡ filter (λ s. sees_room world player s.room) listed
+      in_view = is ∙ (λ i. filter (λ s. seen_by_index s.room i) listed)
 
-      pub objects_rise : Rises id_in sorted
-      objects_rise = strictly id_in sorted order (λ q.
-          (let moved_times : times q (map entry_of sorted) ≡ times q (filter in_sight all) = sum_by-IsPermutation (λ (e : ℕ × Placed). cond {A = ℕ} (e.0 == q) 1 0) (filter in_sight all) (map entry_of sorted) entries_are in
-          let few : times q (filter in_sight all) ≤ times q all = filtered_times in_sight q all in
-          let one : times q all ≤ 1 = once stored sound q in
-          let mine = times_of q sorted in
-          omega arith))
+      pub objects_rise : Rises id_in seen
+      objects_rise = subst (Rises id_in) (sym is) (rises-filter id_in (is_flagged (map (is_seen player) stored.rooms)) listed rises)
 
-      there : (e : ℕ × Placed) → Contains (map entry_of sorted) e → Contains (filter in_sight (entries world.objects)) e
-      there e within =
-          let kept = Contains-from_filter in_sight all e (Contains-permutation (map entry_of sorted) (filter in_sight all) e (IsPermutation-sym (filter in_sight all) (map entry_of sorted) entries_are) within) in
-          Contains-filter in_sight (entries world.objects) e (Contains-permutation all (entries world.objects) e moved kept.0) kept.1
+      pub objects_seen : map shown seen ≡ seen_objects world player
+      objects_seen = ap (map shown) in_view ∙ filter_shown (sees_room world player) listed ∙ ap (λ (es : Entries). map (λ (e : ℕ × Placed). e.1) (filter in_sight es)) are
 
-      back : (e : ℕ × Placed) → Contains (filter in_sight (entries world.objects)) e → Contains (map entry_of sorted) e
-      back e within =
-          let kept = Contains-from_filter in_sight (entries world.objects) e within in
-          Contains-permutation (filter in_sight all) (map entry_of sorted) e entries_are (Contains-filter in_sight all e (Contains-permutation (entries world.objects) all e (IsPermutation-sym all (entries world.objects) moved) kept.0) kept.1)
-
-      pub objects_seen : map shown_object sorted ≡ seen_objects world player
-      objects_seen =
-          sym (shown_keyed sorted)
-          ∙ ap (map (λ (e : ℕ × Placed). e.1)) (same_rising (λ (e : ℕ × Placed). e.0) (map entry_of sorted) (filter in_sight (entries world.objects)) (rises_of sorted objects_rise) (rises-filter (λ (e : ℕ × Placed). e.0) in_sight (entries world.objects) (rises_from_sorted (entries world.objects) (entries_sorted world.objects))) there back)
-
-      all_stand : AllByRecursion (λ s. Stands world (id_in s) (shown_object s)) sorted
-      all_stand =
-          all_of (λ e. Stands world e.0 e.1) sorted (all_from_within (λ (e : ℕ × Placed). Stands world e.0 e.1) (map entry_of sorted) (λ e within. stands e (Contains-from_filter in_sight all e (Contains-permutation (map entry_of sorted) (filter in_sight all) e (IsPermutation-sym (filter in_sight all) (map entry_of sorted) entries_are) within)).0))
-
-      pub controllers_seen : (rooms : List RoomInView) → HaveControllers rooms (map shown_object gathered) → HaveControllers rooms (map shown_object sorted)
+      pub controllers_seen : (rooms : List RoomInView) → HaveControllers rooms (from_each (objects_if_seen player) 0 stored.rooms) → HaveControllers rooms (map shown seen)
       controllers_seen rooms have index =
-          ap (option_map (λ (p : Placed). p.object)) (sym (find_moved (is_controller_at index) (map shown_object gathered) (map shown_object sorted) (IsPermutation-map shown_object gathered sorted same) (one_controller index sorted objects_rise all_stand)))
+          let test : ℕ × Placed → Bool = controls index in
+          ap (λ (ps : List Placed). option_map (λ (p : Placed). p.object) (lists.find (is_controller_at index) ps)) objects_seen
+          ∙ ap (option_map (λ (p : Placed). p.object)) (
+          find_values index (filter in_sight (entries world.objects))
+          ∙ ap (option_map (λ (e : ℕ × Placed). e.1)) (
+          find_seen (sees_room world player) index (entries world.objects)
+          ∙ ap (λ (found : Option (ℕ × Placed)). cond (sees_room world player index) found None) (sym (controller_moved index))
+          ∙ sym (find_seen (sees_room world player) index all)
+          )
+          ∙ sym (find_values index (filter in_sight all))
+          ∙ ap (lists.find (is_controller_at index)) (ap (map (λ (e : ℕ × Placed). e.1)) (objects_stored (sees_room world player) player 0 stored.rooms told) ∙ values_keyed (from_each (objects_if_seen player) 0 stored.rooms))
+          )
           ∙ have index
 
-      -- what is kept in rising id is the player's sight
+      -- what is in view is the player's sight
       pub sight_seen : (account : Account) → account.player ≡ player → (rooms : List RoomInView) (sites : ℕ) → map shown_room rooms ≡ from_each (room_if_seen player) 0 stored.rooms → sites ≡ sum_by (sites_at player) stored.rooms
-          → ◌≡◌ {A = Sight} (record { tick = stored.tick; account = account; sites = sites; rooms = map shown_room rooms; objects = map shown_object sorted }) (sight_of world account)
+          → ◌≡◌ {A = Sight} (record { tick = stored.tick; account = account; sites = sites; rooms = map shown_room rooms; objects = map shown seen }) (sight_of world account)
       sight_seen account mine rooms sites rooms_are sites_are =
           let sites_told = sites_are ∙ sym sites_seen ∙ ap (site_count world) (sym mine) in
           let rooms_told = rooms_are ∙ sym rooms_seen ∙ ap (λ (n : ℕ). seen_rooms world n (entries world.rooms)) (sym mine) in
           let objects_told = objects_seen ∙ ap (seen_objects world) (sym mine) in
           λ i. record { tick = stored.tick; account = account; sites = sites_told i; rooms = rooms_told i; objects = objects_told i }
 
-      pub objects_few : length sorted ≤ length all
-      objects_few = omega (arith, length-map sorted entry_of, length_permutation _ _ entries_are, length-filter in_sight all, count_by-le-length in_sight all)
+      pub objects_few : length seen ≤ length all
+      objects_few = omega (arith, ap length is, length-filter (is_flagged (map (is_seen player) stored.rooms)) listed, count_by-le-length (is_flagged (map (is_seen player) stored.rooms)) listed, ap length are, length-map listed shown_entry, length_permutation _ _ moved)

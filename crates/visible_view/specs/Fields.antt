@@ -2,15 +2,14 @@
 use Rattle.std.specs.Prelude.{ℕ, suc, ◌+◌, ◌-◌, ◌*◌, ◌==◌, ◌&&◌, nat_lt, if◌then◌else◌, List, [], ◌∷◌, length, Option, Some, None, option_map, option_and_then, slice_get}
 use Rattle.std.specs.List.{find}
 use Rattle.game_tables.specs.Bodies.{load_room, part_hits}
-use Rattle.game_tables.specs.Kinds.{building_room, most_hits, source_room}
+use Rattle.game_tables.specs.Kinds.{store_capacity, hits_max, source_capacity, is_controller}
 use Rattle.game_tables.specs.Numbers.{kind_number, part_number}
 use Rattle.game_tables.specs.declared.kind.Kind.{Kind}
 use Rattle.game_tables.specs.declared.kind.Kind.TheVariants.{Source, Creep}
 use Rattle.room_terrain.specs.Tiles.{tile}
 use Rattle.room_terrain.specs.declared.terrain.Ground.{Ground}
 use Rattle.object_store.specs.declared.object.Object.{Object}
-use Rattle.world_rules.specs.Kinds.{is_controller}
-use Rattle.world_rules.specs.Upkeep.{is_taken}
+use Rattle.object_store.specs.Controllers.{is_taken, level_of}
 use Rattle.world_rules.specs.World.{Placed}
 use Rattle.visible_view.specs.Sights.{SeenRoom, Sight}
 
@@ -36,18 +35,15 @@ place_of id (placed ∷ later) = if placed.object.id == id then Some 0 else opti
 
 -- the controller of a room that is seen
 abbrev pub controller_at : Sight → ℕ → Option Object
-controller_at sight index = option_map (λ placed. placed.object) (find (λ placed. (placed.room == index) && is_controller placed.object.kind) sight.objects)
-
--- the level of a room: that of its controller, and 0 without one
-abbrev pub level_of : Option Object → ℕ
-level_of None = 0
-level_of (Some controller) = controller.extra
+controller_at sight index =
+    option_map (λ placed. placed.object)
+    (find (λ placed. (placed.room == index) && is_controller placed.object.kind) sight.objects)
 
 -- the energy that an object holds, by its room's controller
 abbrev pub capacity_as : Kind → Option Object → Object → ℕ
-capacity_as Source controller object = source_room (is_taken controller)
+capacity_as Source controller object = source_capacity (is_taken controller)
 capacity_as Creep controller object = load_room object.hits object.body
-capacity_as kind controller object = building_room kind (level_of controller)
+capacity_as kind controller object = store_capacity kind (level_of controller)
 
 -- the hits of a part with so many parts after it: those of a spawn's body, which is being made, are whole
 abbrev pub hits_as : Kind → Object → ℕ → ℕ
@@ -56,7 +52,9 @@ hits_as kind object after = 100
 
 -- a part of the body: its number times 1,000 and its hits
 abbrev pub part_field : Object → ℕ → Option ℕ
-part_field object i = option_map (λ part. part_number part * 1000 + hits_as object.kind object (length object.body - 1 - i)) (slice_get object.body i)
+part_field object i =
+    option_map (λ part. part_number part * 1000 + hits_as object.kind object (length object.body - 1 - i))
+    (slice_get object.body i)
 
 -- the fields of an object by their numbers
 abbrev pub field_of : Sight → Placed → ℕ → Option ℕ
@@ -68,9 +66,10 @@ field_of sight placed field =
     else if field == 4 then Some placed.object.y
     else if field == 5 then Some placed.object.owner
     else if field == 6 then Some placed.object.hits
-    else if field == 7 then Some (most_hits placed.object.kind placed.object.body)
+    else if field == 7 then Some (hits_max placed.object.kind placed.object.body)
     else if field == 8 then Some placed.object.energy
-    else if field == 9 then Some (capacity_as placed.object.kind (controller_at sight placed.room) placed.object)
+    else if field == 9
+    then Some (capacity_as placed.object.kind (controller_at sight placed.room) placed.object)
     else if field == 10 then Some placed.object.timer
     else if field == 11 then Some placed.object.extra
     else if field == 12 then Some placed.object.progress
@@ -82,4 +81,5 @@ field_of sight placed field =
 
 -- the field of the object at a place
 abbrev pub field_at : Sight → ℕ → ℕ → Option ℕ
-field_at sight index field = option_and_then (λ placed. field_of sight placed field) (slice_get sight.objects index)
+field_at sight index field =
+    option_and_then (λ placed. field_of sight placed field) (slice_get sight.objects index)

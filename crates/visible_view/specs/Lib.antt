@@ -1,3 +1,3 @@
 pub mod Sights
 pub mod Fields
-pub mod Gathered
+pub mod inner

@@ -1,22 +1,24 @@
--- What a player sees of the world: the rooms in which a creep, a building or a controller of his stands, with all that is in them.
+-- What a player sees of the world: the rooms in which a creep, a building or a controller of his stands, with
+-- all that is in them.
 use Rattle.std.specs.Prelude.{ℕ, ◌==◌, ◌&&◌, ◌||◌, Bool, if◌then◌else◌, List, [], ◌∷◌, map}
 use Rattle.std.specs.List.{count_by, filter, list_any}
 use Rattle.std.specs.FinMap.{entries}
-use Rattle.game_tables.specs.Kinds.{building}
+use Rattle.game_tables.specs.Kinds.{is_building, is_controller, is_creep, is_site}
 use Rattle.room_terrain.specs.declared.name.RoomName.{RoomName}
 use Rattle.room_terrain.specs.declared.terrain.Ground.{Ground}
 use Rattle.object_store.specs.declared.account.Account.{Account}
 use Rattle.object_store.specs.declared.object.Object.{Object}
-use Rattle.world_rules.specs.Kinds.{is_controller, is_creep, is_site}
 use Rattle.world_rules.specs.World.{Frame, Placed, World}
 
 -- The object is one by which the player sees its room.
 abbrev pub gives_sight : ℕ → Object → Bool
-gives_sight player object = (object.owner == player) && (is_creep object.kind || building object.kind || is_controller object.kind)
+gives_sight player object =
+    (object.owner == player) && (is_creep object.kind || is_building object.kind || is_controller object.kind)
 
 -- The player sees the room of this index.
 abbrev pub sees_room : World → ℕ → ℕ → Bool
-sees_room world player index = list_any (λ entry. (entry.1.room == index) && gives_sight player entry.1.object) (entries world.objects)
+sees_room world player index =
+    list_any (λ entry. (entry.1.room == index) && gives_sight player entry.1.object) (entries world.objects)
 
 -- a room that is seen, without its objects
 pub record SeenRoom : Type 0 where
@@ -28,18 +30,26 @@ pub record SeenRoom : Type 0 where
 abbrev pub seen_rooms : World → ℕ → List (ℕ × Frame) → List SeenRoom
 seen_rooms world player [] = []
 seen_rooms world player (entry ∷ later) =
-    if sees_room world player entry.0 then record { index = entry.0; name = entry.1.name; grounds = entry.1.grounds } ∷ seen_rooms world player later
+    if sees_room world player entry.0 then record {
+      index = entry.0;
+      name = entry.1.name;
+      grounds = entry.1.grounds;
+    } ∷ seen_rooms world player later
     else seen_rooms world player later
 
 -- all objects of the rooms that are seen, in rising id
 abbrev pub seen_objects : World → ℕ → List Placed
-seen_objects world player = map (λ entry. entry.1) (filter (λ entry. sees_room world player entry.1.room) (entries world.objects))
+seen_objects world player =
+    map (λ entry. entry.1) (filter (λ entry. sees_room world player entry.1.room) (entries world.objects))
 
 -- the player's sites in the whole world
 abbrev pub site_count : World → ℕ → ℕ
-site_count world player = count_by (λ entry. is_site entry.1.object.kind && (entry.1.object.owner == player)) (entries world.objects)
+site_count world player =
+    count_by (λ entry. is_site entry.1.object.kind && (entry.1.object.owner == player))
+    (entries world.objects)
 
--- all that a player sees: the tick, his account, the number of his sites, the rooms in rising index and their objects in rising id
+-- all that a player sees: the tick, his account, the number of his sites, the rooms in rising index and their
+-- objects in rising id
 pub record Sight : Type 0 where
   pub tick : ℕ
   pub account : Account

@@ -1,27 +1,19 @@
 // What is told of one object or one tile.
 ghost use Rattle.std.specs.Prelude.{◌≡◌, ◌&&◌, ◌-◌, ◌<◌, nat_lt, length, if◌then◌else◌, slice_get, option_map, None};
-ghost use Rattle.game_tables.specs.Kinds.{building_room};
+ghost use Rattle.game_tables.specs.Kinds.{store_capacity};
 ghost use Rattle.room_terrain.specs.Tiles.{tile};
-ghost use Rattle.world_rules.specs.Upkeep.{is_taken as taken};
-ghost use Rattle.visible_view.specs.Fields.{hits_as, level_of, part_field as told_part};
+ghost use Rattle.object_store.specs.Controllers.{level_of as level};
+ghost use Rattle.visible_view.specs.Fields.{hits_as, part_field as told_part};
 
 use game_tables::store_capacity;
-use object_store::{Ground, Kind, Object, Terrain};
-
-/// Whether somebody owns or reserves a controller.
-pub fn is_taken(controller: Option<&Object>) -> bool
-    ensures { result ≡ taken (option_map (λ object. object.now) controller.entry) }
-{
-    controller.is_some_and(|object| object.owner != 0 || object.other != 0)
-}
+use object_store::{Ground, Kind, Object, Terrain, level_of};
 
 /// The energy that a building holds in the room of a controller.
 #[tactic(auto, using(crate::proofs::Told::capped_level))]
 pub fn building_capacity(kind: Kind, controller: Option<&Object>) -> u64
-    ensures { result ≡ building_room kind (level_of (option_map (λ object. object.now) controller.entry)) }
+    ensures { result ≡ store_capacity kind (level (option_map (λ object. object.now) controller.entry)) }
 {
-    let level = controller.map_or(0, |object| object.extra);
-    store_capacity(kind, level.min(255) as u8)
+    store_capacity(kind, level_of(controller).min(255) as u8)
 }
 
 /// The number of a part times 1,000 and its hits, by its place in the body.

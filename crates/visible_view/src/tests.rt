@@ -2,12 +2,12 @@
 ghost use Rattle.std.specs.Prelude.{◌≡◌, [], ◌∷◌, IfOk, OnOk};
 ghost use Rattle.object_store.specs.Tables.{IsRising};
 
-use crate::field::{building_capacity, ground_of, is_taken, part_field};
-use crate::gather::gather;
+use crate::field::{building_capacity, ground_of, part_field};
+use crate::gather::{flagged_objects, gather};
 use crate::view::View;
 use game_tables::{Body, Part};
 use object_store::{
-    Account, Bytes, Ground, Kind, Object, Room, RoomName, RoomTable, Terrain, World,
+    Account, Bytes, Ground, Kind, Object, Room, RoomName, RoomTable, Standing, Terrain, World,
 };
 use std::alloc::{AllocError, Global};
 use std::process::Abort;
@@ -37,7 +37,7 @@ fn room(alloc: Global, index: u32, object: Object) -> Result<Room, AllocError> {
     Ok(Room {
         name: RoomName { column: 0, row: 0 },
         terrain: Terrain::of(alloc, &[Ground::Plain; 2500])?,
-        table: RoomTable::of(index, 9, objects),
+        table: RoomTable::of(alloc, index, 9, objects)?,
     })
 }
 
@@ -55,8 +55,9 @@ fn is_seen(rt: &impl Abort, alloc: Global, object: Object) -> Result<bool, Alloc
     let mut rooms = Vec::new(alloc);
     rooms.push(room(alloc, 0, object)?)?;
     let gathered = gather(alloc, &rooms, 1)?;
-    assert_eq!(rt; gathered.rooms.len(), gathered.objects.len());
-    Ok(gathered.rooms.len() == 1)
+    assert_eq!(rt; gathered.flags.len(), 1);
+    assert_eq!(rt; gathered.flags[0], gathered.rooms.len() == 1);
+    Ok(gathered.flags[0])
 }
 
 #[test]
@@ -86,14 +87,33 @@ fn rooms_are_gathered(rt: HostRuntime) -> Result<(), Fail> {
     rooms.push(room(alloc, 2, thing(5, Kind::Controller, 1))?)?;
     let gathered = gather(alloc, &rooms, 1)?;
     assert_eq!(rt; gathered.sites, 1);
-    assert_eq!(rt; (gathered.rooms.len(), gathered.objects.len()), (2, 2));
+    assert_eq!(rt; gathered.rooms.len(), 2);
+    assert_eq!(rt;
+        (gathered.flags[0], gathered.flags[1], gathered.flags[2]),
+        (true, false, true)
+    );
     let (first, last) = (gathered.rooms[0], gathered.rooms[1]);
     assert_eq!(rt; (first.index, last.index), (0, 2));
     assert!(rt; first.controller.is_none());
     assert_eq!(rt; last.controller.map(|object| object.id), Some(5));
-    let (creep, controller) = (gathered.objects[0], gathered.objects[1]);
-    assert_eq!(rt; (creep.room, creep.object.id), (0, 0x1_0000_0001));
-    assert_eq!(rt; (controller.room, controller.object.id), (2, 5));
+    Ok(())
+}
+
+#[test]
+fn objects_of_flagged_rooms_are_seen(rt: HostRuntime) -> Result<(), Fail> {
+    let object = thing(5, Kind::Site, 0);
+    let mut all = Vec::new(rt.alloc());
+    for room in [2, 0, 1, 9, 0] {
+        all.push(Standing {
+            room,
+            object: &object,
+        })?;
+    }
+    let seen = flagged_objects(rt.alloc(), &all, &[true, false, true])?;
+    assert_eq!(rt; seen.len(), 3);
+    for (standing, room) in seen.iter().zip([2_u32, 0, 0]) {
+        assert_eq!(rt; (standing.room, standing.object.id), (room, 5));
+    }
     Ok(())
 }
 
@@ -115,8 +135,6 @@ fn parts_and_capacities_are_told(rt: HostRuntime) {
     assert_eq!(rt; part_field(&spawn, 0), Some(1_100));
 
     let mut controller = thing(2, Kind::Controller, 1);
-    assert!(rt; is_taken(Some(&controller)));
-    assert!(rt; !is_taken(None));
     assert_eq!(rt; building_capacity(Kind::Extension, None), 50);
     for (level, capacity) in [(1, 50), (7, 100), (8, 200), (300, 50)] {
         controller.extra = level;
@@ -125,10 +143,6 @@ fn parts_and_capacities_are_told(rt: HostRuntime) {
             capacity
         );
     }
-    controller.owner = 0;
-    assert!(rt; !is_taken(Some(&controller)));
-    controller.other = 2;
-    assert!(rt; is_taken(Some(&controller)));
 }
 
 #[test]

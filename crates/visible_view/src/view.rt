@@ -2,28 +2,30 @@
 ghost use Rattle.std.specs.Prelude.{◌≡◌, ◌==◌, ◌≤◌, ◌<◌, ◌^◌, length, map, slice_get, Option, Some, None, option_map, IfSome, IfNone, IfOk};
 ghost use Rattle.std.specs.List.{find};
 ghost use Rattle.std.specs.List.Sorted.{IsPartitionPoint};
-ghost use Rattle.game_tables.specs.Limits.{rooms_bound};
+ghost use Rattle.game_tables.specs.Limits.{most_rooms};
 ghost use Rattle.object_store.specs.declared.account.Account.{Account};
 ghost use Rattle.object_store.specs.Stored.{HasAccount, find_account};
 ghost use Rattle.object_store.proofs.Rising.{Rises};
 ghost use Rattle.world_rules.specs.Sound.{IsSound};
-ghost use Rattle.world_rules.specs.World.{world_of};
+ghost use Rattle.world_rules.specs.World.{shown, world_of};
+ghost use Rattle.world_roster.specs.Rosters.{id_in};
 ghost use Rattle.visible_view.specs.Sights.{sight_of};
 ghost use Rattle.visible_view.specs.Fields.{capacity_as, controller_at, field_at, field_of as told_field, ground_at, place_of, room_at};
-ghost use Rattle.visible_view.specs.Gathered.{id_in, index_in, shown_object};
+ghost use Rattle.visible_view.specs.inner.Gathered.{index_in};
 
 use crate::NoMemory;
-use crate::field::{building_capacity, ground_of, is_taken, part_field};
-use crate::gather::{ObjectInView, RoomInView, gather};
+use crate::field::{building_capacity, ground_of, part_field};
+use crate::gather::{RoomInView, flagged_objects, gather};
 use game_tables::{hits_max, source_capacity};
-use object_store::{Account, Ground, Kind, Object, RoomName, World};
+use object_store::{Account, Ground, Kind, Object, RoomName, Standing, World, is_taken};
 use std::alloc::Global;
 use std::marker::Model;
+use world_roster::Roster;
 
 /// What a player sees of a world: the rooms in which a creep, a building or a controller of his
 /// stands, with all that is in them, his account, and the number of his sites in all rooms.
 ///
-/// It is made once a tick and refers to the world. Its calls take no memory. One by an id or by a
+/// It is made once a run and refers to the world. Its calls take no memory. One by an id or by a
 /// room's index halves what is seen until it is found; one by a place takes always the same time,
 /// but for a capacity, which asks for the room's controller or counts a creep's live parts.
 #[derive(Drop)]
@@ -32,17 +34,24 @@ pub struct View<'a> {
     account: &'a Account,
     sites: u32,
     rooms: Vec<RoomInView<'a>>,
-    objects: Vec<ObjectInView<'a>>,
+    objects: Vec<Standing<'a>>,
 }
 
 impl<'a> Model for View<'a> {
     ghost use Rattle.std.specs.Prelude.{map};
+    ghost use Rattle.world_rules.specs.World.{shown};
     ghost use Rattle.visible_view.specs.Sights.{Sight};
-    ghost use Rattle.visible_view.specs.Gathered.{shown_room, shown_object, IsKept};
+    ghost use Rattle.visible_view.specs.inner.Gathered.{shown_room, IsKept};
 
     ghost Value = { Sight };
 
-    ghost view = { λ v. record { tick = v.tick; account = v.account.now; sites = v.sites; rooms = map shown_room v.rooms.items; objects = map shown_object v.objects.items } };
+    ghost view = { λ v. record {
+      tick = v.tick;
+      account = v.account.now;
+      sites = v.sites;
+      rooms = map shown_room v.rooms.items;
+      objects = map shown v.objects.items;
+    } };
 
     ghost invariant = { λ v. IsKept v.rooms.items v.objects.items };
 }
@@ -52,18 +61,40 @@ impl<'a> View<'a> {
     pub fn of(alloc: Global, world: &'a World, player: u32) -> Result<View<'a>, NoMemory>
         requires account { HasAccount player world.now.accounts }
         requires sound { IsSound world.now }
-        requires rooms { length world.now.rooms ≤ rooms_bound }
-        ensures { IfOk result (λ view. (account : Account) × (find_account player world.now.accounts ≡ Some account) × (view ≡ sight_of (world_of world.now) account)) }
+        requires rooms { length world.now.rooms ≤ most_rooms }
+        ensures { IfOk result
+            (λ view. (account : Account) × (find_account player world.now.accounts ≡ Some account)
+            × (view ≡ sight_of (world_of world.now) account)) }
+    {
+        let roster = Roster::of(alloc, world)?;
+        View::among(alloc, world, &roster, player)
+    }
+
+    /// What the player sees, by the world's objects in rising id, as they are listed once for all
+    /// players. It takes one pass over them.
+    pub fn among(
+        alloc: Global,
+        world: &'a World,
+        roster: &Roster<'a>,
+        player: u32,
+    ) -> Result<View<'a>, NoMemory>
+        requires account { HasAccount player world.now.accounts }
+        requires sound { IsSound world.now }
+        requires rooms { length world.now.rooms ≤ most_rooms }
+        requires roster { roster.now ≡ (world_of world.now).objects }
+        ensures { IfOk result
+            (λ view. (account : Account) × (find_account player world.now.accounts ≡ Some account)
+            × (view ≡ sight_of (world_of world.now) account)) }
     {
         let account = world.account(player).unwrap();
-        let mut seen = gather(alloc, world.room_list(), player)?;
-        seen.objects.sort_unstable_by_key(|placed| placed.object.id);
+        let seen = gather(alloc, world.room_list(), player)?;
+        let objects = flagged_objects(alloc, roster.list(), &seen.flags)?;
         Ok(View {
             tick: world.tick(),
             account,
             sites: seen.sites as u32,
             rooms: seen.rooms,
-            objects: seen.objects,
+            objects,
         })
     }
 
@@ -97,10 +128,18 @@ impl<'a> View<'a> {
 
     /// The object at a place among those that are seen, from 0 on, in rising id.
     pub fn object(&self, index: u32) -> Option<&Object>
-        ensures { option_map (λ object. object.now) result ≡ option_map (λ placed. placed.object) (slice_get self.now.objects index) }
+        ensures { option_map (λ object. object.now) result ≡ option_map (λ placed. placed.object)
+            (slice_get self.now.objects index) }
     {
         let placed = self.objects.get(index as usize)?;
         Some(placed.object)
+    }
+
+    /// The object at a place, with its room.
+    pub fn standing(&self, index: u32) -> Option<Standing<'_>>
+        ensures { option_map (λ standing. shown standing) result ≡ slice_get self.now.objects index }
+    {
+        self.objects.get(index as usize).copied()
     }
 
     /// The place of an object of this id.
@@ -157,8 +196,8 @@ impl<'a> View<'a> {
         self.field_of(placed, field)
     }
 
-    fn field_of(&self, placed: &ObjectInView, field: u32) -> Option<u64>
-        ensures { result ≡ told_field self.now (shown_object placed.now) field }
+    fn field_of(&self, placed: &Standing, field: u32) -> Option<u64>
+        ensures { result ≡ told_field self.now (shown placed.now) field }
     {
         let object = placed.object;
         match field {
@@ -184,8 +223,10 @@ impl<'a> View<'a> {
     }
 
     // The energy that an object holds.
-    fn capacity(&self, placed: &ObjectInView) -> u64
-        ensures { result ≡ capacity_as placed.now.object.now.kind (controller_at self.now placed.now.room) placed.now.object.now }
+    fn capacity(&self, placed: &Standing) -> u64
+        ensures { result
+            ≡ capacity_as placed.now.object.now.kind
+            (controller_at self.now placed.now.room) placed.now.object.now }
     {
         let object = placed.object;
         match object.kind {
@@ -204,10 +245,11 @@ impl<'a> View<'a> {
 }
 
 // The place of an id among the objects, or where it would be.
-fn object_place(objects: &[ObjectInView], id: u64) -> usize
+fn object_place(objects: &[Standing], id: u64) -> usize
     requires { Rises id_in objects.now }
     ensures within { result ≤ length objects.now }
-    ensures between { IsPartitionPoint (λ placed. placed.object.now.id < id) (λ placed. id ≤ placed.object.now.id) objects.now result }
+    ensures between { IsPartitionPoint (λ placed. placed.object.now.id < id)
+        (λ placed. id ≤ placed.object.now.id) objects.now result }
 {
     objects.partition_point(|placed| placed.object.id < id)
 }
@@ -216,7 +258,8 @@ fn object_place(objects: &[ObjectInView], id: u64) -> usize
 fn room_place(rooms: &[RoomInView], index: u32) -> usize
     requires { Rises index_in rooms.now }
     ensures within { result ≤ length rooms.now }
-    ensures between { IsPartitionPoint (λ room. room.index < index) (λ room. index ≤ room.index) rooms.now result }
+    ensures between { IsPartitionPoint (λ room. room.index < index)
+        (λ room. index ≤ room.index) rooms.now result }
 {
     rooms.partition_point(|room| room.index < index)
 }

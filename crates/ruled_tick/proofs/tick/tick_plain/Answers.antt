@@ -1,8 +1,20 @@
-use Rattle.ruled_tick.proofs.Next.{plain-IsRuled, plain-IsSound}
+use Rattle.std.proofs.Common.{◌≡◌, length, ap, arith}
+use Rattle.std.proofs.lemmas.Result.{IfOk-weaker}
+use Rattle.object_store.specs.Stored.{Stored}
+use Rattle.world_rules.specs.World.{world_of}
+use Rattle.world_rules.specs.Tick.{plain_world}
+use Rattle.ruled_tick.proofs.Few.{kept_few}
+use Rattle.ruled_tick.proofs.Next.{copy_ticks, TicksWith}
 use Rattle.ruled_tick.proofs.tick.tick_plain.Goals as goal
 
-pub returns-clause-ruled : goal.returns-clause-ruled
-returns-clause-ruled c = plain-IsRuled c.args.world.now c.args.intents.now c.requires.sound c.in_ok-next.next c.in_ok-next.ensures c.push_raised.new.next c.in_ok-push_raised.ensures
+pub tick_taken-requires-clause-few : goal.tick_taken-requires-clause-few
+tick_taken-requires-clause-few c =
+    omega (arith, c.requires.few, ap length c.deref.ensures.value, kept_few (world_of c.args.world.now) c.args.intents.now c.in_ok-entries.entries.items c.in_ok-entries.ensures)
 
-pub returns-clause-sound : goal.returns-clause-sound
-returns-clause-sound c = plain-IsSound c.args.world.now c.args.intents.now c.requires.sound c.in_ok-next.next c.in_ok-next.ensures c.push_raised.new.next c.in_ok-push_raised.ensures
+pub returns-clause-ruled : goal.returns-clause-ruled
+returns-clause-ruled c =
+    let world = c.args.world.now in
+    let intents = c.args.intents.now in
+    IfOk-weaker c.tick_taken.result (TicksWith c.deref.result.now c.in_ok-copy.field-0) (λ (next : Stored). world_of next ≡ plain_world (world_of world) intents)
+    (λ next is. copy_ticks c.in_ok-copy.field-0 world next c.deref.result.now c.in_ok-entries.entries.items intents c.in_ok-copy.ensures c.deref.ensures.value c.in_ok-entries.ensures is)
+    c.tick_taken.ensures.ruled

@@ -1,14 +1,26 @@
-use Rattle.std.proofs.Common.{arith}
-use Rattle.ruled_tick.specs.Ticked.{upkept}
-use Rattle.world_rules.proofs.Each.{IsRising-filter_map}
-use Rattle.ruled_tick.proofs.Objects.{upkept-id}
-use Rattle.ruled_tick.proofs.Rising.{length-filter_map}
+use Rattle.std.proofs.Common.{◌<◌, length, arith}
+use Rattle.ruled_tick.proofs.Upkeeping.{upkept_first, upkept_less, upkept_more}
 use Rattle.ruled_tick.proofs.upkeep.tick_table.Goals as goal
 
-pub of-requires-clause-rising : goal.of-requires-clause-rising
-of-requires-clause-rising c =
-    let capacity = c.source_capacity-capacity.result in
-    rw c.in_ok-objects.ensures (IsRising-filter_map (upkept capacity) (upkept-id capacity) _ c.objects-2.ensures.rising)
+pub loop-place-init : goal.loop-place-init
+loop-place-init c = upkept_first c.source_capacity-capacity.result c.args.table.now c.requires.tiles
 
-pub of-requires-clause-within : goal.of-requires-clause-within
-of-requires-clause-within c = rw c.in_ok-objects.ensures (omega (arith, length-filter_map (upkept c.source_capacity-capacity.result) c.objects-2.result.now, c.objects-2.ensures.within))
+pub loop-place-smaller-then-is_left : goal.loop-place-smaller-then-is_left
+loop-place-smaller-then-is_left c =
+    let inside : c.loop-place.place < length c.loop-place.table.objects = omega arith in
+    (upkept_more c.source_capacity-capacity.result c.args.table.now c.loop-place.place c.loop-place.table c.loop-place.invariant c.is_left.new.table c.is_left.result c.is_left.ensures.tiles c.is_left.ensures.left c.is_left.ensures.table inside c.if-is_left.true).1
+
+pub loop-place-preserved-then-is_left : goal.loop-place-preserved-then-is_left
+loop-place-preserved-then-is_left c =
+    let inside : c.loop-place.place < length c.loop-place.table.objects = omega arith in
+    (upkept_more c.source_capacity-capacity.result c.args.table.now c.loop-place.place c.loop-place.table c.loop-place.invariant c.is_left.new.table c.is_left.result c.is_left.ensures.tiles c.is_left.ensures.left c.is_left.ensures.table inside c.if-is_left.true).0
+
+pub loop-place-smaller : goal.loop-place-smaller
+loop-place-smaller c =
+    let inside : c.loop-place.place < length c.loop-place.table.objects = omega arith in
+    (upkept_less c.source_capacity-capacity.result c.args.table.now c.loop-place.place c.loop-place.table c.loop-place.invariant c.is_left.new.table c.is_left.result c.is_left.ensures.tiles c.is_left.ensures.left c.is_left.ensures.table inside c.if-is_left.false).1
+
+pub loop-place-preserved : goal.loop-place-preserved
+loop-place-preserved c =
+    let inside : c.loop-place.place < length c.loop-place.table.objects = omega arith in
+    (upkept_less c.source_capacity-capacity.result c.args.table.now c.loop-place.place c.loop-place.table c.loop-place.invariant c.is_left.new.table c.is_left.result c.is_left.ensures.tiles c.is_left.ensures.left c.is_left.ensures.table inside c.if-is_left.false).0

@@ -1,7 +1,7 @@
 use Rattle.std.proofs.Common.{◌≡◌, ◌+◌, ◌++◌, [], ◌∷◌, List, take, length, sym, ap, subst, ◌∙◌, arith}
 use Rattle.std.proofs.lemmas.List.{length-take-le, take_more}
 use Rattle.object_store.specs.declared.world.Room.{Room}
-use Rattle.visible_view.specs.Gathered.{IsGathered}
+use Rattle.visible_view.specs.inner.Gathered.{IsGathered}
 use Rattle.visible_view.proofs.Gathering.{gathered_more}
 use Rattle.visible_view.proofs.gather.gather.Goals as goal
 

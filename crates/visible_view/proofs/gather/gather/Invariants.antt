@@ -1,5 +1,5 @@
 use Rattle.std.proofs.Common.{◌≤◌, ◌*◌, ◌^◌, take}
-use Rattle.visible_view.specs.Gathered.{IsGathered}
+use Rattle.visible_view.specs.inner.Gathered.{IsGathered}
 use Rattle.visible_view.proofs.gather.gather.Given as goal
 
 abbrev pub invariant-loop-index : goal.invariant-loop-index

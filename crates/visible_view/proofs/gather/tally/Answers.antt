@@ -1,10 +1,9 @@
-use Rattle.std.proofs.Common.{arith}
-use Rattle.std.proofs.lemmas.Grind.{common_steps}
+use Rattle.std.proofs.Common.{sym, ◌∙◌}
+use Rattle.visible_view.proofs.Gathering.{none_seen, none_sited}
 use Rattle.visible_view.proofs.gather.tally.Goals as goal
 
-pub loop-object-preserved : goal.loop-object-preserved
-loop-object-preserved c = record {
-  seen = grind (arith, common_steps);
-  few = grind (arith, common_steps);
-  sites = grind (arith, common_steps);
-}
+pub returns-else-has_owner-clause-seen : goal.returns-else-has_owner-clause-seen
+returns-else-has_owner-clause-seen c = sym (none_seen c.args.player c.args.table.now.objects (sym c.has_owner.ensures ∙ c.if-has_owner.false))
+
+pub returns-else-has_owner-clause-sites : goal.returns-else-has_owner-clause-sites
+returns-else-has_owner-clause-sites c = sym (none_sited c.args.player c.args.table.now.objects (sym c.has_owner.ensures ∙ c.if-has_owner.false))

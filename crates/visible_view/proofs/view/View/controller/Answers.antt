@@ -2,7 +2,7 @@ use Rattle.std.proofs.Common.{◌==◌, option_and_then, sym, ap, ◌∙◌}
 use Rattle.std.specs.List.{find}
 use Rattle.visible_view.specs.Sights.{Sight}
 use Rattle.visible_view.specs.Fields.{controller_at}
-use Rattle.visible_view.specs.Gathered.{controller_in, index_in}
+use Rattle.visible_view.specs.inner.Gathered.{controller_in, index_in}
 use Rattle.visible_view.specs.declared.gather.RoomInView.{RoomInView}
 use Rattle.visible_view.proofs.view.View.controller.Goals as goal
 

@@ -2,7 +2,7 @@ use Rattle.std.proofs.Common.{◌==◌, option_map, option_and_then, sym, ap, �
 use Rattle.std.specs.List.{find}
 use Rattle.visible_view.specs.Sights.{Sight}
 use Rattle.visible_view.specs.Fields.{ground_in}
-use Rattle.visible_view.specs.Gathered.{shown_room, index_in}
+use Rattle.visible_view.specs.inner.Gathered.{shown_room, index_in}
 use Rattle.visible_view.specs.declared.gather.RoomInView.{RoomInView}
 use Rattle.visible_view.proofs.Told.{room_told}
 use Rattle.visible_view.proofs.view.View.ground.Goals as goal

@@ -1,7 +1,7 @@
 use Rattle.std.proofs.Common.{◌==◌, option_map, sym, ap, ◌∙◌}
 use Rattle.std.specs.List.{find}
 use Rattle.visible_view.specs.Sights.{SeenRoom, Sight}
-use Rattle.visible_view.specs.Gathered.{shown_room, index_in}
+use Rattle.visible_view.specs.inner.Gathered.{shown_room, index_in}
 use Rattle.visible_view.specs.declared.gather.RoomInView.{RoomInView}
 use Rattle.visible_view.proofs.Told.{room_told}
 use Rattle.visible_view.proofs.view.View.name.Goals as goal

@@ -1,0 +1,13 @@
+use Rattle.std.proofs.Common.{◌≡◌, ◌≤◌, ◌++◌, length, map}
+use Rattle.std.specs.List.{count_by, list_any}
+use Rattle.visible_view.specs.Sights.{gives_sight}
+use Rattle.visible_view.specs.inner.Gathered.{is_site_of}
+use Rattle.visible_view.proofs.gather.tally_objects.Given as goal
+
+abbrev pub invariant-loop-object : goal.invariant-loop-object
+invariant-loop-object l = record {
+  rest : map (λ object. object.now) l.yielded ++ l.object-iterator ≡ l.fn.objects;
+  seen : l.found.is_seen ≡ list_any (gives_sight l.player) (map (λ object. object.now) l.yielded);
+  few : l.found.sites ≤ length l.yielded;
+  sites : l.found.sites ≡ count_by (is_site_of l.player) (map (λ object. object.now) l.yielded);
+}

@@ -1,0 +1,116 @@
+-- What is gathered of the stored rooms for a player, room by room. For private clauses.
+use Rattle.std.specs.Prelude.{◌≡◌, ℕ, suc, ◌+◌, ◌^◌, ◌<◌, ◌==◌, ◌&&◌, Bool, true, false, if◌then◌else◌, List, [], ◌∷◌, ◌++◌, length, map, slice_index_or, Option, option_map, option_and_then}
+use Rattle.std.specs.List.{AllByRecursion, count_by, find, list_any, sum_by}
+use Rattle.object_store.specs.declared.object.Object.{Object}
+use Rattle.object_store.specs.declared.standing.Standing.{Standing}
+use Rattle.object_store.specs.declared.world.Room.{Room}
+use Rattle.object_store.specs.Controllers.{controller_among}
+use Rattle.game_tables.specs.Kinds.{is_controller, is_site}
+use Rattle.world_rules.specs.World.{Placed, shown}
+use Rattle.world_roster.specs.Rosters.{id_in}
+use Rattle.visible_view.specs.Sights.{SeenRoom, gives_sight}
+use Rattle.visible_view.specs.declared.gather.RoomInView.{RoomInView}
+use Rattle.visible_view.specs.declared.gather.Gathered.{Gathered}
+use Rattle.object_store.proofs.Rising.{Rises}
+
+-- ---- what is kept of a room
+
+abbrev pub shown_room : RoomInView → SeenRoom
+shown_room room = record { index = room.index; name = room.room.now.name; grounds = room.room.now.terrain }
+
+abbrev pub controller_in : RoomInView → Option Object
+controller_in room = option_map (λ object. object.now) room.controller
+
+abbrev pub index_in : RoomInView → ℕ
+index_in room = room.index
+
+-- ---- what is seen of stored rooms
+
+-- The player sees this room.
+abbrev pub is_seen : ℕ → Room → Bool
+is_seen player room = list_any (gives_sight player) room.table.objects
+
+-- It is a site of the player.
+abbrev pub is_site_of : ℕ → Object → Bool
+is_site_of player object = is_site object.kind && (object.owner == player)
+
+-- the objects of a room
+abbrev pub placed_at : ℕ → List Object → List Placed
+placed_at index objects = map (λ object. record { room = index; object = object }) objects
+
+-- what is taken of rooms, from an index on
+abbrev pub from_each : {A : Type 0} → (ℕ → Room → List A) → ℕ → List Room → List A
+from_each taken index [] = []
+from_each taken index (room ∷ rooms) = taken index room ++ from_each taken (suc index) rooms
+
+-- the objects of a room that is seen
+abbrev pub objects_if_seen : ℕ → ℕ → Room → List Placed
+objects_if_seen player index room = if is_seen player room then placed_at index room.table.objects else []
+
+-- a room that is seen
+abbrev pub room_if_seen : ℕ → ℕ → Room → List SeenRoom
+room_if_seen player index room =
+    if is_seen player room then record { index = index; name = room.name; grounds = room.terrain } ∷ []
+    else []
+
+-- the player's sites in a room
+abbrev pub sites_at : ℕ → Room → ℕ
+sites_at player room = count_by (is_site_of player) room.table.objects
+
+-- It is a controller in the room of this index.
+abbrev pub is_controller_at : ℕ → Placed → Bool
+is_controller_at index placed = (placed.room == index) && is_controller placed.object.kind
+
+-- the controller of a room, as it is kept with the room
+abbrev pub kept_controller : ℕ → List RoomInView → Option Object
+kept_controller index rooms = option_and_then controller_in (find (λ room. room.index == index) rooms)
+
+-- The controllers that are kept with the rooms are those among the objects.
+abbrev pub HaveControllers : List RoomInView → List Placed → Type 0
+HaveControllers rooms objects =
+    (index : ℕ) → option_map (λ placed. placed.object) (find (is_controller_at index) objects)
+    ≡ kept_controller index rooms
+
+-- The object's room is one of those that are flagged, by their indices.
+abbrev pub is_flagged : List Bool → Standing → Bool
+is_flagged flags standing = slice_index_or flags standing.room false
+
+-- ---- room by room
+
+-- One more room is kept, with its controller.
+pub record KeepsRoom (index : ℕ) (room : Room) (old new : List RoomInView) : Type 0 where
+  pub kept : RoomInView
+  pub last : new ≡ old ++ kept ∷ []
+  pub place : kept.index ≡ index
+  pub stored : kept.room.now ≡ room
+  pub controller : controller_in kept ≡ controller_among room.table.objects
+
+abbrev pub KeepsRoomIf : Bool → ℕ → Room → List RoomInView → List RoomInView → Type 0
+KeepsRoomIf true index room old new = KeepsRoom index room old new
+KeepsRoomIf false index room old new = new ≡ old
+
+-- A room is added to what is gathered.
+pub record IsAdded (player index : ℕ) (room : Room) (old new : Gathered) : Type 0 where
+  pub rooms : KeepsRoomIf (is_seen player room) index room old.rooms.items new.rooms.items
+  pub flags : new.flags.items ≡ old.flags.items ++ is_seen player room ∷ []
+  pub sites : new.sites ≡ old.sites + sites_at player room
+
+-- All that is seen of these rooms is gathered.
+pub record IsGathered (player : ℕ) (rooms : List Room) (gathered : Gathered) : Type 0 where
+  pub shown : map shown_room gathered.rooms.items ≡ from_each (room_if_seen player) 0 rooms
+  pub flags : gathered.flags.items ≡ map (is_seen player) rooms
+  pub sites : gathered.sites ≡ sum_by (sites_at player) rooms
+  pub rising : Rises index_in gathered.rooms.items
+  pub below : AllByRecursion (λ room. room.index < length rooms) gathered.rooms.items
+  pub controllers : HaveControllers gathered.rooms.items (from_each (objects_if_seen player) 0 rooms)
+
+-- ---- what a view keeps
+
+-- The rooms rise by their index and the objects by their id, their numbers fit, and the controllers of the
+-- rooms are kept with them.
+pub record IsKept (rooms : List RoomInView) (objects : List Standing) : Type 0 where
+  pub places : Rises index_in rooms
+  pub ids : Rises id_in objects
+  pub few_rooms : length rooms < 2 ^ 32
+  pub few_objects : length objects < 2 ^ 32
+  pub controllers : HaveControllers rooms (map shown objects)
