@@ -4,10 +4,10 @@ use Rattle.std.specs.Prelude.{option_map, slice_get}
 use Rattle.wasm_module.specs.declared.types.ValType.{ValType}
 use Rattle.wasm_module.specs.declared.host_sig.HostSig.{HostSig}
 use Rattle.host_calls.specs.declared.call.Call.{Call}
-use Rattle.host_calls.specs.Calls.{AreSignatures, call_params}
+use Rattle.host_calls.specs.Calls.{AreSignatures, row}
 
 pub arguments_at : (sigs : List HostSig) (calls : List Call) → AreSignatures sigs calls → (number : ℕ)
-    → option_map (λ sig. length sig.params.now) (slice_get sigs number) ≡ option_map (λ call. length (call_params call)) (slice_get calls number)
+    → option_map (λ sig. length sig.params.now) (slice_get sigs number) ≡ option_map (λ call. length (row call).params) (slice_get calls number)
 arguments_at [] [] a zero = refl
 arguments_at [] [] a (suc number) = refl
 arguments_at [] (of ∷ calls) a number = absurd a

@@ -1,4 +1,6 @@
+pub mod Agreeing
 pub mod Arguments
 pub mod Levels
 pub mod Replying
+pub mod SeenStands
 pub mod Wanting

@@ -1,19 +1,21 @@
 -- A reply keeps the size of the module's memory, and where its answer is not 0 it changes nothing.
 use Rattle.std.proofs.Common.{◌≡◌, ◌≢◌, ℕ, ℤ, pos, ◌+◌, ◌≤◌, List, length, Option, Some, None, refl, arith, length-append, length-drop}
-use Rattle.std.specs.Prelude.{Bool, ◌&&◌, nat_eq, nat_le}
+use Rattle.std.specs.Prelude.{◌&&◌, nat_eq, nat_le}
 use Rattle.std.proofs.lemmas.Bool.{cond_both, leb-true}
 use Rattle.std.proofs.lemmas.List.{length-take}
 use Rattle.game_tables.specs.Codes.{code_number}
-use Rattle.game_tables.specs.Limits.{memory_bound}
+use Rattle.game_tables.specs.Limits.{most_memory}
+use Rattle.game_tables.specs.declared.action.Action.{Action}
+use Rattle.game_tables.specs.declared.action.Action.TheVariants.{DropLoad}
 use Rattle.game_tables.specs.declared.code.Code.{Code}
 use Rattle.game_tables.specs.declared.code.Code.TheVariants.{Done, InvalidArgs}
 use Rattle.intent_book.specs.declared.intent.Intent.{Intent}
 use Rattle.wasm_store.specs.Memory.{Memory, span, written}
 use Rattle.host_calls.specs.declared.call.Call.{Call}
 use Rattle.host_calls.specs.declared.call.Call.TheVariants as call
-use Rattle.host_calls.specs.Calls.{call_at, call_params}
+use Rattle.host_calls.specs.Calls.{call_at, row}
 use Rattle.host_calls.specs.Desks.{Desk, argument, unsigned_32}
-use Rattle.host_calls.specs.Replies.{Reply, drop_checks, drop_intent, fits, read_reply, reply, reply_of, reply_to, seen_object, told, wanted, wish_code, wish_reply, write_reply}
+use Rattle.host_calls.specs.Replies.{Reply, act_code, act_reply, fits, read_reply, reply, reply_of, reply_to, told, wanted, wish_of, write_reply}
 
 -- The memory behind a reply has the size and the limit of that before it.
 abbrev pub KeepsSize : Memory → Reply → Type 0
@@ -26,8 +28,8 @@ wanted_size : (desk : Desk) (memory : Memory) (intent : Intent) (code : Code) �
 wanted_size desk memory intent Done = (refl, refl)
 wanted_size desk memory intent _ = (refl, refl)
 
-wish_size : (desk : Desk) (memory : Memory) (intent : Intent) (checks : List (Bool × Code)) → KeepsSize memory (wish_reply desk memory intent checks)
-wish_size desk memory intent checks = wanted_size desk memory intent (wish_code desk intent checks)
+act_size : (action : Action) (desk : Desk) (memory : Memory) (id target amount : ℤ) → KeepsSize memory (act_reply action desk memory id target amount)
+act_size action desk memory id target amount = wanted_size desk memory (wish_of action desk.sight.account.player id target amount) (act_code action desk id target amount)
 
 reply_of_size : (found : Call) (desk : Desk) (memory : Memory) (args : List ℤ) → KeepsSize memory (reply_of found desk memory args)
 reply_of_size call.MemoryRead desk memory args =
@@ -36,13 +38,13 @@ reply_of_size call.MemoryRead desk memory args =
 reply_of_size call.MemoryWrite desk memory args =
     cond_both _ _ _ (KeepsSize memory) (λ _. (refl, refl)) (λ _. (refl, refl))
 reply_of_size call.DropLoad desk memory args =
-    wish_size desk memory (drop_intent desk.sight.account.player (argument args 0) (argument args 1)) (drop_checks desk.sight.account.player (seen_object desk.sight (argument args 0)) (argument args 1))
+    act_size DropLoad desk memory (argument args 0) (pos 0) (argument args 1)
 reply_of_size _ desk memory args = (refl, refl)
 
 reply_to_size : (found : Option Call) (desk : Desk) (memory : Memory) (args : List ℤ) → KeepsSize memory (reply_to found desk memory args)
 reply_to_size None desk memory args = (refl, refl)
 reply_to_size (Some found) desk memory args =
-    cond_both (nat_eq (length args) (length (call_params found))) _ _ (KeepsSize memory) (λ _. reply_of_size found desk memory args) (λ _. (refl, refl))
+    cond_both (nat_eq (length args) (length (row found).params)) _ _ (KeepsSize memory) (λ _. reply_of_size found desk memory args) (λ _. (refl, refl))
 
 pub reply_size : (number : ℕ) (desk : Desk) (memory : Memory) (args : List ℤ) → KeepsSize memory (reply number desk memory args)
 reply_size number desk memory args = reply_to_size (call_at number) desk memory args
@@ -69,26 +71,26 @@ write_unchanged : (desk : Desk) (memory : Memory) (at n : ℕ) → ChangesOnlyAt
 write_unchanged desk memory at n =
     let changed : Reply = record { answer = pos 0; desk = record desk { memory = span memory at n }; memory = memory } in
     let refused : Reply = told desk memory (code_number InvalidArgs) in
-    cond_both (nat_le n memory_bound && fits memory at n) changed refused (ChangesOnlyAt0 desk memory) (λ _. answers_0 desk memory changed refl) (λ _. told_unchanged desk memory (code_number InvalidArgs))
+    cond_both (nat_le n most_memory && fits memory at n) changed refused (ChangesOnlyAt0 desk memory) (λ _. answers_0 desk memory changed refl) (λ _. told_unchanged desk memory (code_number InvalidArgs))
 
 wanted_unchanged : (desk : Desk) (memory : Memory) (intent : Intent) (code : Code) → ChangesOnlyAt0 desk memory (wanted desk memory intent code)
 wanted_unchanged desk memory intent Done = answers_0 desk memory (wanted desk memory intent Done) refl
 wanted_unchanged desk memory intent code = told_unchanged desk memory (code_number code)
 
-wish_unchanged : (desk : Desk) (memory : Memory) (intent : Intent) (checks : List (Bool × Code)) → ChangesOnlyAt0 desk memory (wish_reply desk memory intent checks)
-wish_unchanged desk memory intent checks = wanted_unchanged desk memory intent (wish_code desk intent checks)
+act_unchanged : (action : Action) (desk : Desk) (memory : Memory) (id target amount : ℤ) → ChangesOnlyAt0 desk memory (act_reply action desk memory id target amount)
+act_unchanged action desk memory id target amount = wanted_unchanged desk memory (wish_of action desk.sight.account.player id target amount) (act_code action desk id target amount)
 
 reply_of_unchanged : (found : Call) (desk : Desk) (memory : Memory) (args : List ℤ) → ChangesOnlyAt0 desk memory (reply_of found desk memory args)
 reply_of_unchanged call.MemoryRead desk memory args = read_unchanged desk memory (unsigned_32 (argument args 0))
 reply_of_unchanged call.MemoryWrite desk memory args = write_unchanged desk memory (unsigned_32 (argument args 0)) (unsigned_32 (argument args 1))
 reply_of_unchanged call.DropLoad desk memory args =
-    wish_unchanged desk memory (drop_intent desk.sight.account.player (argument args 0) (argument args 1)) (drop_checks desk.sight.account.player (seen_object desk.sight (argument args 0)) (argument args 1))
+    act_unchanged DropLoad desk memory (argument args 0) (pos 0) (argument args 1)
 reply_of_unchanged _ desk memory args = λ _. (refl, refl)
 
 reply_to_unchanged : (found : Option Call) (desk : Desk) (memory : Memory) (args : List ℤ) → ChangesOnlyAt0 desk memory (reply_to found desk memory args)
 reply_to_unchanged None desk memory args = told_unchanged desk memory (code_number InvalidArgs)
 reply_to_unchanged (Some found) desk memory args =
-    cond_both (nat_eq (length args) (length (call_params found))) (reply_of found desk memory args) (told desk memory (code_number InvalidArgs)) (ChangesOnlyAt0 desk memory)
+    cond_both (nat_eq (length args) (length (row found).params)) (reply_of found desk memory args) (told desk memory (code_number InvalidArgs)) (ChangesOnlyAt0 desk memory)
     (λ _. reply_of_unchanged found desk memory args) (λ _. told_unchanged desk memory (code_number InvalidArgs))
 
 pub reply_unchanged : (number : ℕ) (desk : Desk) (memory : Memory) (args : List ℤ) → ChangesOnlyAt0 desk memory (reply number desk memory args)

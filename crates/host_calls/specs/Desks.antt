@@ -2,7 +2,7 @@
 use Rattle.std.specs.Prelude.{ℕ, suc, zero, ◌+◌, ◌*◌, ◌%◌, ◌^◌, min, ℤ, pos, negsuc, nat_le, if◌then◌else◌, List, [], slice_get, Option, Some, None}
 use Rattle.std.specs.Option.{unwrap_or}
 use Rattle.std.specs.Int.{cast_signed, cast_unsigned, w32, w64}
-use Rattle.game_tables.specs.Limits.{limit_bound}
+use Rattle.game_tables.specs.Limits.{most_limit}
 use Rattle.object_store.specs.declared.account.Account.{Account}
 use Rattle.visible_view.specs.Sights.{Sight}
 use Rattle.intent_book.specs.Records.{Record}
@@ -15,20 +15,27 @@ pub record Desk : Type 0 where
 
 -- the desk of a player before his run: nothing is recorded yet, and the memory text is his account's
 abbrev pub desk_of : Sight → Desk
-desk_of sight = record { sight = sight; book = record { player = sight.account.player; entries = [] }; memory = sight.account.memory }
+desk_of sight =
+    record {
+      sight = sight;
+      book = record { player = sight.account.player; entries = [] };
+      memory = sight.account.memory;
+    }
 
 -- ---- numbers of the player
 
 -- the CPU units that the player may use in this tick
 abbrev pub allowance : Account → ℕ
-allowance account = min limit_bound (account.limit + account.bucket)
+allowance account = min most_limit (account.limit + account.bucket)
 
 -- the greatest number, not above the bound, of which a million times the square is at most the points
 abbrev pub greatest_root : ℕ → ℕ → ℕ
 greatest_root zero points = zero
-greatest_root (suc bound) points = if nat_le (1000000 * (suc bound * suc bound)) points then suc bound else greatest_root bound points
+greatest_root (suc bound) points =
+    if nat_le (1000000 * (suc bound * suc bound)) points then suc bound else greatest_root bound points
 
--- the global level: the greatest of which a million times the square of the number before it is at most the points
+-- the global level: the greatest of which a million times the square of the number before it is at most the
+-- points
 abbrev pub global_level : ℕ → ℕ
 global_level points = suc (greatest_root points points)
 

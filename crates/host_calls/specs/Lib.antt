@@ -1,4 +1,5 @@
 pub mod Calls
 pub mod Desks
 pub mod Replies
-pub mod Wishes
+pub mod Agreement
+pub mod inner

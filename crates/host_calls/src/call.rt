@@ -1,6 +1,6 @@
 // The calls by their names.
 ghost use Rattle.std.specs.Prelude.{◌≡◌};
-ghost use Rattle.host_calls.specs.Calls.{call_at};
+ghost use Rattle.host_calls.specs.Calls.{all_calls, call_at};
 
 /// A call of a module to its host, in the order of their numbers from 0 on.
 #[derive(Clone, Copy, Debug, PartialEq, Eq)]
@@ -24,30 +24,38 @@ pub enum Call {
     DropLoad,
 }
 
+static CALLS: [Call; 17] = [
+    Call::Tick,
+    Call::Me,
+    Call::Allowance,
+    Call::Bucket,
+    Call::Points,
+    Call::Level,
+    Call::Rooms,
+    Call::Room,
+    Call::RoomName,
+    Call::Terrain,
+    Call::Count,
+    Call::Find,
+    Call::Get,
+    Call::MemoryLength,
+    Call::MemoryRead,
+    Call::MemoryWrite,
+    Call::DropLoad,
+];
+
 impl Call {
     /// The call of a number, and none past the last.
     pub fn of_number(number: u32) -> Option<Call>
         ensures { result ≡ call_at number }
     {
-        match number {
-            0 => Some(Call::Tick),
-            1 => Some(Call::Me),
-            2 => Some(Call::Allowance),
-            3 => Some(Call::Bucket),
-            4 => Some(Call::Points),
-            5 => Some(Call::Level),
-            6 => Some(Call::Rooms),
-            7 => Some(Call::Room),
-            8 => Some(Call::RoomName),
-            9 => Some(Call::Terrain),
-            10 => Some(Call::Count),
-            11 => Some(Call::Find),
-            12 => Some(Call::Get),
-            13 => Some(Call::MemoryLength),
-            14 => Some(Call::MemoryRead),
-            15 => Some(Call::MemoryWrite),
-            16 => Some(Call::DropLoad),
-            _ => None,
-        }
+        calls().get(number as usize).copied()
     }
+}
+
+// All calls, each at its number.
+fn calls() -> &'static [Call]
+    ensures { result.now ≡ all_calls }
+{
+    &CALLS
 }

@@ -1,16 +1,18 @@
 // The desk that answers the calls of a player's module.
 ghost use Rattle.std.specs.Prelude.{◌≡◌, ◌≤◌, [], length, IfOk};
+ghost use Rattle.world_rules.specs.Checks.{first_failing as failing};
 ghost use Rattle.game_tables.specs.Codes.{code_number};
-ghost use Rattle.game_tables.specs.Limits.{memory_bound};
-ghost use Rattle.host_calls.specs.Replies.{answers, drop_checks, drop_intent, or_code as or_else, read_reply, reply, reply_of, seen_object, wish_code, write_reply};
-ghost use Rattle.host_calls.specs.Wishes.{desk_after, named, outcome, recorded};
+ghost use Rattle.game_tables.specs.Limits.{most_memory};
+ghost use Rattle.host_calls.specs.Replies.{act_code, answers, or_code as or_else, read_reply, record_checks, reply, reply_of, wish_of as wanted, write_reply};
+ghost use Rattle.host_calls.specs.inner.Wishes.{named, recorded};
 
 use crate::call::Call;
 use crate::number::{answer_of, argument, level_of, name_number, unsigned_32};
-use crate::seen::{allowance, field, ground, object, place, room_index, room_name};
+use crate::seen::{allowance, field, ground, place, room_index, room_name};
 use crate::signatures::parameters;
-use crate::wish::to_drop;
-use game_tables::{Code, most_memory};
+use crate::wish::{scene_seen, wish_of};
+use action_checks::first_failing;
+use game_tables::{Action, Code, most_memory};
 use intent_book::{Intent, Recorded};
 use object_store::{Bytes, RoomName};
 pub use std::alloc::AllocError as NoMemory;
@@ -37,14 +39,16 @@ pub struct Desk<'a, 'v> {
 
 impl<'a, 'v> Model for Desk<'a, 'v> {
     ghost use Rattle.std.specs.Prelude.{◌≡◌, ◌≤◌, length, vec_capacity};
-    ghost use Rattle.game_tables.specs.Limits.{memory_bound};
+    ghost use Rattle.game_tables.specs.Limits.{most_memory};
     ghost use Rattle.host_calls.specs.Desks.{Desk, global_level};
 
     ghost Value = { Desk };
 
     ghost view = { λ d. record { sight = d.view.now; book = d.book; memory = d.memory.items } };
 
-    ghost invariant = { λ d. (d.book.player ≡ d.view.now.account.player) × (d.level ≡ global_level d.view.now.account.points) × (length d.memory.items ≤ memory_bound) × (memory_bound ≤ vec_capacity d.memory) };
+    ghost invariant = { λ d. (d.book.player ≡ d.view.now.account.player)
+        × (d.level ≡ global_level d.view.now.account.points) × (length d.memory.items ≤ most_memory)
+        × (most_memory ≤ vec_capacity d.memory) };
 }
 
 impl<'a, 'v> Desk<'a, 'v> {
@@ -56,8 +60,13 @@ impl<'a, 'v> Desk<'a, 'v> {
         memory: &[u8],
     ) -> Result<Desk<'a, 'v>, NoMemory>
         requires own { player ≡ view.now.account.player }
-        requires memory { length memory.now ≤ memory_bound }
-        ensures { IfOk result (λ desk. desk ≡ record { sight = view.now; book = record { player = player; entries = [] }; memory = memory.now }) }
+        requires memory { length memory.now ≤ most_memory }
+        ensures { IfOk result
+            (λ desk. desk ≡ record {
+              sight = view.now;
+              book = record { player = player; entries = [] };
+              memory = memory.now;
+            }) }
     {
         let mut text = Vec::with_capacity(alloc, most_memory() as usize)?;
         text.extend_from_slice(memory)?;
@@ -71,7 +80,8 @@ impl<'a, 'v> Desk<'a, 'v> {
 
     /// Answers the call of a number. It takes no memory.
     pub fn answer(&mut self, call: u32, args: &[i64], pages: &mut Pages) -> i64
-        ensures { record { answer = result; desk = self.new; memory = pages.new } ≡ reply call self.old pages.old args.now }
+        ensures { record { answer = result; desk = self.new; memory = pages.new }
+            ≡ reply call self.old pages.old args.now }
     {
         match Call::of_number(call) {
             Some(found) if parameters(call) == Some(args.len()) => self.reply(found, args, pages),
@@ -83,7 +93,7 @@ impl<'a, 'v> Desk<'a, 'v> {
     pub fn finish(self) -> (Recorded, Bytes)
         ensures book { result.0 ≡ self.entry.book }
         ensures memory { result.1 ≡ self.entry.memory }
-        ensures most { length result.1 ≤ memory_bound }
+        ensures most { length result.1 ≤ most_memory }
     {
         let Desk {
             view: _,
@@ -96,7 +106,8 @@ impl<'a, 'v> Desk<'a, 'v> {
 
     // Answers a call with as many arguments as its type has.
     fn reply(&mut self, call: Call, args: &[i64], pages: &mut Pages) -> i64
-        ensures { record { answer = result; desk = self.new; memory = pages.new } ≡ reply_of call self.old pages.old args.now }
+        ensures { record { answer = result; desk = self.new; memory = pages.new }
+            ≡ reply_of call self.old pages.old args.now }
     {
         let (first, second, third) = (argument(args, 0), argument(args, 1), argument(args, 2));
         match call {
@@ -118,13 +129,14 @@ impl<'a, 'v> Desk<'a, 'v> {
             Call::MemoryWrite => {
                 told(self.memory_write(unsigned_32(first), unsigned_32(second), pages))
             }
-            Call::DropLoad => told(self.drop_load(first, second)),
+            Call::DropLoad => told(self.act(Action::DropLoad, first, 0, second)),
         }
     }
 
     // Copies the memory text to an address.
     fn memory_read(&self, at: u64, pages: &mut Pages) -> Code
-        ensures { record { answer = code_number result; desk = self.now; memory = pages.new } ≡ read_reply self.now pages.old at }
+        ensures { record { answer = code_number result; desk = self.now; memory = pages.new }
+            ≡ read_reply self.now pages.old at }
     {
         if pages.write_span(at, &self.memory) {
             Code::Done
@@ -135,7 +147,8 @@ impl<'a, 'v> Desk<'a, 'v> {
 
     // Makes the bytes of a span the memory text.
     fn memory_write(&mut self, at: u64, len: u64, pages: &Pages) -> Code
-        ensures { record { answer = code_number result; desk = self.new; memory = pages.now } ≡ write_reply self.old pages.now at len }
+        ensures { record { answer = code_number result; desk = self.new; memory = pages.now }
+            ≡ write_reply self.old pages.now at len }
     {
         if len > u64::from(most_memory()) {
             return Code::InvalidArgs;
@@ -148,32 +161,32 @@ impl<'a, 'v> Desk<'a, 'v> {
         Code::Done
     }
 
-    // Records what a call wants. Where the call was refused or the record is full nothing is changed.
-    pub(crate) fn record(&mut self, wish: Result<Intent, Code>) -> Code
-        requires own { IfOk wish (λ intent. intent.player ≡ self.old.book.player) }
-        ensures code { result ≡ outcome self.old wish }
-        ensures desk { self.new ≡ desk_after self.old wish result }
+    // Records what a call wants. Where the record is full nothing is changed.
+    pub(crate) fn record(&mut self, intent: Intent) -> Code
+        requires own { intent.player ≡ self.old.book.player }
+        ensures code { result ≡ failing (record_checks self.old intent) }
+        ensures desk { self.new ≡ recorded self.old intent result }
     {
-        match wish {
-            Ok(intent) => {
-                if self.book.put(intent) {
-                    Code::Done
-                } else {
-                    Code::Full
-                }
-            }
-            Err(code) => code,
+        if self.book.put(intent) {
+            Code::Done
+        } else {
+            Code::Full
         }
     }
 
-    // Drops energy of a creep.
-    fn drop_load(&mut self, id: i64, amount: i64) -> Code
-        ensures code { result ≡ wish_code self.old (drop_intent self.old.sight.account.player id amount) (drop_checks self.old.sight.account.player (seen_object self.old.sight id) amount) }
-        ensures desk { self.new ≡ recorded self.old (drop_intent self.old.sight.account.player id amount) result }
+    // Wants an action of a creep, where its checks hold of what is seen.
+    pub(crate) fn act(&mut self, action: Action, id: i64, target: i64, amount: i64) -> Code
+        ensures code { result ≡ act_code action self.old id target amount }
+        ensures desk { self.new
+            ≡ recorded self.old (wanted action self.old.sight.account.player id target amount) result }
     {
-        let player = self.view.account().player;
-        let found = object(self.view, id);
-        self.record(to_drop(player, found, id, amount))
+        match first_failing(action, &scene_seen(self.view, id, target, amount)) {
+            Code::Done => {
+                let player = self.view.account().player;
+                self.record(wish_of(action, player, id, target, amount))
+            }
+            code => code,
+        }
     }
 }
 

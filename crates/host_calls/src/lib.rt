@@ -13,6 +13,6 @@ mod wish;
 
 pub use call::Call;
 pub use desk::{Desk, NoMemory};
-pub use laws::desks_answer_once;
+pub use laws::{calls_agree_with_rules, desks_answer_once};
 pub use seen::allowance;
 pub use signatures::{host_sigs, parameters};

@@ -1,6 +1,6 @@
 // The signatures of the calls.
 ghost use Rattle.std.specs.Prelude.{◌≡◌, length, option_map};
-ghost use Rattle.host_calls.specs.Calls.{AreSignatures, all_calls, call_at, call_params};
+ghost use Rattle.host_calls.specs.Calls.{AreSignatures, all_calls, call_at, row};
 
 use wasm_module::{HostSig, ValType};
 
@@ -101,7 +101,7 @@ pub fn host_sigs() -> &'static [HostSig]
 
 /// How many arguments the call of a number has, and none past the last.
 pub fn parameters(number: u32) -> Option<usize>
-    ensures { result ≡ option_map (λ call. length (call_params call)) (call_at number) }
+    ensures { result ≡ option_map (λ call. length (row call).params) (call_at number) }
 {
     match host_sigs().get(number as usize) {
         Some(sig) => Some(sig.params.len()),

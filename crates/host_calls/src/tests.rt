@@ -5,10 +5,10 @@ ghost use Rattle.object_store.specs.declared.account.Account.{Account as StoredA
 use crate::number::{
     answer_of, argument, id_of, index_32, level_of, name_number, signed_32, unsigned_32,
 };
-use crate::wish::to_drop;
+use crate::wish::wish_of;
 use crate::{Call, Desk, allowance, host_sigs, parameters};
-use game_tables::{Action, Body, Code};
-use object_store::{Account, Bytes, Kind, Object, RoomName, World};
+use game_tables::{Action, Code};
+use object_store::{Account, Bytes, RoomName, World};
 use std::alloc::{AllocError, Global};
 use std::process::Abort;
 use std::test::Fail;
@@ -127,52 +127,11 @@ fn an_allowance_is_at_most_500_units(rt: HostRuntime) {
     }
 }
 
-fn thing(kind: Kind, owner: u32, energy: u64) -> Object {
-    Object {
-        id: 7,
-        kind,
-        x: 20,
-        y: 20,
-        owner,
-        hits: 100,
-        energy,
-        timer: 0,
-        extra: 0,
-        progress: 0,
-        other: 0,
-        other_ticks: 0,
-        body: Body::new(),
-    }
-}
-
-#[test]
-fn a_drop_is_refused_by_its_first_check(rt: HostRuntime) {
-    let creep = thing(Kind::Creep, 1, 5);
-    let empty = thing(Kind::Creep, 1, 0);
-    let strange = thing(Kind::Creep, 2, 5);
-    let storage = thing(Kind::Storage, 2, 5);
-    let rows = [
-        (None, -1, Err(Code::NotFound)),
-        (Some(&storage), 1, Err(Code::NotFound)),
-        (Some(&strange), 1, Err(Code::NotOwner)),
-        (Some(&strange), -1, Err(Code::NotOwner)),
-        (Some(&creep), -1, Err(Code::InvalidArgs)),
-        (Some(&empty), -1, Err(Code::InvalidArgs)),
-        (Some(&empty), 0, Err(Code::NotEnoughResources)),
-        (Some(&creep), 6, Err(Code::NotEnoughResources)),
-        (Some(&creep), 0, Ok(0)),
-        (Some(&creep), 1, Ok(1)),
-        (Some(&creep), 5, Ok(5)),
-    ];
-    for (found, amount, wanted) in rows {
-        let wish = to_drop(1, found, 7, amount);
-        assert_eq!(rt; wish.map(|intent| intent.amount), wanted);
-    }
-}
-
 // The world at tick 7 with the account of player 1, and no room.
 fn lone_world(alloc: Global) -> Result<World, AllocError>
-    ensures { IfOk result (λ world. (account : StoredAccount) × (world ≡ record { tick = 7; rooms = []; accounts = account ∷ [] }) × (account.player ≡ 1)) }
+    ensures { IfOk result
+        (λ world. (account : StoredAccount)
+        × (world ≡ record { tick = 7; rooms = []; accounts = account ∷ [] }) × (account.player ≡ 1)) }
 {
     let mut world = World::empty(alloc, 7);
     world.push_account(Account {
@@ -270,13 +229,12 @@ fn check_longest_text(rt: &impl Abort, alloc: Global, view: &View) -> Result<(),
 
 fn check_record(rt: &impl Abort, alloc: Global, view: &View) -> Result<(), AllocError> {
     let player = view.account().player;
-    let creep = thing(Kind::Creep, player, 5);
     let mut desk = Desk::new(alloc, view, player, b"")?;
+    assert_eq!(rt; desk.act(Action::DropLoad, 7, 0, 5), Code::NotFound);
     assert_eq!(rt;
-        desk.record(to_drop(player, Some(&creep), 7, 5)),
+        desk.record(wish_of(Action::DropLoad, player, 7, 0, 5)),
         Code::Done
     );
-    assert_eq!(rt; desk.record(Err(Code::NotOwner)), Code::NotOwner);
     let (recorded, _) = desk.finish();
     assert_eq!(rt; recorded.len(), 1);
     let wanted = recorded

@@ -2,7 +2,7 @@
 use Rattle.std.proofs.Common.{◌≡◌, ℕ, ◌≤◌, List, map, length, sym, ap, subst, arith}
 use Rattle.std.specs.List.{AllByRecursion}
 use Rattle.std.proofs.lemmas.List.{length-map}
-use Rattle.game_tables.specs.Limits.{memory_bound}
+use Rattle.game_tables.specs.Limits.{most_memory}
 use Rattle.object_store.specs.declared.account.Account.{Account}
 use Rattle.object_store.specs.Stored.{Stored, AreRising}
 use Rattle.intent_book.specs.declared.player_run.PlayerRun.{PlayerRun}
@@ -30,7 +30,7 @@ next_of held world kept after uploads records runs next is sound judged ran rule
       ruled = ruled;
     })
 
-pub hosted_after : (world next : Stored) (gain : ℕ → ℕ) (runs : List PlayerRun) → IsHosted world → AllByRecursion (λ run. length run.memory ≤ memory_bound) runs → IsSound next → length next.rooms ≡ length world.rooms
+pub hosted_after : (world next : Stored) (gain : ℕ → ℕ) (runs : List PlayerRun) → IsHosted world → AllByRecursion (λ run. length run.memory ≤ most_memory) runs → IsSound next → length next.rooms ≡ length world.rooms
     → next.accounts ≡ map (λ (account : Account). account_after (gain account.player) account (run_of account.player runs)) world.accounts → IsHosted next
 hosted_after world next gain runs hosted short sound rooms accounts =
     let after : Account → Account = λ account. account_after (gain account.player) account (run_of account.player runs) in
@@ -42,5 +42,5 @@ hosted_after world next gain runs hosted short sound rooms accounts =
       sound = sound;
       rooms = omega (arith, few_rooms, rooms);
       players = omega (arith, few, many, same);
-      memories = subst (AllByRecursion (λ (account : Account). length account.memory ≤ memory_bound)) (sym accounts) (memories_after gain runs world.accounts short hosted.memories);
+      memories = subst (AllByRecursion (λ (account : Account). length account.memory ≤ most_memory)) (sym accounts) (memories_after gain runs world.accounts short hosted.memories);
     }

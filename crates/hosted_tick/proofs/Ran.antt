@@ -5,7 +5,7 @@ use Rattle.std.specs.Option.{IfSome}
 use Rattle.std.specs.FinMap.{get}
 use Rattle.std.proofs.lemmas.List.{take_more, take_all, append-nil}
 use Rattle.std.proofs.lemmas.List.Concat.{flat_map-append}
-use Rattle.game_tables.specs.Limits.{memory_bound, players_bound}
+use Rattle.game_tables.specs.Limits.{most_memory, most_players}
 use Rattle.object_store.specs.declared.account.Account.{Account}
 use Rattle.intent_book.specs.Records.{entries_bound}
 use Rattle.intent_book.specs.declared.intent.Intent.{Intent}
@@ -15,7 +15,7 @@ use Rattle.world_rules.specs.World.{World}
 use Rattle.visible_view.specs.Sights.{Sight, sight_of}
 use Rattle.player_run.specs.Emitted.{Emits}
 use Rattle.hosted_tick.specs.Next.{AreRuns, BeginWith, Modules}
-use Rattle.hosted_tick.specs.Adding.{Adds}
+use Rattle.hosted_tick.specs.inner.Adding.{Adds}
 use Rattle.hosted_tick.proofs.Found.{holds_if_found}
 
 begin_more : (bytes : Option (List ℕ)) (sight : Sight) (Others Further : List PlayerRun → Type 0) (more : List PlayerRun) → ((runs : List PlayerRun) → Others runs → Further (runs ++ more))
@@ -49,7 +49,7 @@ all_append P (x ∷ xs) ys all more = (all.0, all_append P xs ys all.1 more)
 pub record RunsSoFar (world : World) (modules : Modules) (accounts : List Account) (i : ℕ) (runs : List PlayerRun) : Type 0 where
   pub ran : AreRuns world modules (take i accounts) runs
   pub few : length (intents_of runs) ≤ entries_bound * i
-  pub short : AllByRecursion (λ run. length run.memory ≤ memory_bound) runs
+  pub short : AllByRecursion (λ run. length run.memory ≤ most_memory) runs
 
 intents_append : (runs more : List PlayerRun) → length (intents_of (runs ++ more)) ≡ length (intents_of runs) + length (intents_of more)
 intents_append runs more = ap length (flat_map-append (λ (run : PlayerRun). run.intents) runs more) ∙ length-append (intents_of runs) (intents_of more)
@@ -61,14 +61,14 @@ runs_more world modules accounts i account runs after within is so adds =
     record {
       ran = rw (front, adds.added) (runs_append world modules (take i accounts) (account ∷ []) adds.more adds.runs runs so.ran);
       few = (let so_few = so.few in let few = adds.few in let sum = ap (λ (r : List PlayerRun). length (intents_of r)) adds.added ∙ intents_append runs adds.more in omega (arith, so_few, few, sum));
-      short = rw adds.added (all_append (λ (run : PlayerRun). length run.memory ≤ memory_bound) runs adds.more so.short adds.short);
+      short = rw adds.added (all_append (λ (run : PlayerRun). length run.memory ≤ most_memory) runs adds.more so.short adds.short);
     }
 
 -- where all accounts are gone through
 pub runs_all : (world : World) (modules : Modules) (items accounts : List Account) (i : ℕ) (runs : List PlayerRun) → items ≡ accounts → length items ≤ i → RunsSoFar world modules items i runs → AreRuns world modules accounts runs
 runs_all world modules items accounts i runs same within so = subst (λ (list : List Account). AreRuns world modules list runs) (take_all i items within ∙ same) so.ran
 
-pub few_all : (world : World) (modules : Modules) (items accounts : List Account) (i : ℕ) (runs : List PlayerRun) → items ≡ accounts → i ≤ length items → length accounts ≤ players_bound → RunsSoFar world modules items i runs
+pub few_all : (world : World) (modules : Modules) (items accounts : List Account) (i : ℕ) (runs : List PlayerRun) → items ≡ accounts → i ≤ length items → length accounts ≤ most_players → RunsSoFar world modules items i runs
     → length (intents_of runs) ≤ 2 ^ 18
 few_all world modules items accounts i runs same within few so =
     let most = so.few in
@@ -80,12 +80,12 @@ few_one run few = subst (λ (intents : List Intent). length intents ≤ entries_
 
 -- ---- the accounts after the runs
 
-short_after : (gain : ℕ) (account : Account) (run : Option PlayerRun) → length account.memory ≤ memory_bound → IfSome run (λ r. length r.memory ≤ memory_bound) → length (account_after gain account run).memory ≤ memory_bound
+short_after : (gain : ℕ) (account : Account) (run : Option PlayerRun) → length account.memory ≤ most_memory → IfSome run (λ r. length r.memory ≤ most_memory) → length (account_after gain account run).memory ≤ most_memory
 short_after gain account None short left = short
 short_after gain account (Some run) short left = left
 
-pub memories_after : (gain : ℕ → ℕ) (runs : List PlayerRun) (accounts : List Account) → AllByRecursion (λ run. length run.memory ≤ memory_bound) runs → AllByRecursion (λ account. length account.memory ≤ memory_bound) accounts
-    → AllByRecursion (λ account. length account.memory ≤ memory_bound) (map (λ (account : Account). account_after (gain account.player) account (run_of account.player runs)) accounts)
+pub memories_after : (gain : ℕ → ℕ) (runs : List PlayerRun) (accounts : List Account) → AllByRecursion (λ run. length run.memory ≤ most_memory) runs → AllByRecursion (λ account. length account.memory ≤ most_memory) accounts
+    → AllByRecursion (λ account. length account.memory ≤ most_memory) (map (λ (account : Account). account_after (gain account.player) account (run_of account.player runs)) accounts)
 memories_after gain runs [] short all = tt
 memories_after gain runs (account ∷ accounts) short all =
-    (short_after (gain account.player) account (run_of account.player runs) all.0 (holds_if_found (λ (run : PlayerRun). length run.memory ≤ memory_bound) (λ run. run.player == account.player) runs short), memories_after gain runs accounts short all.1)
+    (short_after (gain account.player) account (run_of account.player runs) all.0 (holds_if_found (λ (run : PlayerRun). length run.memory ≤ most_memory) (λ run. run.player == account.player) runs short), memories_after gain runs accounts short all.1)

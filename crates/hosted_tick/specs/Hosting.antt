@@ -2,7 +2,7 @@
 use Rattle.std.specs.Prelude.{ℕ, ◌≤◌, List, length, map}
 use Rattle.std.specs.List.{AllByRecursion}
 use Rattle.std.specs.FinMap.{from_entries}
-use Rattle.game_tables.specs.Limits.{memory_bound, players_bound, rooms_bound}
+use Rattle.game_tables.specs.Limits.{most_memory, most_players, most_rooms}
 use Rattle.object_store.specs.Stored.{Stored}
 use Rattle.world_rules.specs.Sound.{IsSound}
 use Rattle.world_rules.specs.World.{world_of}
@@ -23,9 +23,9 @@ state_of held = record { world = world_of held.world; modules = from_entries hel
 -- The world is sound, and there are no more rooms, players and bytes of a memory text than may be.
 pub record IsHosted (world : Stored) : Type 0 where
   pub sound : IsSound world
-  pub rooms : length world.rooms ≤ rooms_bound
-  pub players : length world.accounts ≤ players_bound
-  pub memories : AllByRecursion (λ account. length account.memory ≤ memory_bound) world.accounts
+  pub rooms : length world.rooms ≤ most_rooms
+  pub players : length world.accounts ≤ most_players
+  pub memories : AllByRecursion (λ account. length account.memory ≤ most_memory) world.accounts
 
 -- ---- modules as they are kept: by player, each with its bytes and as it was linked
 

@@ -1,3 +1,3 @@
 pub mod Next
 pub mod Hosting
-pub mod Adding
+pub mod inner

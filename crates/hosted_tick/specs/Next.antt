@@ -1,4 +1,5 @@
--- One tick of a world with players: the uploads are judged, each player with a module runs it on what he sees of the world as it stands, and what the runs want is ruled.
+-- One tick of a world with players: the uploads are judged, each player with a module runs it on what he sees
+-- of the world as it stands, and what the runs want is ruled.
 use Rattle.std.specs.Prelude.{◌≡◌, ℕ, nat_le, if◌then◌else◌, List, [], ◌∷◌, length, map, Option, Some, None}
 use Rattle.std.specs.Ordering.{nat_cmp}
 use Rattle.std.specs.FinMap.{FinMap, get, insert, entries}
@@ -27,7 +28,8 @@ pub record State : Type 0 where
 
 -- ---- uploads
 
--- What becomes of an upload: nobody has an account of its player; or somebody has, and its bytes are refused, or accepted.
+-- What becomes of an upload: nobody has an account of its player; or somebody has, and its bytes are refused,
+-- or accepted.
 abbrev pub IsResult : World → Upload → Option Refusal → Type 0
 IsResult world upload None = IsPlayer world upload.player × IsAccepted upload.bytes
 IsResult world upload (Some UnknownPlayer) = ¬ IsPlayer world upload.player
@@ -55,20 +57,25 @@ entry_of upload result = record {
 abbrev pub AreJudged : World → Modules → List Upload → Modules → List UploadEntry → Type 0
 AreJudged world modules [] after records = (after ≡ modules) × (records ≡ [])
 AreJudged world modules (upload ∷ later) after records =
-    (result : Option Refusal) × (rest : List UploadEntry) × IsResult world upload result × (records ≡ entry_of upload result ∷ rest)
+    (result : Option Refusal) × (rest : List UploadEntry) × IsResult world upload result
+    × (records ≡ entry_of upload result ∷ rest)
     × AreJudged world (modules_after modules upload result) later after rest
 
 -- ---- runs
 
--- A player with a module of these bytes has the first run, which is what it emits of what he sees; one without has none.
+-- A player with a module of these bytes has the first run, which is what it emits of what he sees; one
+-- without has none.
 abbrev pub BeginWith : Option (List ℕ) → Sight → (List PlayerRun → Type 0) → List PlayerRun → Type 0
 BeginWith None sight Others runs = Others runs
-BeginWith (Some bytes) sight Others runs = (run : PlayerRun) × (others : List PlayerRun) × (runs ≡ run ∷ others) × Emits bytes sight run × Others others
+BeginWith (Some bytes) sight Others runs =
+    (run : PlayerRun) × (others : List PlayerRun) × (runs ≡ run ∷ others) × Emits bytes sight run
+    × Others others
 
 -- The runs are those of the players of these accounts, each on the same world.
 abbrev pub AreRuns : World → Modules → List Account → List PlayerRun → Type 0
 AreRuns world modules [] runs = runs ≡ []
-AreRuns world modules (account ∷ later) runs = BeginWith (get modules account.player) (sight_of world account) (AreRuns world modules later) runs
+AreRuns world modules (account ∷ later) runs =
+    BeginWith (get modules account.player) (sight_of world account) (AreRuns world modules later) runs
 
 -- the accounts of a world in rising player
 abbrev pub account_list : World → List Account
@@ -77,7 +84,8 @@ account_list world = map (λ entry. entry.1) (entries world.accounts)
 -- ---- the tick
 
 -- A tick with these uploads, of which this is recorded, and these runs leads from one state to the other.
-pub record Next (before : State) (uploads : List Upload) (records : List UploadEntry) (runs : List PlayerRun) (after : State) : Type 0 where
+pub record Next (before : State) (uploads : List Upload) (records : List UploadEntry) (runs : List PlayerRun)
+    (after : State) : Type 0 where
   pub judged : AreJudged before.world before.modules uploads after.modules records
   pub emitted : AreRuns before.world after.modules (account_list before.world) runs
   pub ruled : after.world ≡ next_world before.world runs

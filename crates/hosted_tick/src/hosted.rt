@@ -1,21 +1,28 @@
 // A world with the modules of its players.
-ghost use Rattle.std.specs.Prelude.{◌≡◌, ◌<◌, ◌-◌, ◌^◌, [], map, IfOk};
+ghost use Rattle.std.specs.Prelude.{◌≡◌, ◌<◌, ◌≤◌, ◌-◌, ◌^◌, [], length, map, IfOk};
+ghost use Rattle.std.specs.List.{AllByRecursion};
+ghost use Rattle.game_tables.specs.Limits.{most_memory};
+ghost use Rattle.world_rules.specs.World.{world_of};
+ghost use Rattle.world_rules.specs.Tick.{intents_of};
+ghost use Rattle.kept_entries.specs.Turns.{AreKept};
 ghost use Rattle.world_rules.specs.Sound.{HaveSerials};
 ghost use Rattle.upload_stream.specs.Entries.{upload_of};
-ghost use Rattle.hosted_tick.specs.Hosting.{IsHosted, state_of};
-ghost use Rattle.hosted_tick.specs.Next.{Next};
+ghost use Rattle.hosted_tick.specs.Hosting.{AreLinked, IsHosted, modules_of, state_of};
+ghost use Rattle.hosted_tick.specs.Next.{AreRuns, Next};
 
 use crate::judge::judge_all;
 use crate::modules::Modules;
 use crate::runs::run_all;
 use intent_book::PlayerRun;
+use kept_entries::{Entry, kept_entries};
 use object_store::World;
-use ruled_tick::next_world;
+use ruled_tick::{all_intents, next_world};
 pub use std::alloc::AllocError as NoMemory;
 use std::alloc::Global;
 use std::marker::Model;
 use tick_journal::UploadEntry;
 use upload_stream::Upload;
+use world_roster::Roster;
 
 /// A world with the modules of its players, each decoded, validated and linked once.
 #[derive(Drop)]
@@ -58,13 +65,15 @@ impl Hosted {
         requires hosted { IsHosted self.world }
         requires tick { self.world.tick < 2 ^ 64 - 1 }
         requires serials { HaveSerials self.world.rooms }
-        ensures next { IfOk result (λ done. Next (state_of self) (map upload_of uploads.now) done.uploads.items done.runs.items (state_of done.hosted)) }
+        ensures next { IfOk result
+            (λ done. Next (state_of self) (map upload_of uploads.now) done.uploads.items done.runs.items
+            (state_of done.hosted)) }
         ensures hosted { IfOk result (λ done. IsHosted done.hosted.world) }
     {
         let Hosted { world, mut modules } = self;
         let records = judge_all(alloc, &world, uploads, &mut modules)?;
-        let runs = run_all(alloc, &world, &modules)?;
-        let after = next_world(alloc, &world, &runs)?;
+        let Wanted { runs, entries } = run_players(alloc, &world, &modules)?;
+        let after = next_world(alloc, world, &entries, &runs)?;
         Ok(Ticked {
             hosted: Hosted {
                 world: after,
@@ -74,6 +83,34 @@ impl Hosted {
             runs,
         })
     }
+}
+
+// The runs of a tick, and which of the entries that they want count.
+#[derive(Drop)]
+struct Wanted {
+    runs: Vec<PlayerRun>,
+    entries: Vec<Entry>,
+}
+
+// Runs all players on the world as it is. Where its objects stand is listed once, for all of them and for
+// the choice of the entries.
+fn run_players(alloc: Global, world: &World, modules: &Modules) -> Result<Wanted, NoMemory>
+    requires hosted { IsHosted world.now }
+    requires linked { AreLinked modules.now.entries }
+    ensures runs { IfOk result
+        (λ wanted. AreRuns (world_of world.now)
+        (modules_of modules.now.entries) world.now.accounts wanted.runs.items) }
+    ensures kept { IfOk result
+        (λ wanted. AreKept (world_of world.now) (intents_of wanted.runs.items) wanted.entries.items) }
+    ensures few { IfOk result (λ wanted. length wanted.entries.items ≤ 2 ^ 18) }
+    ensures short { IfOk result
+        (λ wanted. AllByRecursion (λ run. length run.memory ≤ most_memory) wanted.runs.items) }
+{
+    let roster = Roster::of(alloc, world)?;
+    let runs = run_all(alloc, world, &roster, modules)?;
+    let intents = all_intents(alloc, &runs)?;
+    let entries = kept_entries(alloc, world, &roster, &intents)?;
+    Ok(Wanted { runs, entries })
 }
 
 /// A world after a tick, and what is recorded of the tick.

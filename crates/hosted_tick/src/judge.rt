@@ -26,7 +26,9 @@ pub(crate) fn judge_all(
     modules: &mut Modules,
 ) -> Result<Vec<UploadEntry>, NoMemory>
     requires linked { AreLinked modules.old.entries }
-    ensures judged { IfOk result (λ records. AreJudged (world_of world.now) (modules_of modules.old.entries) (map upload_of uploads.now) (modules_of modules.new.entries) records.items) }
+    ensures judged { IfOk result
+        (λ records. AreJudged (world_of world.now) (modules_of modules.old.entries)
+        (map upload_of uploads.now) (modules_of modules.new.entries) records.items) }
     ensures linked { OnOk result (AreLinked modules.new.entries) }
 {
     let mut records = Vec::with_capacity(alloc, uploads.len())?;
@@ -44,8 +46,11 @@ fn judge(
     modules: &mut Modules,
 ) -> Result<UploadEntry, NoMemory>
     requires linked { AreLinked modules.old.entries }
-    ensures judged { IfOk result (λ entry. (judgement : Option Refusal) × IsResult (world_of world.now) (upload_of upload.now) judgement × (entry ≡ entry_of (upload_of upload.now) judgement)
-        × (modules_of modules.new.entries ≡ modules_after (modules_of modules.old.entries) (upload_of upload.now) judgement)) }
+    ensures judged { IfOk result (λ entry. (judgement : Option Refusal)
+        × IsResult (world_of world.now) (upload_of upload.now) judgement
+        × (entry ≡ entry_of (upload_of upload.now) judgement)
+        × (modules_of modules.new.entries ≡ modules_after (modules_of modules.old.entries)
+        (upload_of upload.now) judgement)) }
     ensures linked { OnOk result (AreLinked modules.new.entries) }
 {
     let result_number = settle(alloc, world, upload, modules)?;
@@ -65,8 +70,10 @@ fn settle(
     modules: &mut Modules,
 ) -> Result<u8, NoMemory>
     requires linked { AreLinked modules.old.entries }
-    ensures settled { IfOk result (λ number. (judgement : Option Refusal) × IsResult (world_of world.now) (upload_of upload.now) judgement × (number ≡ result_number judgement)
-        × (modules_of modules.new.entries ≡ modules_after (modules_of modules.old.entries) (upload_of upload.now) judgement)) }
+    ensures settled { IfOk result (λ number. (judgement : Option Refusal)
+        × IsResult (world_of world.now) (upload_of upload.now) judgement × (number ≡ result_number judgement)
+        × (modules_of modules.new.entries ≡ modules_after (modules_of modules.old.entries)
+        (upload_of upload.now) judgement)) }
     ensures linked { OnOk result (AreLinked modules.new.entries) }
 {
     match decide(alloc, world, upload)? {
@@ -87,7 +94,9 @@ fn keep(
 ) -> Result<(), NoMemory>
     requires linked { AreLinked modules.old.entries }
     requires accepted { Accepts upload.now.bytes.now (link_view linked) }
-    ensures kept { OnOk result (modules_of modules.new.entries ≡ insert (modules_of modules.old.entries) upload.now.player upload.now.bytes.now) }
+    ensures kept { OnOk result
+        (modules_of modules.new.entries
+        ≡ insert (modules_of modules.old.entries) upload.now.player upload.now.bytes.now) }
     ensures linked { OnOk result (AreLinked modules.new.entries) }
 {
     let bytes = Bytes::of(alloc, upload.bytes)?;
@@ -101,8 +110,12 @@ fn decide(
     world: &World,
     upload: &Upload,
 ) -> Result<Result<Linked, Refusal>, NoMemory>
-    ensures accepted { IfOk result (λ judgement. IfOk judgement (λ linked. IsResult (world_of world.now) (upload_of upload.now) None × Accepts upload.now.bytes.now (link_view linked))) }
-    ensures refused { IfOk result (λ judgement. IfErr judgement (λ refusal. IsResult (world_of world.now) (upload_of upload.now) (Some refusal))) }
+    ensures accepted { IfOk result
+        (λ judgement. IfOk judgement (λ linked. IsResult (world_of world.now) (upload_of upload.now) None
+        × Accepts upload.now.bytes.now (link_view linked))) }
+    ensures refused { IfOk result
+        (λ judgement.
+        IfErr judgement (λ refusal. IsResult (world_of world.now) (upload_of upload.now) (Some refusal))) }
 {
     let Some(_) = world.account(upload.player) else {
         return Ok(Err(Refusal::UnknownPlayer));
@@ -125,7 +138,8 @@ fn unless_memory(refusal: Refusal) -> Result<Refusal, NoMemory>
 
 // What is recorded of a module's bytes: none of a module that is too long.
 fn recorded_bytes(alloc: Global, bytes: &[u8]) -> Result<Bytes, NoMemory>
-    ensures { IfOk result (λ kept. kept ≡ (if nat_le (length bytes.now) module_bytes_bound then bytes.now else [])) }
+    ensures { IfOk result
+        (λ kept. kept ≡ (if nat_le (length bytes.now) module_bytes_bound then bytes.now else [])) }
 {
     if bytes.len() <= most_module_bytes() as usize {
         Bytes::of(alloc, bytes)

@@ -22,7 +22,8 @@ SpellsWithin bytes m = Spells bytes m × WithinBytes bytes × IsWithin m
 abbrev pub SpellsValid : List ℕ → Syntax Ops → Type 0
 SpellsValid bytes m = SpellsWithin bytes m × HasNoFloat m × IsValid m
 
--- The bytes are accepted: they spell a valid module that links to the host calls, with this program and this function `loop`.
+-- The bytes are accepted: they spell a valid module that links to the host calls, with this program and this
+-- function `loop`.
 pub record Accepts (bytes : List ℕ) (link : Link) : Type 0 where
   pub syntax : Syntax Ops
   pub spells : SpellsValid bytes syntax
@@ -35,9 +36,12 @@ IsAccepted bytes = (link : Link) × Accepts bytes link
 
 -- They spell a valid module that does not link to the host calls, for this reason.
 abbrev pub IsUnlinked : List ℕ → LinkFault → Type 0
-IsUnlinked bytes why = (m : Syntax Ops) × SpellsValid bytes m × (sigs : List HostSig) × AreSignatures sigs all_calls × IsFault sigs m why
+IsUnlinked bytes why =
+    (m : Syntax Ops) × SpellsValid bytes m × (sigs : List HostSig) × AreSignatures sigs all_calls
+    × IsFault sigs m why
 
--- The bytes are refused so, each reason coming before those below it but for the size of the bytes, which comes first.
+-- The bytes are refused so, each reason coming before those below it but for the size of the bytes, which
+-- comes first.
 abbrev pub IsRefused : List ℕ → Refusal → Type 0
 IsRefused bytes refusals.TooLarge = (limit : Limit) × IsTooLarge bytes limit
 IsRefused bytes refusals.Malformed = WithinBytes bytes × ((m : Syntax Ops) → Spells bytes m → ⊥)

@@ -1,7 +1,8 @@
--- What a player's module emits in a tick: it depends on the bytes of the module and on what the player sees, and on nothing else.
+-- What a player's module emits in a tick: it depends on the bytes of the module and on what the player sees,
+-- and on nothing else.
 use Rattle.std.specs.Prelude.{◌≡◌, ℕ, ◌*◌, List}
 use Rattle.std.specs.List.{IsDistinct}
-use Rattle.game_tables.specs.Limits.{unit_size}
+use Rattle.game_tables.specs.Limits.{unit_instructions}
 use Rattle.object_store.specs.declared.account.Account.{Account}
 use Rattle.wasm_link.specs.Linking.{Link, first_store}
 use Rattle.wasm_steps.specs.Runs.{Ends}
@@ -44,13 +45,15 @@ used_of (outcomes.Spent used) = used
 
 -- the instructions that a player's module may use in this tick
 abbrev pub fuel_of : Account → ℕ
-fuel_of account = unit_size * allowance account
+fuel_of account = unit_instructions * allowance account
 
--- What a linked module emits of what is seen: the run of a fresh instance, with the desk as its host and the allowance as its fuel. What was recorded and written before a trap or the end of the fuel stands.
+-- What a linked module emits of what is seen: the run of a fresh instance, with the desk as its host and the
+-- allowance as its fuel. What was recorded and written before a trap or the end of the fuel stands.
 pub record EmitsBy (link : Link) (sight : Sight) (emitted : PlayerRun) : Type 0 where
   pub outcome : Outcome
   pub last : State Desk
-  pub ends : Ends link.program answers link.main link.whole.start (first_store link.whole) (desk_of sight) (fuel_of sight.account) outcome last
+  pub ends : Ends link.program answers link.main link.whole.start (first_store link.whole) (desk_of sight)
+      (fuel_of sight.account) outcome last
   pub player : emitted.player ≡ sight.account.player
   pub ended : emitted.outcome ≡ outcome_of outcome
   pub used : emitted.used ≡ used_of outcome

@@ -35,8 +35,10 @@ pub fn admit(alloc: Global, bytes: &[u8]) -> Result<Linked, Refusal>
 fn admit_module(alloc: Global, found: Module) -> Result<Linked, Refusal>
     requires spelled { (bytes : List ℕ) × WithinBytes bytes × Spells bytes (module_view found) }
     requires within { IsWithin (module_view found) }
-    ensures accepted { (bytes : List ℕ) → WithinBytes bytes → Spells bytes (module_view found) → IfOk result (λ linked. Accepts bytes (link_view linked)) }
-    ensures refused { (bytes : List ℕ) → WithinBytes bytes → Spells bytes (module_view found) → IfErr result (IsRefused bytes) }
+    ensures accepted { (bytes : List ℕ) → WithinBytes bytes → Spells bytes (module_view found)
+        → IfOk result (λ linked. Accepts bytes (link_view linked)) }
+    ensures refused { (bytes : List ℕ) → WithinBytes bytes → Spells bytes (module_view found)
+        → IfErr result (IsRefused bytes) }
 {
     match validate(alloc, found) {
         Ok(valid) => admit_valid(alloc, valid),
@@ -52,8 +54,10 @@ fn admit_valid(alloc: Global, valid: Valid) -> Result<Linked, Refusal>
     requires within { IsWithin (module_view valid) }
     requires no_float { HasNoFloat (module_view valid) }
     requires valid { IsValid (module_view valid) }
-    ensures accepted { (bytes : List ℕ) → WithinBytes bytes → Spells bytes (module_view valid) → IfOk result (λ linked. Accepts bytes (link_view linked)) }
-    ensures refused { (bytes : List ℕ) → WithinBytes bytes → Spells bytes (module_view valid) → IfErr result (IsRefused bytes) }
+    ensures accepted { (bytes : List ℕ) → WithinBytes bytes → Spells bytes (module_view valid)
+        → IfOk result (λ linked. Accepts bytes (link_view linked)) }
+    ensures refused { (bytes : List ℕ) → WithinBytes bytes → Spells bytes (module_view valid)
+        → IfErr result (IsRefused bytes) }
 {
     match link(alloc, valid, host_sigs()) {
         Ok(linked) => Ok(linked),

@@ -12,14 +12,19 @@ ghost use Rattle.player_run.specs.Emitted.{Emits, EmitsBy};
 /// equal views give equal runs, whatever stands in other rooms and accounts. It does nothing when it
 /// runs.
 pub fn emitted_once()
-    ensures linked { (link : Link) (sight : Sight) (one other : PlayerRun) → EmitsBy link sight one → EmitsBy link sight other → one ≡ other }
-    ensures bytes { (bytes : List ℕ) (sight : Sight) (one other : PlayerRun) → Emits bytes sight one → Emits bytes sight other → one ≡ other }
+    ensures linked { (link : Link) (sight : Sight) (one other : PlayerRun) → EmitsBy link sight one
+        → EmitsBy link sight other → one ≡ other }
+    ensures bytes { (bytes : List ℕ) (sight : Sight) (one other : PlayerRun) → Emits bytes sight one
+        → Emits bytes sight other → one ≡ other }
 {}
 
 /// Says that bytes have one judgement: they are accepted with one program, or refused for one reason,
 /// unless memory is wanted. It does nothing when it runs.
 pub fn judged_once()
-    ensures accepted { (bytes : List ℕ) (one other : Link) → Accepts bytes one → Accepts bytes other → one ≡ other }
-    ensures one_reason { (bytes : List ℕ) (one other : Refusal) → IsRefused bytes one → IsRefused bytes other → one ≢ Memory → other ≢ Memory → one ≡ other }
-    ensures refused { (bytes : List ℕ) (refusal : Refusal) (link : Link) → refusal ≢ Memory → IsRefused bytes refusal → Accepts bytes link → ⊥ }
+    ensures accepted { (bytes : List ℕ) (one other : Link) → Accepts bytes one → Accepts bytes other
+        → one ≡ other }
+    ensures one_reason { (bytes : List ℕ) (one other : Refusal) → IsRefused bytes one → IsRefused bytes other
+        → one ≢ Memory → other ≢ Memory → one ≡ other }
+    ensures refused { (bytes : List ℕ) (refusal : Refusal) (link : Link) → refusal ≢ Memory
+        → IsRefused bytes refusal → Accepts bytes link → ⊥ }
 {}

@@ -10,5 +10,5 @@ mod tests;
 
 pub use admission::{Refusal, admit};
 pub use laws::{emitted_once, judged_once};
-pub use run::{NoMemory, run_player};
+pub use run::{NoMemory, run_player, run_player_among};
 pub use wasm_link::Linked;

@@ -1,6 +1,6 @@
 // One player's run of a tick.
 ghost use Rattle.std.specs.Prelude.{◌≡◌, ◌≤◌, length, Some, IfOk};
-ghost use Rattle.game_tables.specs.Limits.{memory_bound, rooms_bound};
+ghost use Rattle.game_tables.specs.Limits.{most_memory, most_rooms};
 ghost use Rattle.object_store.specs.declared.account.Account.{Account};
 ghost use Rattle.object_store.specs.Stored.{HasAccount, find_account};
 ghost use Rattle.intent_book.specs.Records.{entries_bound};
@@ -20,6 +20,7 @@ use std::alloc::Global;
 use visible_view::View;
 use wasm_link::Linked;
 use wasm_machine::Instance;
+use world_roster::Roster;
 
 /// Runs a player's module on what he sees of the world, with the instructions that his account
 /// allows: 10,000 for each CPU unit. The instance is made anew, and what was recorded and written to
@@ -31,25 +32,55 @@ pub fn run_player(
     player: u32,
 ) -> Result<PlayerRun, NoMemory>
     requires account { HasAccount player world.now.accounts }
-    requires memory { (account : Account) → find_account player world.now.accounts ≡ Some account → length account.memory ≤ memory_bound }
+    requires memory { (account : Account) → find_account player world.now.accounts ≡ Some account
+        → length account.memory ≤ most_memory }
     requires sound { IsSound world.now }
-    requires rooms { length world.now.rooms ≤ rooms_bound }
-    ensures emitted { IfOk result (λ run. (account : Account) × (find_account player world.now.accounts ≡ Some account) × EmitsBy (link_view linked.now) (sight_of (world_of world.now) account) run × (run.used ≤ fuel_of account)) }
+    requires rooms { length world.now.rooms ≤ most_rooms }
+    ensures emitted { IfOk result
+        (λ run. (account : Account) × (find_account player world.now.accounts ≡ Some account)
+        × EmitsBy (link_view linked.now) (sight_of (world_of world.now) account) run
+        × (run.used ≤ fuel_of account)) }
     ensures few { IfOk result (λ run. length run.intents ≤ entries_bound) }
-    ensures short { IfOk result (λ run. length run.memory ≤ memory_bound) }
+    ensures short { IfOk result (λ run. length run.memory ≤ most_memory) }
 {
-    let view = View::of(alloc, world, player)?;
+    let roster = Roster::of(alloc, world)?;
+    run_player_among(alloc, linked, world, &roster, player)
+}
+
+/// Runs a player's module as `run_player` does, on what he sees among the world's objects, which are
+/// listed once for all players.
+pub fn run_player_among<'a>(
+    alloc: Global,
+    linked: &Linked,
+    world: &'a World,
+    roster: &Roster<'a>,
+    player: u32,
+) -> Result<PlayerRun, NoMemory>
+    requires account { HasAccount player world.now.accounts }
+    requires memory { (account : Account) → find_account player world.now.accounts ≡ Some account
+        → length account.memory ≤ most_memory }
+    requires sound { IsSound world.now }
+    requires rooms { length world.now.rooms ≤ most_rooms }
+    requires roster { roster.now ≡ (world_of world.now).objects }
+    ensures emitted { IfOk result
+        (λ run. (account : Account) × (find_account player world.now.accounts ≡ Some account)
+        × EmitsBy (link_view linked.now) (sight_of (world_of world.now) account) run
+        × (run.used ≤ fuel_of account)) }
+    ensures few { IfOk result (λ run. length run.intents ≤ entries_bound) }
+    ensures short { IfOk result (λ run. length run.memory ≤ most_memory) }
+{
+    let view = View::among(alloc, world, roster, player)?;
     run_view(alloc, linked, &view, player)
 }
 
 // Runs a module on what its player sees.
 fn run_view(alloc: Global, linked: &Linked, view: &View, player: u32) -> Result<PlayerRun, NoMemory>
     requires own { player ≡ view.now.account.player }
-    requires memory { length view.now.account.memory ≤ memory_bound }
+    requires memory { length view.now.account.memory ≤ most_memory }
     ensures emitted { IfOk result (EmitsBy (link_view linked.now) view.now) }
     ensures used { IfOk result (λ run. run.used ≤ fuel_of view.now.account) }
     ensures few { IfOk result (λ run. length run.intents ≤ entries_bound) }
-    ensures short { IfOk result (λ run. length run.memory ≤ memory_bound) }
+    ensures short { IfOk result (λ run. length run.memory ≤ most_memory) }
 {
     let account = view.account();
     let mut desk = Desk::new(alloc, view, player, account.memory.as_slice())?;

@@ -2,7 +2,7 @@ use Rattle.std.proofs.Common.{◌≡◌, ◌≤◌, ◌==◌, [], ◌∷◌, len
 use Rattle.std.specs.Prelude.{option_copied}
 use Rattle.std.specs.FinMap.{get}
 use Rattle.std.proofs.lemmas.List.{append-nil}
-use Rattle.game_tables.specs.Limits.{memory_bound}
+use Rattle.game_tables.specs.Limits.{most_memory}
 use Rattle.object_store.specs.declared.account.Account.{Account}
 use Rattle.world_rules.specs.World.{world_of}
 use Rattle.visible_view.specs.Sights.{sight_of}
@@ -14,9 +14,9 @@ use Rattle.hosted_tick.proofs.Kept.{bytes_in, get_bytes, kept_of, linked_at}
 use Rattle.hosted_tick.proofs.Ran.{few_one, runs_none, runs_one}
 use Rattle.hosted_tick.proofs.runs.add_run.Goals as goal
 
-pub run_player-requires-clause-memory : goal.run_player-requires-clause-memory
-run_player-requires-clause-memory c = λ account found.
-    holds_of_found (λ (a : Account). length a.memory ≤ memory_bound) (λ (a : Account). a.player == c.args.account.now.player) c.args.world.now.accounts account c.requires.hosted.memories found
+pub run_player_among-requires-clause-memory : goal.run_player_among-requires-clause-memory
+run_player_among-requires-clause-memory c = λ account found.
+    holds_of_found (λ (a : Account). length a.memory ≤ most_memory) (λ (a : Account). a.player == c.args.account.now.player) c.args.world.now.accounts account c.requires.hosted.memories found
 
 pub returns-in_ok-push : goal.returns-in_ok-push
 returns-in_ok-push c =

@@ -1,0 +1,147 @@
+-- What a call of an action checks of what is seen, its rule finds in the room.
+use Rattle.std.proofs.Common.{◌≡◌, ℕ, ℤ, pos, ◌≤◌, ◌==◌, ◌&&◌, ◌||◌, not, max, nat_le, nat_lt, Bool, true, List, [], ◌∷◌, ◌++◌, Option, Some, None, option_map, inl, inr, refl, sym, ap, subst, ◌∙◌, arith}
+use Rattle.std.specs.Option.{unwrap_or}
+use Rattle.std.proofs.lemmas.Bool.{and_parts, cases_Bool, eqb-true, leb-true, le-leb}
+use Rattle.game_tables.specs.Actions.{is_target, max_range, needed_part}
+use Rattle.game_tables.specs.Bodies.{live_count}
+use Rattle.game_tables.specs.declared.action.Action.{Action}
+use Rattle.game_tables.specs.declared.action.Action.TheVariants.{DropLoad}
+use Rattle.game_tables.specs.declared.code.Code.{Code}
+use Rattle.game_tables.specs.declared.code.Code.TheVariants.{Done}
+use Rattle.game_tables.specs.declared.kind.Part.{Part}
+use Rattle.object_store.specs.declared.account.Account.{Account}
+use Rattle.object_store.specs.declared.object.Object.{Object}
+use Rattle.object_store.specs.Stored.{Stored}
+use Rattle.intent_book.specs.declared.intent.Intent.{Intent}
+use Rattle.wasm_store.specs.Memory.{Memory}
+use Rattle.world_rules.specs.World.{Placed, world_of}
+use Rattle.world_rules.specs.RoomParts.{RoomPart, part_of}
+use Rattle.world_rules.specs.Checks.{Check, Scene, all_hold, amount_checks, are_near, checks, creep_checks, first_failing, further_checks, holds_of, part_checks, reaches_itself, scene_of, standing_at, target_checks}
+use Rattle.world_rules.specs.Sound.{IsSound}
+use Rattle.visible_view.specs.Sights.{Sight, sight_of}
+use Rattle.action_checks.proofs.Passing.{all_hold_where_done, fails_early, hold_both}
+use Rattle.host_calls.specs.Desks.{Desk}
+use Rattle.host_calls.specs.Replies.{act_code, amount_of, id_of, record_checks, scene_seen, seen, wanted, wish_of}
+use Rattle.host_calls.specs.Agreement.{CallsAgree, IsRecorded, Passes}
+use Rattle.host_calls.proofs.SeenStands.{its_part, seen_stands, stands_in_part}
+
+done_where_0 : (desk : Desk) (memory : Memory) (intent : Intent) (code : Code) → (wanted desk memory intent code).answer ≡ pos 0 → code ≡ Done
+done_where_0 desk memory intent Done zero = refl
+done_where_0 desk memory intent _ zero = absurd (cc)
+
+recorded_where_done : (desk : Desk) (memory : Memory) (intent : Intent) (code : Code) → code ≡ Done → IsRecorded desk intent (wanted desk memory intent code).desk
+recorded_where_done desk memory intent code done = ap (λ (c : Code). (wanted desk memory intent c).desk) done
+
+-- The action's own checks hold where none of all fails.
+own_hold : (action : Action) (scene : Scene) (late : List Check) → first_failing (checks action scene ++ late) ≡ Done → all_hold (checks action scene) ≡ true
+own_hold action scene late done =
+    elim (cases_Bool (all_hold (checks action scene))) [
+      | inl holds ↦ holds
+      | inr not_so ↦ all_hold_where_done action scene (sym (fails_early (checks action scene) late not_so).0 ∙ done)
+    ]
+
+hold_parts : (early late : List Check) → all_hold (early ++ late) ≡ true → (all_hold early ≡ true) × (all_hold late ≡ true)
+hold_parts [] late holds = (refl, holds)
+hold_parts (check ∷ early) late holds =
+    let first = and_parts check.0 (all_hold (early ++ late)) holds in
+    let rest = hold_parts early late first.1 in
+    (ap (λ (b : Bool). b && all_hold early) first.0 ∙ rest.0, rest.1)
+
+-- ---- group by group, of one actor
+
+part_again : (needed : Option Part) (one other : Scene) → one.actor ≡ other.actor → all_hold (part_checks needed one) ≡ true → all_hold (part_checks needed other) ≡ true
+part_again None one other same holds = refl
+part_again (Some part) one other same holds = sym (ap (λ (a : Option Placed). holds_of a (λ creep. nat_lt 0 (live_count part creep.hits creep.body)) && true) same) ∙ holds
+
+abbrev reaches : ℕ → Action → Option Placed → Option Placed → Bool
+reaches range action actor target =
+    holds_of target (λ object. is_target action object.kind && (reaches_itself action || holds_of actor (λ creep. not (creep.id == object.id))))
+    && (are_near range actor target && true)
+
+target_again : (range : Option ℕ) (action : Action) (one other : Scene) → one.actor ≡ other.actor → ((r : ℕ) → are_near r one.actor one.target ≡ true → one.target ≡ other.target)
+    → all_hold (target_checks range action one) ≡ true → all_hold (target_checks range action other) ≡ true
+target_again None action one other same near holds = refl
+target_again (Some range) action one other same near holds =
+    let both = and_parts _ _ holds in
+    let target = near range (and_parts _ _ both.1).0 in
+    sym (λ i. reaches range action (same i) (target i)) ∙ holds
+
+carries : (actor : Option Placed) (n : ℕ) → (holds_of actor (λ creep. nat_le (max 1 n) creep.energy) && true) ≡ true → (holds_of actor (λ creep. nat_le 1 creep.energy) && true) ≡ true
+carries None n holds = absurd cc
+carries (Some placed) n holds =
+    let enough : max 1 n ≤ placed.object.energy = leb-true _ _ (and_parts _ _ holds).0 in
+    ap (λ (b : Bool). b && true) (le-leb 1 placed.object.energy (omega arith))
+
+abbrev carries_least : Scene → Type 0
+carries_least scene = (holds_of scene.actor (λ creep. nat_le scene.least creep.energy) && true) ≡ true
+
+further_again : (action : Action) (one other : Scene) → (carries_least one → carries_least other) → all_hold (further_checks action one) ≡ true → all_hold (further_checks action other) ≡ true
+further_again DropLoad one other least holds = least holds
+further_again _ one other least holds = refl
+
+found_where : (found : Option Placed) (test : Object → Bool) → holds_of found test ≡ true → (p : Placed) × (found ≡ Some p)
+found_where None test holds = absurd cc
+found_where (Some placed) test holds = (placed, refl)
+
+near_room : (range : ℕ) (one : Placed) (other : Option Placed) → are_near range (Some one) other ≡ true → (p : Placed) × (other ≡ Some p) × (one.room ≡ p.room)
+near_room range one None near = absurd cc
+near_room range one (Some other) near = (other, refl, eqb-true one.room other.room (and_parts _ _ (and_parts _ _ near).0).0)
+
+module _ (action : Action) (sight : Sight) (id target amount : ℤ) (actor standing : Option Placed) (same : seen sight id ≡ actor) (near : (r : ℕ) → are_near r (seen sight id) (seen sight target) ≡ true → seen sight target ≡ standing) where
+  abbrev one : Scene
+  one = scene_seen sight id target amount
+
+  abbrev entry : Intent
+  entry = wish_of action sight.account.player id target amount
+
+  abbrev other : Scene
+  other = scene_of entry actor standing
+
+  abbrev creep_again : all_hold (creep_checks one) ≡ true → all_hold (creep_checks other) ≡ true
+  creep_again holds = sym (ap (λ (a : Option Placed). all_hold (creep_checks (scene_of entry a standing))) same) ∙ holds
+
+  pub all_again : all_hold (checks action one) ≡ true → all_hold (checks action other) ≡ true
+  all_again holds =
+      let last = hold_parts (creep_checks one ++ amount_checks one ++ part_checks (needed_part action) one ++ target_checks (max_range action) action one) (further_checks action one) holds in
+      let late = hold_parts (creep_checks one ++ amount_checks one ++ part_checks (needed_part action) one) (target_checks (max_range action) action one) last.0 in
+      let early = hold_parts (creep_checks one ++ amount_checks one) (part_checks (needed_part action) one) late.0 in
+      let first = hold_parts (creep_checks one) (amount_checks one) early.0 in
+      let least : carries_least one → carries_least other = λ enough. ap (λ (a : Option Placed). holds_of a (λ creep. nat_le 1 creep.energy) && true) (sym same) ∙ carries (seen sight id) (unwrap_or (amount_of amount) 0) enough in
+      hold_both (creep_checks other ++ amount_checks other ++ part_checks (needed_part action) other ++ target_checks (max_range action) action other) (further_checks action other)
+      (hold_both (creep_checks other ++ amount_checks other ++ part_checks (needed_part action) other) (target_checks (max_range action) action other)
+      (hold_both (creep_checks other ++ amount_checks other) (part_checks (needed_part action) other)
+      (hold_both (creep_checks other) (amount_checks other) (creep_again first.0) refl)
+      (part_again (needed_part action) one other same early.1))
+      (target_again (max_range action) action one other same near late.1))
+      (further_again action one other least last.1)
+
+-- ---- in the world
+
+module _ (stored : Stored) (account : Account) (desk : Desk) (action : Action) (id target amount : ℤ) (sound : IsSound stored) (sees : desk.sight ≡ sight_of (world_of stored) account) where
+  abbrev all_seen : Type 0
+  all_seen = all_hold (checks action (scene_seen desk.sight id target amount)) ≡ true
+
+  passes_of : all_seen → (p : Placed) → seen desk.sight id ≡ Some p → Passes (world_of stored) (wish_of action desk.sight.account.player id target amount)
+  passes_of holds p found =
+      let stands = seen_stands stored sound desk.sight account sees id p found in
+      let room = its_part stored sound (id_of id) p stands in
+      let part : RoomPart = part_of (world_of stored) p.room room.0 in
+      let here = stands_in_part stored sound (id_of id) p p.room room.0 stands refl in
+      let near : (r : ℕ) → are_near r (seen desk.sight id) (seen desk.sight target) ≡ true → seen desk.sight target ≡ standing_at part (id_of target) = λ r close.
+      (let beside = near_room r p (seen desk.sight target) (sym (ap (λ (a : Option Placed). are_near r a (seen desk.sight target)) found) ∙ close) in
+      beside.1 ∙ sym (stands_in_part stored sound (id_of target) beside.0 p.room room.0 (seen_stands stored sound desk.sight account sees target beside.0 beside.1) (sym beside.2))) in
+      (p.room, part, ap (option_map (λ (q : Placed). q.room)) stands, room.1, all_again action desk.sight id target amount (standing_at part (id_of id)) (standing_at part (id_of target)) (found ∙ sym here) near holds)
+
+  passes : all_seen → Passes (world_of stored) (wish_of action desk.sight.account.player id target amount)
+  passes holds =
+      let creep = found_where (seen desk.sight id) _ (and_parts _ _ holds).0 in
+      passes_of holds creep.0 creep.1
+
+pub calls_agree : CallsAgree
+calls_agree stored account desk memory action id target amount sound sees zero =
+    let own : desk.sight.account ≡ account = ap (λ (s : Sight). s.account) sees in
+    let done = done_where_0 desk memory (wish_of action desk.sight.account.player id target amount) (act_code action desk id target amount) zero in
+    let holds = own_hold action (scene_seen desk.sight id target amount) (record_checks desk (wish_of action desk.sight.account.player id target amount)) done in (
+      subst (λ (a : Account). IsRecorded desk (wish_of action a.player id target amount) (wanted desk memory (wish_of action desk.sight.account.player id target amount) (act_code action desk id target amount)).desk) own (recorded_where_done desk memory (wish_of action desk.sight.account.player id target amount) (act_code action desk id target amount) done),
+      subst (λ (a : Account). Passes (world_of stored) (wish_of action a.player id target amount)) own (passes stored account desk action id target amount sound sees holds),
+    )
