@@ -4,16 +4,16 @@ use Rattle.std.specs.Prelude.{slice_get}
 use Rattle.std.specs.List.{count_by, AllByRecursion}
 use Rattle.std.proofs.lemmas.List.{length-map}
 use Rattle.std.proofs.lemmas.Option.{same_Some}
-use Rattle.game_tables.specs.Limits.{sites_bound}
+use Rattle.game_tables.specs.Limits.{most_sites}
 use Rattle.object_store.specs.declared.object.Object.{Object}
 use Rattle.object_store.specs.declared.account.Account.{Account}
 use Rattle.world_rules.specs.declared.rule.Rule.TheVariants as rules
-use Rattle.world_rules.specs.Kinds.{is_controller, is_site}
+use Rattle.game_tables.specs.Kinds.{is_controller, is_site}
 use Rattle.world_rules.specs.World.{Placed, Frame, placed, placed_from, world_listed}
 use Rattle.world_rules.specs.Rules.{Broken, IsWithinCounts, HasOpenCorner, HasNoBirth, IsOnWrongTile, HasWrongOwner, IsInRangeAs}
 use Rattle.rule_check.specs.declared.view.RoomView.{RoomView}
 use Rattle.rule_check.specs.Views.{viewed_room, IsOrdered}
-use Rattle.rule_check.specs.Checks.{IsLeast, RoomAt, AnyOf, AnyObject, AreWithinCounts, HasNameBefore, IsUnborn, HasWrongHolder, IsBlocked, KeptBelow, ids_in, owners_in}
+use Rattle.rule_check.specs.inner.Checks.{IsLeast, RoomAt, AnyOf, AnyObject, AreWithinCounts, HasNameBefore, IsUnborn, HasWrongHolder, IsBlocked, KeptBelow, ids_in, owners_in}
 use Rattle.rule_check.proofs.Minima.{least_like, all_at}
 use Rattle.rule_check.proofs.Twice.{count_two, count_cons, two_of, TwoOf}
 use Rattle.rule_check.proofs.Found.{times}
@@ -265,9 +265,9 @@ least_player rooms accounts found =
 all_sites : (rooms : List RoomView) (n : ℕ) → count_by (λ entry. is_site entry.1.object.kind && (entry.1.object.owner == n)) (placed_from 0 (map viewed_room rooms)) ≡ count_by (λ owner. owner == n) (owners_in rooms)
 all_sites rooms n = count_placed (λ entry. is_site entry.1.object.kind && (entry.1.object.owner == n)) (λ object. is_site object.kind && (object.owner == n)) (λ base object. refl) rooms 0 ∙ sym (count_owners_in n rooms)
 
-pub least_sites : (rooms : List RoomView) (accounts : List Account) (found : Option ℕ) → IsLeast (AnyOf (λ account n. (account.player ≡ n) × (sites_bound < count_by (λ owner. owner == n) (owners_in rooms))) accounts) found
+pub least_sites : (rooms : List RoomView) (accounts : List Account) (found : Option ℕ) → IsLeast (AnyOf (λ account n. (account.player ≡ n) × (most_sites < count_by (λ owner. owner == n) (owners_in rooms))) accounts) found
     → IsLeast (λ n. Broken rules.Sites n (the_world rooms accounts)) found
 least_sites rooms accounts found =
-    least_like (AnyOf (λ account n. (account.player ≡ n) × (sites_bound < count_by (λ owner. owner == n) (owners_in rooms))) accounts) (λ n. Broken rules.Sites n (the_world rooms accounts)) found
-    (λ n any. (listed_player rooms accounts n (record { index = any.index; account = any.one; place = any.place; is = any.is.0 }), subst (λ (k : ℕ). sites_bound < k) (sym (all_sites rooms n)) any.is.1))
-    (λ n broken. let listed = player_listed rooms accounts n broken.0 in record { index = listed.index; one = listed.account; place = listed.place; is = (listed.is, subst (λ (k : ℕ). sites_bound < k) (all_sites rooms n) broken.1) })
+    least_like (AnyOf (λ account n. (account.player ≡ n) × (most_sites < count_by (λ owner. owner == n) (owners_in rooms))) accounts) (λ n. Broken rules.Sites n (the_world rooms accounts)) found
+    (λ n any. (listed_player rooms accounts n (record { index = any.index; account = any.one; place = any.place; is = any.is.0 }), subst (λ (k : ℕ). most_sites < k) (sym (all_sites rooms n)) any.is.1))
+    (λ n broken. let listed = player_listed rooms accounts n broken.0 in record { index = listed.index; one = listed.account; place = listed.place; is = (listed.is, subst (λ (k : ℕ). most_sites < k) (all_sites rooms n) broken.1) })

@@ -7,14 +7,13 @@ use Rattle.std.proofs.lemmas.Bool.{cases_lt, cases_eq, eqb-true, eq-eqb, ne_eqb,
 use Rattle.std.proofs.lemmas.List.Folds.{list_any_more}
 use Rattle.std.proofs.lemmas.Option.{same_Some, slice_get_within, get_or_from_slice_get}
 use Rattle.game_tables.specs.declared.kind.Kind.{Kind}
-use Rattle.game_tables.specs.Kinds.{obstructing}
+use Rattle.game_tables.specs.Kinds.{obstructs, is_creep, is_pile, stands_fixed, clash}
 use Rattle.room_terrain.specs.Tiles.{tile}
 use Rattle.object_store.specs.declared.object.Object.{Object}
 use Rattle.object_store.specs.Tables.{IsOnTile}
-use Rattle.world_rules.specs.Kinds.{is_creep, is_pile, stands_fixed, clash}
 use Rattle.rule_check.specs.declared.shared.Taken.{Taken}
-use Rattle.rule_check.specs.Taken.{taken_with, clash_with, any_on, taken_on, nothing}
-use Rattle.rule_check.specs.Checks.{IsLeast, IsBlocked}
+use Rattle.rule_check.specs.inner.Taken.{taken_with, clash_with, any_on, taken_on, nothing}
+use Rattle.rule_check.specs.inner.Checks.{IsLeast, IsBlocked}
 use Rattle.rule_check.proofs.Minima.{NoneBelow, all_at, ids_up}
 
 -- An earlier object shares the tile of this one, which stands at this place, and their kinds may not be together.
@@ -54,16 +53,16 @@ taken_here at objects i object here on =
     let creep = any_here at is_creep objects i object here on in
     let pile = any_here at is_pile objects i object here on in
     let fixed = any_here at stands_fixed objects i object here on in
-    let obstructs = any_here at obstructing objects i object here on in
-    λ j. record { creep = creep j; pile = pile j; fixed = fixed j; obstructing = obstructs j }
+    let obstructing = any_here at obstructs objects i object here on in
+    λ j. record { creep = creep j; pile = pile j; fixed = fixed j; obstructing = obstructing j }
 
 taken_there : (at : ℕ) (objects : List Object) (i : ℕ) (object : Object) → slice_get objects i ≡ Some object → (tile object.x object.y ≡ at → ⊥) → taken_on at (take (i + 1) objects) ≡ taken_on at (take i objects)
 taken_there at objects i object here off =
     let creep = any_there at is_creep objects i object here off in
     let pile = any_there at is_pile objects i object here off in
     let fixed = any_there at stands_fixed objects i object here off in
-    let obstructs = any_there at obstructing objects i object here off in
-    λ j. record { creep = creep j; pile = pile j; fixed = fixed j; obstructing = obstructs j }
+    let obstructing = any_there at obstructs objects i object here off in
+    λ j. record { creep = creep j; pile = pile j; fixed = fixed j; obstructing = obstructing j }
 
 get_or_at_same : (tiles : List Taken) (i at : ℕ) (taken d : Taken) → i ≡ at → i < length tiles → get_or (set tiles i taken) at d ≡ taken
 get_or_at_same tiles i at taken d same inside = ap (λ (j : ℕ). get_or (set tiles i taken) j d) (sym same) ∙ get_or-set_same tiles i taken d inside
@@ -169,12 +168,12 @@ blocked_from_clash objects i object on here clashes =
     let first = take i objects in
     let other = object.kind in
     let by : (is : Kind → Bool) → any_on at is first ≡ true → ((kind : Kind) → is kind ≡ true → clash kind other ≡ true) → BlockedAt objects i object = λ is any clashes. blocked_by objects i object is on here (one_on at is i objects any) clashes in
-    five_cases (any_on at is_creep first && is_creep other) (any_on at is_pile first && is_pile other) (any_on at stands_fixed first && stands_fixed other) (any_on at is_creep first && obstructing other) (any_on at obstructing first && is_creep other) clashes
-    (λ both. let two = and_parts (any_on at is_creep first) (is_creep other) both in by is_creep two.0 (λ kind is. first_of (is_creep kind && is_creep other) (is_pile kind && is_pile other) (stands_fixed kind && stands_fixed other) (is_creep kind && obstructing other) (obstructing kind && is_creep other) (and_from (is_creep kind) (is_creep other) is two.1)))
-    (λ both. let two = and_parts (any_on at is_pile first) (is_pile other) both in by is_pile two.0 (λ kind is. second_of (is_creep kind && is_creep other) (is_pile kind && is_pile other) (stands_fixed kind && stands_fixed other) (is_creep kind && obstructing other) (obstructing kind && is_creep other) (and_from (is_pile kind) (is_pile other) is two.1)))
-    (λ both. let two = and_parts (any_on at stands_fixed first) (stands_fixed other) both in by stands_fixed two.0 (λ kind is. third_of (is_creep kind && is_creep other) (is_pile kind && is_pile other) (stands_fixed kind && stands_fixed other) (is_creep kind && obstructing other) (obstructing kind && is_creep other) (and_from (stands_fixed kind) (stands_fixed other) is two.1)))
-    (λ both. let two = and_parts (any_on at is_creep first) (obstructing other) both in by is_creep two.0 (λ kind is. fourth_of (is_creep kind && is_creep other) (is_pile kind && is_pile other) (stands_fixed kind && stands_fixed other) (is_creep kind && obstructing other) (obstructing kind && is_creep other) (and_from (is_creep kind) (obstructing other) is two.1)))
-    (λ both. let two = and_parts (any_on at obstructing first) (is_creep other) both in by obstructing two.0 (λ kind is. fifth_of (is_creep kind && is_creep other) (is_pile kind && is_pile other) (stands_fixed kind && stands_fixed other) (is_creep kind && obstructing other) (obstructing kind && is_creep other) (and_from (obstructing kind) (is_creep other) is two.1)))
+    five_cases (any_on at is_creep first && is_creep other) (any_on at is_pile first && is_pile other) (any_on at stands_fixed first && stands_fixed other) (any_on at is_creep first && obstructs other) (any_on at obstructs first && is_creep other) clashes
+    (λ both. let two = and_parts (any_on at is_creep first) (is_creep other) both in by is_creep two.0 (λ kind is. first_of (is_creep kind && is_creep other) (is_pile kind && is_pile other) (stands_fixed kind && stands_fixed other) (is_creep kind && obstructs other) (obstructs kind && is_creep other) (and_from (is_creep kind) (is_creep other) is two.1)))
+    (λ both. let two = and_parts (any_on at is_pile first) (is_pile other) both in by is_pile two.0 (λ kind is. second_of (is_creep kind && is_creep other) (is_pile kind && is_pile other) (stands_fixed kind && stands_fixed other) (is_creep kind && obstructs other) (obstructs kind && is_creep other) (and_from (is_pile kind) (is_pile other) is two.1)))
+    (λ both. let two = and_parts (any_on at stands_fixed first) (stands_fixed other) both in by stands_fixed two.0 (λ kind is. third_of (is_creep kind && is_creep other) (is_pile kind && is_pile other) (stands_fixed kind && stands_fixed other) (is_creep kind && obstructs other) (obstructs kind && is_creep other) (and_from (stands_fixed kind) (stands_fixed other) is two.1)))
+    (λ both. let two = and_parts (any_on at is_creep first) (obstructs other) both in by is_creep two.0 (λ kind is. fourth_of (is_creep kind && is_creep other) (is_pile kind && is_pile other) (stands_fixed kind && stands_fixed other) (is_creep kind && obstructs other) (obstructs kind && is_creep other) (and_from (is_creep kind) (obstructs other) is two.1)))
+    (λ both. let two = and_parts (any_on at obstructs first) (is_creep other) both in by obstructs two.0 (λ kind is. fifth_of (is_creep kind && is_creep other) (is_pile kind && is_pile other) (stands_fixed kind && stands_fixed other) (is_creep kind && obstructs other) (obstructs kind && is_creep other) (and_from (obstructs kind) (is_creep other) is two.1)))
 
 pub clash_from_blocked : (objects : List Object) (i : ℕ) (object : Object) → BlockedAt objects i object → clash_with (taken_on (tile object.x object.y) (take i objects)) object.kind ≡ true
 clash_from_blocked objects i object b =
@@ -187,14 +186,14 @@ clash_from_blocked objects i object b =
     let a = any_on at is_creep first && is_creep other in
     let p = any_on at is_pile first && is_pile other in
     let f = any_on at stands_fixed first && stands_fixed other in
-    let o = any_on at is_creep first && obstructing other in
-    let c = any_on at obstructing first && is_creep other in
-    five_cases (is_creep kind && is_creep other) (is_pile kind && is_pile other) (stands_fixed kind && stands_fixed other) (is_creep kind && obstructing other) (obstructing kind && is_creep other) b.clashes
+    let o = any_on at is_creep first && obstructs other in
+    let c = any_on at obstructs first && is_creep other in
+    five_cases (is_creep kind && is_creep other) (is_pile kind && is_pile other) (stands_fixed kind && stands_fixed other) (is_creep kind && obstructs other) (obstructs kind && is_creep other) b.clashes
     (λ both. let two = and_parts (is_creep kind) (is_creep other) both in first_of a p f o c (and_from (any_on at is_creep first) (is_creep other) (any is_creep two.0) two.1))
     (λ both. let two = and_parts (is_pile kind) (is_pile other) both in second_of a p f o c (and_from (any_on at is_pile first) (is_pile other) (any is_pile two.0) two.1))
     (λ both. let two = and_parts (stands_fixed kind) (stands_fixed other) both in third_of a p f o c (and_from (any_on at stands_fixed first) (stands_fixed other) (any stands_fixed two.0) two.1))
-    (λ both. let two = and_parts (is_creep kind) (obstructing other) both in fourth_of a p f o c (and_from (any_on at is_creep first) (obstructing other) (any is_creep two.0) two.1))
-    (λ both. let two = and_parts (obstructing kind) (is_creep other) both in fifth_of a p f o c (and_from (any_on at obstructing first) (is_creep other) (any obstructing two.0) two.1))
+    (λ both. let two = and_parts (is_creep kind) (obstructs other) both in fourth_of a p f o c (and_from (any_on at is_creep first) (obstructs other) (any is_creep two.0) two.1))
+    (λ both. let two = and_parts (obstructs kind) (is_creep other) both in fifth_of a p f o c (and_from (any_on at obstructs first) (is_creep other) (any obstructs two.0) two.1))
 
 pub free_from_no_clash : (objects : List Object) (i : ℕ) (object : Object) → clash_with (taken_on (tile object.x object.y) (take i objects)) object.kind ≡ false → BlockedAt objects i object → ⊥
 free_from_no_clash objects i object none b = both_ways (clash_with (taken_on (tile object.x object.y) (take i objects)) object.kind) none (clash_from_blocked objects i object b)

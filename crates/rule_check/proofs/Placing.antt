@@ -10,13 +10,13 @@ use Rattle.std.proofs.lemmas.List.Sums.{sum_by-cons, sum_by-append}
 use Rattle.std.proofs.lemmas.Option.{same_Some}
 use Rattle.object_store.specs.declared.object.Object.{Object}
 use Rattle.object_store.specs.declared.account.Account.{Account}
-use Rattle.world_rules.specs.Kinds.{is_site}
+use Rattle.game_tables.specs.Kinds.{is_site}
 use Rattle.world_rules.specs.World.{Placed, Frame, Listing, placed, placed_from, world_listed}
 use Rattle.world_rules.specs.Rules.{Stands, IsRoom, IsPlayer}
 use Rattle.world_rules.proofs.Rooms.{frame_listed}
 use Rattle.rule_check.specs.declared.view.RoomView.{RoomView}
 use Rattle.rule_check.specs.Views.{viewed, viewed_room, IsOrdered}
-use Rattle.rule_check.specs.Checks.{IsListed, ids_in, site_owners_of, owners_in}
+use Rattle.rule_check.specs.inner.Checks.{IsListed, ids_in, site_owners_of, owners_in}
 use Rattle.rule_check.proofs.Minima.{ids_up}
 use Rattle.rule_check.proofs.Twice.{count_two, count_cons}
 use Rattle.rule_check.proofs.Found.{mapped_back, mapped_at, left_at, right_at, split_at, found_at, at_found, once_found, times}

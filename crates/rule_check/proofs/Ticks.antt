@@ -6,7 +6,7 @@ use Rattle.world_rules.specs.declared.rule.Rule.TheVariants as rules
 use Rattle.world_rules.specs.Rules.{Broken, IsFirstBroken, rule_place}
 use Rattle.rule_check.specs.declared.view.RoomView.{RoomView}
 use Rattle.rule_check.specs.Views.{viewed}
-use Rattle.rule_check.specs.Checks.{IsLeast, KeptBelow}
+use Rattle.rule_check.specs.inner.Checks.{IsLeast, KeptBelow}
 
 -- A rule that is broken at one tick is broken at each.
 pub any_tick : (rooms : List RoomView) (accounts : List Account) (tick other : ℕ) (rule : Rule) (n : ℕ) → Broken rule n (viewed rooms accounts tick) → Broken rule n (viewed rooms accounts other)

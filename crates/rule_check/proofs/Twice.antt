@@ -8,7 +8,7 @@ use Rattle.rule_check.proofs.Minima.{least_like}
 use Rattle.std.proofs.lemmas.Bool.{cases_lt, eqb-true, eq-eqb}
 use Rattle.std.proofs.lemmas.List.Sums.{sum_by-cons}
 use Rattle.std.proofs.lemmas.Option.{same_Some, slice_get_within, slice_get-get_or, get_or_from_slice_get}
-use Rattle.rule_check.specs.Checks.{IsLeast}
+use Rattle.rule_check.specs.inner.Checks.{IsLeast}
 
 pub count_cons : {A : Type 0} (p : A → Bool) (x : A) (xs : List A) → count_by p (x ∷ xs) ≡ cond (p x) 1 0 + count_by p xs
 count_cons {A} p x xs = sum_by-cons (λ (y : A). cond (p y) 1 0) x xs

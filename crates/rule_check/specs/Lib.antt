@@ -1,3 +1,2 @@
 pub mod Views
-pub mod Checks
-pub mod Taken
+pub mod inner

@@ -16,7 +16,8 @@ viewed_room room = record {
 
 -- the world that the rooms and accounts list, at some tick
 abbrev pub viewed : List RoomView → List Account → ℕ → Listing
-viewed rooms accounts tick = record { rules = 1; tick = tick; rooms = map viewed_room rooms; accounts = accounts }
+viewed rooms accounts tick =
+    record { rules = 1; tick = tick; rooms = map viewed_room rooms; accounts = accounts }
 
 -- The objects stand in the order of their ids, of which two may be the same, each on a tile of the room.
 pub record IsOrdered (room : RoomView) : Type 0 where

@@ -1,18 +1,19 @@
 // Rules of how many there may be.
 ghost use Rattle.std.specs.Prelude.{◌≡◌, ◌≤◌, ◌<◌, ◌==◌, ◌++◌, ◌∷◌, [], ℕ, cond, MatchBool, IfOk, OnOk, length, count_by, sum_by};
-ghost use Rattle.game_tables.specs.Limits.{sites_bound};
-ghost use Rattle.world_rules.specs.Kinds.{is_site as site};
-ghost use Rattle.rule_check.specs.Checks.{IsLeast, AnyOf, AreWithinCounts, owners_in, site_owners_of};
+ghost use Rattle.game_tables.specs.Limits.{most_sites};
+ghost use Rattle.game_tables.specs.Kinds.{is_site};
+ghost use Rattle.rule_check.specs.inner.Checks.{IsLeast, AnyOf, AreWithinCounts, owners_in, site_owners_of};
 
 use crate::least::lesser;
 use crate::view::RoomView;
-use game_tables::{most_objects, most_players, most_rooms, most_sites};
-use object_store::{Account, Kind, Object};
+use game_tables::{is_site, most_objects, most_players, most_rooms, most_sites};
+use object_store::{Account, Object};
 use std::alloc::{AllocError, Global};
 
 /// Whether there is a room, and no more rooms, objects and players than may be.
 pub fn are_within_counts(rooms: &[RoomView], accounts: &[Account]) -> bool
-    ensures { MatchBool result (AreWithinCounts rooms.now accounts.now) (AreWithinCounts rooms.now accounts.now → ⊥) }
+    ensures { MatchBool result (AreWithinCounts rooms.now accounts.now)
+        (AreWithinCounts rooms.now accounts.now → ⊥) }
 {
     rooms.len() >= 1
         && rooms.len() <= most_rooms() as usize
@@ -22,7 +23,8 @@ pub fn are_within_counts(rooms: &[RoomView], accounts: &[Account]) -> bool
 
 // Whether there are more objects in all rooms than `most`.
 fn has_more_objects(rooms: &[RoomView], most: usize) -> bool
-    ensures { MatchBool result (most < sum_by (λ room. length room.objects.now) rooms.now) (sum_by (λ room. length room.objects.now) rooms.now ≤ most) }
+    ensures { MatchBool result (most < sum_by (λ room. length room.objects.now) rooms.now)
+        (sum_by (λ room. length room.objects.now) rooms.now ≤ most) }
 {
     let mut left = most;
     for room in rooms {
@@ -41,7 +43,10 @@ pub fn least_crowded(
     rooms: &[RoomView],
     accounts: &[Account],
 ) -> Result<Option<u64>, AllocError>
-    ensures { IfOk result (λ found. IsLeast (AnyOf (λ account n. (account.player ≡ n) × (sites_bound < count_by (λ owner. owner == n) (owners_in rooms.now))) accounts.now) found) }
+    ensures { IfOk result
+        (λ found. IsLeast
+        (AnyOf (λ account n. (account.player ≡ n)
+        × (most_sites < count_by (λ owner. owner == n) (owners_in rooms.now))) accounts.now) found) }
 {
     let owners = site_owners(alloc, rooms)?;
     let mut least = None;
@@ -53,7 +58,7 @@ pub fn least_crowded(
 
 // The player, where he owns more sites than he may have.
 fn if_crowded(owners: &[u32], player: u32) -> Option<u64>
-    ensures { IsLeast (λ n. (player ≡ n) × (sites_bound < count_by (λ owner. owner == n) owners.now)) result }
+    ensures { IsLeast (λ n. (player ≡ n) × (most_sites < count_by (λ owner. owner == n) owners.now)) result }
 {
     let sites = owners.iter().filter(|owner| **owner == player).count();
     if sites > most_sites() as usize {
@@ -86,19 +91,11 @@ fn list_owners(objects: &[Object], owners: &mut Vec<u32>) -> Result<(), AllocErr
 
 // Adds the object's owner, where it is a site.
 fn list_owner(object: &Object, owners: &mut Vec<u32>) -> Result<(), AllocError>
-    ensures { OnOk result (owners.new.items ≡ owners.old.items ++ cond (site object.now.kind) (object.now.owner ∷ []) []) }
+    ensures { OnOk result
+        (owners.new.items ≡ owners.old.items ++ cond (is_site object.now.kind) (object.now.owner ∷ []) []) }
 {
     if is_site(object.kind) {
         owners.push(object.owner)?;
     }
     Ok(())
-}
-
-fn is_site(kind: Kind) -> bool
-    ensures { result ≡ site kind }
-{
-    match kind {
-        Kind::Site => true,
-        _ => false,
-    }
 }

@@ -2,7 +2,7 @@
 ghost use Rattle.std.specs.Prelude.{◌≡◌, ◌<◌, ◌^◌, ℕ, length, IfOk, IfSome, IfNone};
 ghost use Rattle.std.specs.List.{AllByRecursion};
 ghost use Rattle.world_rules.specs.Rules.{Broken, IsFirstBroken, KeepsRules, rule_place};
-ghost use Rattle.rule_check.specs.Checks.{IsLeast, KeptBelow};
+ghost use Rattle.rule_check.specs.inner.Checks.{IsLeast, KeptBelow};
 ghost use Rattle.rule_check.specs.Views.{viewed, IsOrdered};
 
 use crate::counts::{are_within_counts, least_crowded};
@@ -48,8 +48,11 @@ pub fn first_broken(
     requires ordered { AllByRecursion IsOrdered rooms.now }
     requires rooms { length rooms.now < 2 ^ 32 }
     requires accounts { length accounts.now < 2 ^ 32 }
-    ensures broken { IfOk result (λ found. IfSome found (λ broken. (tick : ℕ) → IsFirstBroken broken.0 broken.1 (viewed rooms.now accounts.now tick))) }
-    ensures kept { IfOk result (λ found. IfNone found ((tick : ℕ) → KeepsRules (viewed rooms.now accounts.now tick))) }
+    ensures broken { IfOk result
+        (λ found. IfSome found (λ broken. (tick : ℕ)
+        → IsFirstBroken broken.0 broken.1 (viewed rooms.now accounts.now tick))) }
+    ensures kept { IfOk result
+        (λ found. IfNone found ((tick : ℕ) → KeepsRules (viewed rooms.now accounts.now tick))) }
 {
     for rule in ORDER {
         if let Some(number) = least_broken(alloc, rule, rooms, accounts)? {

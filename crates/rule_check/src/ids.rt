@@ -2,7 +2,7 @@
 ghost use Rattle.std.specs.Prelude.{◌≡◌, ◌≤◌, ◌<◌, ◌==◌, ◌++◌, ℕ, MatchBool, slice_get, count_by, map, Some, IfOk, OnOk};
 ghost use Rattle.std.specs.List.{flat_map};
 ghost use Rattle.std.specs.List.Sorted.{IsNonDecreasing};
-ghost use Rattle.rule_check.specs.Checks.{IsLeast, IsUnborn, ids_in};
+ghost use Rattle.rule_check.specs.inner.Checks.{IsLeast, IsUnborn, ids_in};
 ghost use Rattle.rule_check.specs.declared.view.RoomView.{RoomView};
 
 use crate::objects::ObjectRule;

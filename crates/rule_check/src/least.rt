@@ -1,6 +1,6 @@
 // The least of numbers that may be nothing.
 ghost use Rattle.std.specs.Prelude.{◌≡◌};
-ghost use Rattle.rule_check.specs.Checks.{lesser_of};
+ghost use Rattle.rule_check.specs.inner.Checks.{lesser_of};
 
 /// The lesser of two numbers, or the one that is there.
 pub fn lesser(one: Option<u64>, other: Option<u64>) -> Option<u64>

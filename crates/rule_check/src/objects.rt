@@ -2,7 +2,7 @@
 ghost use Rattle.std.specs.Prelude.{MatchBool};
 ghost use Rattle.std.specs.List.{AllByRecursion};
 ghost use Rattle.object_store.specs.declared.object.Object.{Object};
-ghost use Rattle.rule_check.specs.Checks.{IsLeast, AnyOf, AnyObject};
+ghost use Rattle.rule_check.specs.inner.Checks.{IsLeast, AnyOf, AnyObject};
 ghost use Rattle.rule_check.specs.Views.{IsOrdered};
 ghost use Rattle.rule_check.specs.declared.view.RoomView.{RoomView};
 
@@ -16,7 +16,8 @@ pub trait ObjectRule {
 
     /// Whether the object, which stands in the room, breaks the rule.
     fn is_broken(&self, room: &RoomView, object: &Object) -> bool
-        ensures { MatchBool result (broken self.now room.now object.now) (broken self.now room.now object.now → ⊥) };
+        ensures { MatchBool result (broken self.now room.now object.now) (broken self.now room.now object.now
+            → ⊥) };
 }
 
 /// The least id of an object that breaks the rule.

@@ -1,13 +1,12 @@
 // Rules of players.
 ghost use Rattle.std.specs.Prelude.{◌≡◌, MatchBool, map, IfOk};
-ghost use Rattle.world_rules.specs.Kinds.{may_have_owner};
-ghost use Rattle.rule_check.specs.Checks.{IsListed, HasWrongHolder};
+ghost use Rattle.rule_check.specs.inner.Checks.{IsListed, HasWrongHolder};
 ghost use Rattle.rule_check.specs.declared.view.RoomView.{RoomView};
 
 use crate::objects::ObjectRule;
-use crate::rooms::is_controller;
 use crate::view::RoomView;
-use object_store::{Account, Kind, Object};
+use game_tables::{is_controller, may_have_owner};
+use object_store::{Account, Object};
 use std::alloc::{AllocError, Global};
 
 /// An owner or reserver is a player, and the kind may have one.
@@ -21,23 +20,9 @@ impl ObjectRule for PlayersHold<'_> {
 
     fn is_broken(&self, _room: &RoomView, object: &Object) -> bool {
         (object.owner != 0
-            && !(may_be_owned(object.kind) && is_listed(self.accounts, object.owner)))
+            && !(may_have_owner(object.kind) && is_listed(self.accounts, object.owner)))
             || (object.other != 0
                 && !(is_controller(object.kind) && is_listed(self.accounts, object.other)))
-    }
-}
-
-fn may_be_owned(kind: Kind) -> bool
-    ensures { result ≡ may_have_owner kind }
-{
-    match kind {
-        Kind::Controller
-        | Kind::Creep
-        | Kind::Spawn
-        | Kind::Extension
-        | Kind::Storage
-        | Kind::Site => true,
-        _ => false,
     }
 }
 

@@ -1,10 +1,10 @@
 // The ranges of an object's fields between ticks.
 ghost use Rattle.std.specs.Prelude.{◌≡◌, ◌≤◌, MatchBool, []};
-ghost use Rattle.game_tables.specs.Fields.{extra_bound, other_ticks_bound};
-ghost use Rattle.game_tables.specs.Kinds.{most_hits};
+ghost use Rattle.game_tables.specs.Fields.{most_extra, most_other_ticks};
+ghost use Rattle.game_tables.specs.Kinds.{hits_max};
 ghost use Rattle.game_tables.specs.declared.kind.Kind.{Kind};
 ghost use Rattle.world_rules.specs.Rules.{IsInRangeAs, IsFrom1To, IsProgress, IsDowngradeTimer, IsSource, IsController, IsCreep, IsSpawn, IsStore, IsDecaying, IsPile, IsSite};
-ghost use Rattle.rule_check.specs.Checks.{IsReservedFor, IsBuilt, IsPlain};
+ghost use Rattle.rule_check.specs.inner.Checks.{IsReservedFor, IsBuilt, IsPlain};
 ghost use Rattle.rule_check.specs.declared.view.RoomView.{RoomView};
 
 use crate::objects::ObjectRule;
@@ -28,7 +28,8 @@ impl ObjectRule for KindsRanges {
 }
 
 fn is_in_range(object: &Object) -> bool
-    ensures { MatchBool result (IsInRangeAs object.now.kind object.now) (IsInRangeAs object.now.kind object.now → ⊥) }
+    ensures { MatchBool result (IsInRangeAs object.now.kind object.now)
+        (IsInRangeAs object.now.kind object.now → ⊥) }
 {
     match object.kind {
         Kind::Source => is_source(object),
@@ -81,7 +82,8 @@ fn is_controller(object: &Object) -> bool
 
 // A controller may be reserved at level 0 alone, and for some ticks.
 fn is_reservation(object: &Object) -> bool
-    ensures { MatchBool result (IsReservedFor (other_ticks_bound Kind.Controller) object.now) (IsReservedFor (other_ticks_bound Kind.Controller) object.now → ⊥) }
+    ensures { MatchBool result (IsReservedFor (most_other_ticks Kind.Controller) object.now)
+        (IsReservedFor (most_other_ticks Kind.Controller) object.now → ⊥) }
 {
     let most = most_other_ticks(Kind::Controller) as u64;
     if object.other == 0 {
@@ -135,7 +137,8 @@ fn is_creep(object: &Object) -> bool
 
 // The hits are from 1 to the kind's most.
 fn is_hits(kind: Kind, object: &Object) -> bool
-    ensures { MatchBool result (IsFrom1To (most_hits kind object.now.body) object.now.hits) (IsFrom1To (most_hits kind object.now.body) object.now.hits → ⊥) }
+    ensures { MatchBool result (IsFrom1To (hits_max kind object.now.body) object.now.hits)
+        (IsFrom1To (hits_max kind object.now.body) object.now.hits → ⊥) }
 {
     is_from_1_to(hits_max(kind, &object.body) as u64, object.hits as u64)
 }

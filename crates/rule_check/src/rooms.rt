@@ -1,12 +1,13 @@
 // Rules that each room keeps.
 ghost use Rattle.std.specs.Prelude.{◌≡◌, ◌≤◌, ◌<◌, ℕ, MatchBool, slice_get, count_by, Some};
-ghost use Rattle.world_rules.specs.Kinds.{is_controller as controller};
+ghost use Rattle.game_tables.specs.Kinds.{is_controller};
 ghost use Rattle.world_rules.specs.Rules.{IsWall, HasOpenCorner};
-ghost use Rattle.rule_check.specs.Checks.{IsLeast, RoomAt, HasNameBefore};
+ghost use Rattle.rule_check.specs.inner.Checks.{IsLeast, RoomAt, HasNameBefore};
 ghost use Rattle.rule_check.specs.declared.view.RoomView.{RoomView};
 
 use crate::view::RoomView;
-use object_store::{Ground, Kind, RoomName, Terrain};
+use game_tables::is_controller;
+use object_store::{Ground, RoomName, Terrain};
 
 /// A rule that each room keeps, with what is looked at beside the room.
 pub trait RoomRule {
@@ -85,7 +86,7 @@ pub fn is_wall(terrain: &Terrain, x: u8, y: u8) -> bool
 pub struct OneController;
 
 impl RoomRule for OneController {
-    ghost broken = { λ rule index room. 2 ≤ count_by (λ object. controller object.kind) room.objects.now };
+    ghost broken = { λ rule index room. 2 ≤ count_by (λ object. is_controller object.kind) room.objects.now };
 
     fn is_broken(&self, _index: usize, room: &RoomView) -> bool {
         let controllers = room
@@ -94,15 +95,5 @@ impl RoomRule for OneController {
             .filter(|object| is_controller(object.kind))
             .count();
         controllers >= 2
-    }
-}
-
-/// Whether it is a controller.
-pub fn is_controller(kind: Kind) -> bool
-    ensures { result ≡ controller kind }
-{
-    match kind {
-        Kind::Controller => true,
-        _ => false,
     }
 }

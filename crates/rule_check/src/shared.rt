@@ -2,15 +2,14 @@
 ghost use Rattle.std.specs.Prelude.{◌≡◌, ◌<◌, ℕ, length, slice_index_or, IfOk, EachIndex};
 ghost use Rattle.std.specs.List.{AllByRecursion};
 ghost use Rattle.room_terrain.specs.Tiles.{tile};
-ghost use Rattle.world_rules.specs.Kinds.{stands_fixed as fixed};
-ghost use Rattle.rule_check.specs.Checks.{IsLeast, AnyOf, IsBlocked};
-ghost use Rattle.rule_check.specs.Taken.{nothing, taken_with, clash_with};
+ghost use Rattle.rule_check.specs.inner.Checks.{IsLeast, AnyOf, IsBlocked};
+ghost use Rattle.rule_check.specs.inner.Taken.{nothing, taken_with, clash_with};
 ghost use Rattle.rule_check.specs.Views.{IsOrdered};
 ghost use Rattle.rule_check.specs.declared.shared.Taken.{Taken};
 
 use crate::least::lesser;
 use crate::view::RoomView;
-use game_tables::{is_building, obstructs};
+use game_tables::{obstructs, stands_fixed};
 use object_store::{Kind, Object};
 use std::alloc::{AllocError, Global};
 
@@ -104,15 +103,5 @@ impl Taken {
             fixed: self.fixed || stands_fixed(kind),
             obstructing: self.obstructing || obstructs(kind),
         }
-    }
-}
-
-// A tile has at most one of these.
-fn stands_fixed(kind: Kind) -> bool
-    ensures { result ≡ fixed kind }
-{
-    match kind {
-        Kind::Source | Kind::Controller | Kind::Site => true,
-        _ => is_building(kind),
     }
 }

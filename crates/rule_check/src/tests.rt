@@ -237,7 +237,8 @@ fn all_kinds(alloc: Global) -> Result<Sample, AllocError> {
 
 // What is asked of the objects of a room, where it is found.
 fn ordered(objects: &[Object]) -> Result<(), &'static str>
-    ensures { OnOk result (IsNonDecreasingBy (λ object. object.id) objects.now × AllByRecursion IsOnTile objects.now) }
+    ensures { OnOk result (IsNonDecreasingBy (λ object. object.id) objects.now
+        × AllByRecursion IsOnTile objects.now) }
 {
     if are_rising(objects) && are_on_tiles(objects) {
         Ok(())

@@ -10,7 +10,7 @@ use Rattle.world_bytes.specs.Forms.{account_bytes, intent_bytes, room_bytes}
 use Rattle.world_bytes.proofs.Written.{then_written}
 use Rattle.tick_journal.specs.declared.entries.UploadEntry.{UploadEntry}
 use Rattle.tick_journal.specs.Contents.{magic, signed_bytes, base_room, base_content, upload_bytes, outcome_bytes, run_bytes, tick_content, whole_record}
-use Rattle.tick_journal.specs.Lists.{listed}
+use Rattle.tick_journal.specs.inner.Lists.{listed}
 
 -- a list behind its number, and behind another piece
 list_written : {V : Type 0} (bytes : V → List ℕ) (values : List V) (old mid new a : List ℕ) → mid ≡ old ++ a → new ≡ mid ++ listed bytes values → new ≡ old ++ (a ++ little_bytes 4 (length values) ++ flat_map bytes values)

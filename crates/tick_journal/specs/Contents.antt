@@ -1,4 +1,5 @@
--- The contents of the journal's frames: the world that it begins with, and what is recorded of each tick. Numbers are little endian.
+-- The contents of the journal's frames: the world that it begins with, and what is recorded of each tick.
+-- Numbers are little endian.
 use Rattle.std.specs.Prelude.{ℕ, ℤ, List, [], ◌∷◌, ◌++◌, map, length}
 use Rattle.std.specs.List.{flat_map}
 use Rattle.std.specs.Int.{w32, cast_unsigned}
@@ -26,7 +27,9 @@ signed_bytes n = little_bytes 4 (cast_unsigned w32 n)
 
 -- a room: its name's column and row, a byte for each tile row by row, and its objects
 unfoldable pub base_room : Room → List ℕ
-base_room room = signed_bytes room.name.column ++ signed_bytes room.name.row ++ map ground_number room.terrain ++ room_bytes room.table
+base_room room =
+    signed_bytes room.name.column ++ signed_bytes room.name.row ++ map ground_number room.terrain
+    ++ room_bytes room.table
 
 -- the world that a journal begins with, in version 1
 unfoldable pub base_content : Stored → List ℕ
@@ -41,7 +44,8 @@ base_content world =
 
 -- ---- a tick
 
--- what is recorded of a tick: the number of the world after it, the uploads with their results, the runs, and accounts and rooms after it
+-- what is recorded of a tick: the number of the world after it, the uploads with their results, the runs, and
+-- accounts and rooms after it
 pub record TickRecord : Type 0 where
   pub tick : ℕ
   pub uploads : List UploadEntry
@@ -51,7 +55,8 @@ pub record TickRecord : Type 0 where
 
 -- an upload: its player, the number of its result, and its bytes behind their number
 unfoldable pub upload_bytes : UploadEntry → List ℕ
-upload_bytes entry = little_bytes 4 entry.player ++ entry.result_number ∷ little_bytes 4 (length entry.bytes) ++ entry.bytes
+upload_bytes entry =
+    little_bytes 4 entry.player ++ entry.result_number ∷ little_bytes 4 (length entry.bytes) ++ entry.bytes
 
 -- how a run ended, and the number of its trap or 0
 abbrev pub outcome_bytes : RunOutcome → List ℕ
@@ -59,7 +64,8 @@ outcome_bytes Finished = 0 ∷ 0 ∷ []
 outcome_bytes (Trapped trap) = 1 ∷ trap ∷ []
 outcome_bytes Spent = 2 ∷ 0 ∷ []
 
--- a run: its player, its outcome, the instructions that it used, and what it wants behind its number; the memory text stands in the account
+-- a run: its player, its outcome, the instructions that it used, and what it wants behind its number; the
+-- memory text stands in the account
 unfoldable pub run_bytes : PlayerRun → List ℕ
 run_bytes run =
     little_bytes 4 run.player
@@ -84,4 +90,11 @@ tick_content entry =
 
 -- the record of a tick that holds every account and every room
 abbrev pub whole_record : List UploadEntry → List PlayerRun → Stored → TickRecord
-whole_record uploads runs world = record { tick = world.tick; uploads = uploads; runs = runs; accounts = world.accounts; rooms = map (λ room. room.table) world.rooms }
+whole_record uploads runs world =
+    record {
+      tick = world.tick;
+      uploads = uploads;
+      runs = runs;
+      accounts = world.accounts;
+      rooms = map (λ room. room.table) world.rooms;
+    }

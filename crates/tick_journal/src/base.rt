@@ -2,7 +2,7 @@
 ghost use Rattle.std.specs.Prelude.{◌≡◌, ◌++◌, map, OnOk};
 ghost use Rattle.room_terrain.specs.Tiles.{ground_number};
 ghost use Rattle.tick_journal.specs.Contents.{base_room, signed_bytes};
-ghost use Rattle.tick_journal.specs.Lists.{listed};
+ghost use Rattle.tick_journal.specs.inner.Lists.{listed};
 
 use crate::NoMemory;
 use byte_fields::put_u32;

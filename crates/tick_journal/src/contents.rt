@@ -72,7 +72,8 @@ fn together(sizes: &[usize]) -> usize {
 
 // Writes what a journal begins with: its mark, its version, which is 1, and the tick of its world.
 fn put_start(tick: u64, out: &mut Vec<u8>) -> Result<(), NoMemory>
-    ensures { OnOk result (out.new.items ≡ out.old.items ++ (magic ++ little_bytes 4 1 ++ little_bytes 8 tick)) }
+    ensures { OnOk result
+        (out.new.items ≡ out.old.items ++ (magic ++ little_bytes 4 1 ++ little_bytes 8 tick)) }
 {
     out.extend_from_slice(b"SWSJ")?;
     put_u32(out, 1)?;

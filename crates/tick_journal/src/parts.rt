@@ -1,7 +1,7 @@
 // Uploads, runs, accounts and rooms of a tick, written to the end of bytes.
 ghost use Rattle.std.specs.Prelude.{◌≡◌, ◌++◌, map, OnOk};
 ghost use Rattle.tick_journal.specs.Contents.{outcome_bytes, run_bytes, upload_bytes};
-ghost use Rattle.tick_journal.specs.Lists.{listed};
+ghost use Rattle.tick_journal.specs.inner.Lists.{listed};
 ghost use Rattle.world_bytes.specs.Forms.{account_bytes, intent_bytes, room_bytes};
 
 use crate::NoMemory;
@@ -88,7 +88,8 @@ pub(crate) fn put_accounts(accounts: &[Account], out: &mut Vec<u8>) -> Result<()
 
 /// Writes rooms without their names and terrains, behind their number.
 pub(crate) fn put_tables(rooms: &[Room], out: &mut Vec<u8>) -> Result<(), NoMemory>
-    ensures { OnOk result (out.new.items ≡ out.old.items ++ listed room_bytes (map (λ room. room.table) rooms.now)) }
+    ensures { OnOk result
+        (out.new.items ≡ out.old.items ++ listed room_bytes (map (λ room. room.table) rooms.now)) }
 {
     put_length(rooms.len() as u64, out)?;
     'each: for room in rooms {

@@ -28,7 +28,8 @@ const BEFORE: [u8; 116] = [
     0, 0, 0, 0, 0, 0, 0, 0, 0, 0, 0, 0, 0, 0, 0, 0, 0,
 ];
 
-// Tick 1 with nothing but that room after it: the source is full again with 1,500, and 999 are left of the pile.
+// Tick 1 with nothing but that room after it: the source is full again with 1,500, and 999 are left of the
+// pile.
 #[rattlefmt::skip]
 const AFTER: [u8; 141] = [
     0x54, 1, 0, 0, 0, 0, 0, 0, 0, 0, 0, 0, 0, 0, 0, 0, 0, 0, 0, 0, 0, 1, 0, 0, 0,
@@ -81,7 +82,7 @@ fn small_table(alloc: Global, source: (u64, u32), pile: u64) -> Result<RoomTable
     let mut objects = Vec::new(alloc);
     objects.push(thing(1, Kind::Source, 10, source.0, source.1))?;
     objects.push(thing(2, Kind::Pile, 20, pile, 0))?;
-    Ok(RoomTable::of(0, 3, objects))
+    RoomTable::of(alloc, 0, 3, objects)
 }
 
 // The world of a tick with room E0S0, all plain with wall corners, a source and a pile.

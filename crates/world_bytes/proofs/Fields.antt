@@ -10,7 +10,7 @@ use Rattle.object_store.specs.declared.object.Object.{Object}
 use Rattle.world_bytes.specs.declared.object.Head.{Head}
 use Rattle.world_bytes.specs.declared.object.Counts.{Counts}
 use Rattle.world_bytes.specs.Forms.{HasObjectForm, object_bytes}
-use Rattle.world_bytes.specs.Rows.{Leads, HasHeadForm, head_row, head_of, HasCountsForm, counts_row, counts_of, HasBodyForm, body_row, object_row}
+use Rattle.world_bytes.specs.inner.Rows.{Leads, HasHeadForm, head_row, head_of, HasCountsForm, counts_row, counts_of, HasBodyForm, body_row, object_row}
 use Rattle.world_bytes.proofs.Words.{text_one, behind_word, word_short, behind_byte}
 
 -- ---- what an object is

@@ -8,7 +8,7 @@ use Rattle.game_tables.specs.declared.action.Action.TheVariants.{DropLoad, Trans
 use Rattle.game_tables.specs.declared.kind.Part.{Part}
 use Rattle.intent_book.specs.declared.intent.Intent.{Intent}
 use Rattle.world_bytes.specs.Forms.{HasIntentForm, SpellsIntent, intent_bytes}
-use Rattle.world_bytes.specs.Rows.{body_row}
+use Rattle.world_bytes.specs.inner.Rows.{body_row}
 use Rattle.world_bytes.proofs.Fields.{body_length, body_one}
 use Rattle.world_bytes.proofs.Words.{behind_byte, behind_word}
 

@@ -8,7 +8,7 @@ use Rattle.object_store.specs.Tables.{IsRising}
 use Rattle.object_store.specs.declared.object.Object.{Object}
 use Rattle.object_store.proofs.Accounts.{all_push}
 use Rattle.world_bytes.specs.Forms.{HasObjectForm, object_bytes}
-use Rattle.world_bytes.specs.Rows.{AreObjects, Leads, LeadsNone, object_row, objects_row}
+use Rattle.world_bytes.specs.inner.Rows.{AreObjects, Leads, LeadsNone, object_row, objects_row}
 use Rattle.world_bytes.proofs.Fields.{object_one}
 
 -- The list goes on behind the objects that were read, and the bytes behind them are those of its rest.

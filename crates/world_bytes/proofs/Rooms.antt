@@ -7,7 +7,7 @@ use Rattle.object_store.specs.Tables.{Table}
 use Rattle.object_store.specs.declared.account.Account.{Account}
 use Rattle.object_store.specs.declared.object.Object.{Object}
 use Rattle.world_bytes.specs.Forms.{HasAccountForm, HasRoomForm, SpellsAccount, SpellsRoom, account_bytes, room_bytes}
-use Rattle.world_bytes.specs.Rows.{Leads, AreObjects, objects_row, HasMemoryForm, memory_row}
+use Rattle.world_bytes.specs.inner.Rows.{Leads, AreObjects, objects_row, HasMemoryForm, memory_row}
 use Rattle.world_bytes.proofs.Words.{text_one, behind_word, word_short}
 use Rattle.world_bytes.proofs.Lists.{objects_one}
 

@@ -13,7 +13,7 @@ use Rattle.object_store.specs.declared.object.Object.{Object}
 use Rattle.world_bytes.specs.declared.object.Head.{Head}
 use Rattle.world_bytes.specs.declared.object.Counts.{Counts}
 use Rattle.world_bytes.specs.Forms.{object_bytes, room_bytes, account_bytes, intent_bytes}
-use Rattle.world_bytes.specs.Rows.{head_of, head_row, counts_of, counts_row, body_row}
+use Rattle.world_bytes.specs.inner.Rows.{head_of, head_row, counts_of, counts_row, body_row}
 
 -- one piece behind another
 pub then_written : {A : Type 0} (old mid new a b : List A) → mid ≡ old ++ a → new ≡ mid ++ b → new ≡ old ++ (a ++ b)

@@ -1,11 +1,12 @@
--- The byte forms of objects, rooms, accounts and intents. Numbers are little endian, and each value has one spelling.
+-- The byte forms of objects, rooms, accounts and intents. Numbers are little endian, and each value has one
+-- spelling.
 use Rattle.std.specs.Prelude.{◌≡◌, ℕ, ◌≤◌, ◌<◌, ◌^◌, true, List, ◌∷◌, ◌++◌, map, length}
 use Rattle.std.specs.List.{AllByRecursion, flat_map}
 use Rattle.byteorder.specs.Endian.{little_bytes}
 use Rattle.game_tables.specs.Actions.{action_number}
-use Rattle.game_tables.specs.Bodies.{parts_bound}
-use Rattle.game_tables.specs.Kinds.{in_rules}
-use Rattle.game_tables.specs.Limits.{memory_bound}
+use Rattle.game_tables.specs.Bodies.{most_parts}
+use Rattle.game_tables.specs.Kinds.{is_in_rules}
+use Rattle.game_tables.specs.Limits.{most_memory}
 use Rattle.game_tables.specs.Numbers.{kind_number, part_number}
 use Rattle.intent_book.specs.declared.intent.Intent.{Intent}
 use Rattle.object_store.specs.declared.account.Account.{Account}
@@ -58,11 +59,12 @@ intent_bytes intent =
 
 -- ---- which values have a form
 
--- The kind has a number here, the tile is in the room, and the body has no more parts than one may have. The numbers fit their fields.
+-- The kind has a number here, the tile is in the room, and the body has no more parts than one may have. The
+-- numbers fit their fields.
 pub record HasObjectForm (object : Object) : Type 0 where
-  pub kind : in_rules object.kind 1 ≡ true
+  pub kind : is_in_rules object.kind 1 ≡ true
   pub tile : IsOnTile object
-  pub parts : length object.body ≤ parts_bound
+  pub parts : length object.body ≤ most_parts
   pub id : object.id < 2 ^ 64
   pub owner : object.owner < 2 ^ 32
   pub hits : object.hits < 2 ^ 32
@@ -84,7 +86,7 @@ pub record HasRoomForm (table : Table) : Type 0 where
 
 -- The memory text is no longer than one may be. The numbers fit their fields.
 pub record HasAccountForm (account : Account) : Type 0 where
-  pub memory : length account.memory ≤ memory_bound
+  pub memory : length account.memory ≤ most_memory
   pub bytes : AllByRecursion (λ byte. byte < 2 ^ 8) account.memory
   pub player : account.player < 2 ^ 32
   pub limit : account.limit < 2 ^ 32
@@ -93,7 +95,7 @@ pub record HasAccountForm (account : Account) : Type 0 where
 
 -- The body has no more parts than one may have. The numbers fit their fields.
 pub record HasIntentForm (intent : Intent) : Type 0 where
-  pub parts : length intent.body ≤ parts_bound
+  pub parts : length intent.body ≤ most_parts
   pub player : intent.player < 2 ^ 32
   pub actor : intent.actor < 2 ^ 64
   pub target : intent.target < 2 ^ 64
@@ -111,4 +113,5 @@ SpellsAccount bytes account = HasAccountForm account × (bytes ≡ account_bytes
 
 -- The bytes are the form of this intent of a player.
 abbrev pub SpellsIntent : ℕ → List ℕ → Intent → Type 0
-SpellsIntent player bytes intent = HasIntentForm intent × (intent.player ≡ player) × (bytes ≡ intent_bytes intent)
+SpellsIntent player bytes intent =
+    HasIntentForm intent × (intent.player ≡ player) × (bytes ≡ intent_bytes intent)

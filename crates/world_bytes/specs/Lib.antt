@@ -1,2 +1,2 @@
 pub mod Forms
-pub mod Rows
+pub mod inner

@@ -10,10 +10,19 @@ ghost use Rattle.world_bytes.specs.Forms.{HasAccountForm, HasIntentForm, HasRoom
 /// of each player, and that what is written of a value that has a form begins as this value, whatever
 /// follows. It does nothing when it runs.
 pub fn forms_are_one()
-    ensures rooms { (bytes : List ℕ) (one other : Table) (rest more : List ℕ) → Begins SpellsRoom bytes one rest → Begins SpellsRoom bytes other more → (one ≡ other) × (rest ≡ more) }
-    ensures accounts { (bytes : List ℕ) (one other : Account) (rest more : List ℕ) → Begins SpellsAccount bytes one rest → Begins SpellsAccount bytes other more → (one ≡ other) × (rest ≡ more) }
-    ensures written_rooms { (table : Table) (rest : List ℕ) → HasRoomForm table → Begins SpellsRoom (room_bytes table ++ rest) (record table { spare = 0 }) rest }
-    ensures written_accounts { (account : Account) (rest : List ℕ) → HasAccountForm account → Begins SpellsAccount (account_bytes account ++ rest) account rest }
-    ensures intents { (player : ℕ) (bytes : List ℕ) (one other : Intent) (rest more : List ℕ) → Begins (SpellsIntent player) bytes one rest → Begins (SpellsIntent player) bytes other more → (one ≡ other) × (rest ≡ more) }
-    ensures written_intents { (intent : Intent) (rest : List ℕ) → HasIntentForm intent → Begins (SpellsIntent intent.player) (intent_bytes intent ++ rest) intent rest }
+    ensures rooms { (bytes : List ℕ) (one other : Table) (rest more : List ℕ)
+        → Begins SpellsRoom bytes one rest → Begins SpellsRoom bytes other more
+        → (one ≡ other) × (rest ≡ more) }
+    ensures accounts { (bytes : List ℕ) (one other : Account) (rest more : List ℕ)
+        → Begins SpellsAccount bytes one rest → Begins SpellsAccount bytes other more
+        → (one ≡ other) × (rest ≡ more) }
+    ensures written_rooms { (table : Table) (rest : List ℕ) → HasRoomForm table
+        → Begins SpellsRoom (room_bytes table ++ rest) (record table { spare = 0 }) rest }
+    ensures written_accounts { (account : Account) (rest : List ℕ) → HasAccountForm account
+        → Begins SpellsAccount (account_bytes account ++ rest) account rest }
+    ensures intents { (player : ℕ) (bytes : List ℕ) (one other : Intent) (rest more : List ℕ)
+        → Begins (SpellsIntent player) bytes one rest → Begins (SpellsIntent player) bytes other more
+        → (one ≡ other) × (rest ≡ more) }
+    ensures written_intents { (intent : Intent) (rest : List ℕ) → HasIntentForm intent
+        → Begins (SpellsIntent intent.player) (intent_bytes intent ++ rest) intent rest }
 {}

@@ -1,11 +1,11 @@
 // Objects at the front of bytes, read in groups of fields.
 ghost use Rattle.std.specs.Prelude.{◌≡◌, ◌+◌, ◌<◌, ◌≤◌, ℕ, true, List, ◌∷◌, map, length, IfOk, OnOk, OnErr, IfSome, IfNone};
-ghost use Rattle.game_tables.specs.Kinds.{in_rules};
+ghost use Rattle.game_tables.specs.Kinds.{is_in_rules};
 ghost use Rattle.game_tables.specs.Numbers.{kind_number, part_number};
 ghost use Rattle.game_tables.specs.declared.kind.Kind.{Kind};
 ghost use Rattle.game_tables.specs.declared.kind.Part.{Part};
 ghost use Rattle.world_bytes.specs.Forms.{HasObjectForm};
-ghost use Rattle.world_bytes.specs.Rows.{Leads, LeadsNone, HasHeadForm, head_row, HasCountsForm, counts_row, HasBodyForm, body_row, object_row};
+ghost use Rattle.world_bytes.specs.inner.Rows.{Leads, LeadsNone, HasHeadForm, head_row, HasCountsForm, counts_row, HasBodyForm, body_row, object_row};
 
 use crate::fault::NoForm;
 use byte_fields::{Cursor, Short};
@@ -36,8 +36,10 @@ pub(crate) struct Counts {
 
 // Reads the number of a kind in force.
 fn read_kind(from: &mut Cursor) -> Result<Kind, NoForm>
-    ensures found { IfOk result (λ kind. (in_rules kind 1 ≡ true) × (from.old.0 ≡ kind_number kind ∷ from.new.0)) }
-    ensures none { OnErr result ((kind : Kind) (rest : List ℕ) → in_rules kind 1 ≡ true → from.old.0 ≡ kind_number kind ∷ rest → ⊥) }
+    ensures found { IfOk result
+        (λ kind. (is_in_rules kind 1 ≡ true) × (from.old.0 ≡ kind_number kind ∷ from.new.0)) }
+    ensures none { OnErr result ((kind : Kind) (rest : List ℕ) → is_in_rules kind 1 ≡ true
+        → from.old.0 ≡ kind_number kind ∷ rest → ⊥) }
     ensures place { OnOk result (from.new.1 ≡ from.old.1 + 1) }
 {
     let number = from.u8()?;

@@ -6,7 +6,7 @@ ghost use Rattle.game_tables.specs.Actions.{action_number};
 ghost use Rattle.game_tables.specs.declared.action.Action.{Action};
 ghost use Rattle.object_store.specs.Tables.{IsRising};
 ghost use Rattle.world_bytes.specs.Forms.{SpellsRoom, SpellsAccount, SpellsIntent};
-ghost use Rattle.world_bytes.specs.Rows.{Leads, LeadsNone, AreObjects, objects_row, HasMemoryForm, memory_row};
+ghost use Rattle.world_bytes.specs.inner.Rows.{Leads, LeadsNone, AreObjects, objects_row, HasMemoryForm, memory_row};
 
 use crate::NoMemory;
 use crate::fault::{BytesFault, NoForm};
@@ -30,8 +30,10 @@ fn is_behind(id: u64, objects: &[Object]) -> bool
 
 // Reads so many objects, and takes memory as they are read.
 fn read_objects(alloc: Global, count: u32, from: &mut Cursor) -> Result<Vec<Object>, BytesFault>
-    ensures found { IfOk result (λ objects. Leads (AreObjects count) objects_row from.old.0 objects.items from.new.0) }
-    ensures malformed { IfErr result (λ e. e ≡ BytesFault.Malformed → LeadsNone (AreObjects count) objects_row from.old.0) }
+    ensures found { IfOk result
+        (λ objects. Leads (AreObjects count) objects_row from.old.0 objects.items from.new.0) }
+    ensures malformed { IfErr result (λ e. e ≡ BytesFault.Malformed
+        → LeadsNone (AreObjects count) objects_row from.old.0) }
     ensures place { OnOk result (from.new.1 + length from.new.0 ≡ from.old.1 + length from.old.0) }
 {
     let mut objects = Vec::new(alloc);
@@ -58,7 +60,8 @@ fn room_ahead(alloc: Global, from: &mut Cursor) -> Result<RoomTable, BytesFault>
     }
     let count = from.u32()?;
     let objects = read_objects(alloc, count, from)?;
-    Ok(RoomTable::of(index, next, objects))
+    let table = RoomTable::of(alloc, index, next, objects)?;
+    Ok(table)
 }
 
 /// Reads the room at the front, with its index. Memory is taken as objects are read, whatever number
@@ -88,7 +91,8 @@ fn text_of(alloc: Global, part: &[u8]) -> Result<Bytes, NoMemory>
 // Reads a memory text, behind its length. Where there is none, the cursor may stand anywhere.
 fn read_memory(alloc: Global, from: &mut Cursor) -> Result<Bytes, BytesFault>
     ensures found { IfOk result (λ text. Leads HasMemoryForm memory_row from.old.0 text from.new.0) }
-    ensures malformed { IfErr result (λ e. e ≡ BytesFault.Malformed → LeadsNone HasMemoryForm memory_row from.old.0) }
+    ensures malformed { IfErr result (λ e. e ≡ BytesFault.Malformed
+        → LeadsNone HasMemoryForm memory_row from.old.0) }
     ensures place { OnOk result (from.new.1 + length from.new.0 ≡ from.old.1 + length from.old.0) }
 {
     let length = from.u32()?;
@@ -136,7 +140,8 @@ pub fn read_account(alloc: Global, from: &mut Cursor) -> Result<Account, BytesFa
 // Reads the number of an action.
 fn read_action(from: &mut Cursor) -> Result<Action, NoForm>
     ensures found { IfOk result (λ action. from.old.0 ≡ action_number action ∷ from.new.0) }
-    ensures none { OnErr result ((action : Action) (rest : List ℕ) → from.old.0 ≡ action_number action ∷ rest → ⊥) }
+    ensures none { OnErr result ((action : Action) (rest : List ℕ) → from.old.0 ≡ action_number action ∷ rest
+        → ⊥) }
     ensures place { OnOk result (from.new.1 ≡ from.old.1 + 1) }
 {
     let number = from.u8()?;
@@ -172,7 +177,8 @@ pub fn read_intent(player: u32, from: &mut Cursor) -> Result<Intent, BytesFault>
     ensures found { IfOk result (λ intent. Begins (SpellsIntent player) from.old.0 intent from.new.0) }
     ensures only { IfOk result (λ intent. BeginsOnly (SpellsIntent player) from.old.0 intent from.new.0) }
     ensures place { from.new.1 + length from.new.0 ≡ from.old.1 + length from.old.0 }
-    ensures malformed { IfErr result (λ e. e ≡ BytesFault.Malformed → BeginsNone (SpellsIntent player) from.old.0) }
+    ensures malformed { IfErr result (λ e. e ≡ BytesFault.Malformed
+        → BeginsNone (SpellsIntent player) from.old.0) }
     ensures never_memory { IfErr result (λ e. e ≡ BytesFault.Malformed) }
     ensures unchanged { OnErr result (from.new ≡ from.old) }
 {

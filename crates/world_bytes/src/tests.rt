@@ -156,7 +156,8 @@ fn written_alone(alloc: Global, object: Object) -> Result<Vec<u8>, NoMemory> {
     let mut objects = Vec::new(alloc);
     objects.push(object)?;
     let mut out = Vec::new(alloc);
-    write_room(399, &RoomTable::of(399, 0xffff_ffff, objects), &mut out)?;
+    let room = RoomTable::of(alloc, 399, 0xffff_ffff, objects)?;
+    write_room(399, &room, &mut out)?;
     Ok(out)
 }
 
@@ -238,8 +239,8 @@ fn rooms_of_any_size_come_back(rt: HostRuntime) -> Result<(), Fail> {
         let (index, room) = read_room(rt.alloc(), &mut from)?;
         assert_eq!(rt; (index, room.index(), room.next()), (7, 7, 1000));
         assert_eq!(rt; from.place(), size);
-        assert_eq!(rt; room.objects().len(), count as usize);
-        for (at, object) in room.objects().iter().enumerate() {
+        assert_eq!(rt; room.objects().count(), count as usize);
+        for (at, object) in room.objects().enumerate() {
             let place = at as u64;
             assert_eq!(rt; object.id, 5 + 3 * place);
             assert_eq!(rt;

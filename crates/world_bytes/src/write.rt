@@ -3,12 +3,12 @@ ghost use Rattle.std.specs.Prelude.{◌≡◌, ◌++◌, [], length, take, OnOk,
 ghost use Rattle.std.specs.List.{flat_map};
 ghost use Rattle.byteorder.specs.Endian.{little_bytes};
 ghost use Rattle.world_bytes.specs.Forms.{object_bytes, room_bytes, account_bytes, intent_bytes};
-ghost use Rattle.world_bytes.specs.Rows.{head_of, head_row, counts_of, counts_row, body_row};
+ghost use Rattle.world_bytes.specs.inner.Rows.{head_of, head_row, counts_of, counts_row, body_row};
 
 use crate::NoMemory;
 use byte_fields::{put_u32, put_u64};
 use intent_book::Intent;
-use object_store::{Account, Body, Object, RoomTable};
+use object_store::{Account, Body, Object, Objects, RoomTable};
 
 // Writes what an object is. On want of memory a part of it may stand there.
 fn put_head(object: &Object, out: &mut Vec<u8>) -> Result<(), NoMemory>
@@ -58,8 +58,8 @@ fn put_object(object: &Object, out: &mut Vec<u8>) -> Result<(), NoMemory>
 }
 
 // Writes objects, one behind the other. On want of memory some of them may stand there.
-fn put_objects(objects: &[Object], out: &mut Vec<u8>) -> Result<(), NoMemory>
-    ensures written { OnOk result (out.new.items ≡ out.old.items ++ flat_map object_bytes objects.now) }
+fn put_objects(objects: Objects<'_>, out: &mut Vec<u8>) -> Result<(), NoMemory>
+    ensures written { OnOk result (out.new.items ≡ out.old.items ++ flat_map object_bytes objects.entry) }
     ensures kept { OnErr result (take (length out.old.items) out.new.items ≡ out.old.items) }
 {
     'each: for object in objects {

@@ -3,7 +3,7 @@ use Rattle.std.proofs.Common.{◌≡◌, ℕ, Bool, true, false, [], ◌∷◌, 
 use Rattle.std.specs.Prelude.{⊤}
 use Rattle.serde_json.specs.Data.{Data}
 use Rattle.serde_json.specs.Find.{get}
-use Rattle.game_tables.specs.Kinds.{in_rules}
+use Rattle.game_tables.specs.Kinds.{is_in_rules}
 use Rattle.world_form.specs.declared.fault.WorldFault.{WorldFault}
 use Rattle.world_form.specs.declared.fault.WorldFault.TheVariants as faults
 use Rattle.world_form.specs.declared.field.Field.{Field}
@@ -65,12 +65,12 @@ optional_at field Form place part (Some value) there = λ not none. none (faults
 optional_decided : {A : Type 0} (field : Field) (Form : Data → A → Type 0) (place : ℕ) (part : Data) → IsDecided (optional field Form place part)
 optional_decided field Form place part = optional_at field Form place part (get (key field) part) refl
 
-known_at : (part : Data) (formed : IsFormed fields.Kind IsKindText part) (known : Bool) → in_rules formed.0 1 ≡ known → IsDecided (known_kind part)
+known_at : (part : Data) (formed : IsFormed fields.Kind IsKindText part) (known : Bool) → is_in_rules formed.0 1 ≡ known → IsDecided (known_kind part)
 known_at part formed true known = λ not none. not (formed.0, formed.1, known)
 known_at part formed false unknown = λ not none. none (faults.NotBuilt formed.0) (formed.0, formed.1, unknown, refl)
 
 kind_decided : (place : ℕ) (part : Data) → AreDecided (required fields.Kind IsKindText place part ∷ known_kind part ∷ [])
-kind_decided place part = (required_decided fields.Kind IsKindText place part, λ formed. (known_at part formed (in_rules formed.0 1) refl, λ _. tt))
+kind_decided place part = (required_decided fields.Kind IsKindText place part, λ formed. (known_at part formed (is_in_rules formed.0 1) refl, λ _. tt))
 
 of_kinds : IsOfKinds AreDecided
 of_kinds = record {

@@ -1,7 +1,7 @@
 -- What is true of each kind of check, and of lists joined end to end, is true of the checks of a world file.
 use Rattle.std.proofs.Common.{ℕ, suc, ◌-◌, ◌^◌, List, [], ◌∷◌, ◌++◌}
 use Rattle.serde_json.specs.Data.{Data, Items, no_items, item}
-use Rattle.game_tables.specs.Limits.{limit_bound, bucket_bound, points_bound}
+use Rattle.game_tables.specs.Limits.{most_limit, most_bucket, most_points}
 use Rattle.world_form.specs.declared.field.Field.{Field}
 use Rattle.world_form.specs.declared.field.Field.TheVariants as fields
 use Rattle.world_form.specs.Facts.{IsWhole, IsWhole32, IsWhole53, IsList, IsKindText, IsBodyList, IsNameText, IsTerrainText, IsTokenText, IsMemoryText}
@@ -54,9 +54,9 @@ module _ (P : List Check → Type 0) (is : IsOfKinds P) where
   player_such place part =
       must fields.Player (IsWhole 1 (2 ^ 32 - 1)) place part _
       (may fields.Token IsTokenText place part _
-      (must fields.Limit (IsWhole 0 limit_bound) place part _
-      (may fields.Bucket (IsWhole 0 bucket_bound) place part _
-      (may fields.Points (IsWhole 0 points_bound) place part _
+      (must fields.Limit (IsWhole 0 most_limit) place part _
+      (may fields.Bucket (IsWhole 0 most_bucket) place part _
+      (may fields.Points (IsWhole 0 most_points) place part _
       (may fields.Memory IsMemoryText place part _ is.nothing)))))
 
   pub world_such : (part : Data) → P (world_checks part)

@@ -2,7 +2,7 @@
 use Rattle.std.proofs.Common.{◌≡◌, ℕ, false, sym, ap, subst, ◌∙◌, inl, inr}
 use Rattle.serde_json.specs.Data.{Data}
 use Rattle.serde_json.specs.Find.{get}
-use Rattle.game_tables.specs.Kinds.{in_rules}
+use Rattle.game_tables.specs.Kinds.{is_in_rules}
 use Rattle.world_form.specs.declared.fault.WorldFault.TheVariants.{NotBuilt}
 use Rattle.world_form.specs.declared.field.Field.{Field}
 use Rattle.world_form.specs.declared.field.Field.TheVariants as fields
@@ -44,7 +44,7 @@ known_kind_exact part = record {
   one = λ fault other fails also. fails.3 ∙ ap NotBuilt (required_one fields.Kind IsKindText kind_one part fails.0 also.0 fails.1 also.1) ∙ sym also.3;
   apart = λ fault holds fails.
       let same = required_one fields.Kind IsKindText kind_one part fails.0 holds.0 fails.1 holds.1 in
-      true_false (in_rules holds.0 1) holds.2 (subst (λ kind. in_rules kind 1 ≡ false) same fails.2);
+      true_false (is_in_rules holds.0 1) holds.2 (subst (λ kind. is_in_rules kind 1 ≡ false) same fails.2);
 }
 
 all_exact : IsOfKinds (AllOf IsExact)

@@ -7,9 +7,9 @@ use Rattle.std.specs.FinMap.{find, get-from_entries}
 use Rattle.std.proofs.lemmas.Bool.{cases_eq, cases_lt, ne_eqb}
 use Rattle.std.proofs.lemmas.List.{length-map}
 use Rattle.std.proofs.lemmas.Option.{slice_get_past}
-use Rattle.game_tables.specs.Bodies.{parts_bound}
-use Rattle.game_tables.specs.Kinds.{in_rules}
-use Rattle.game_tables.specs.Limits.{rooms_bound, objects_bound, players_bound}
+use Rattle.game_tables.specs.Bodies.{most_parts}
+use Rattle.game_tables.specs.Kinds.{is_in_rules}
+use Rattle.game_tables.specs.Limits.{most_rooms, most_objects, most_players}
 use Rattle.object_store.specs.declared.object.Object.{Object}
 use Rattle.object_store.specs.declared.account.Account.{Account}
 use Rattle.object_store.specs.Stored.{Stored}
@@ -41,35 +41,35 @@ stable_le a b held = elim (cases_lt b a) [ inl lt ↦ absurd (held (λ le. omega
 
 stable_small : (o : Object) → ((IsSmall o → ⊥) → ⊥) → IsSmall o
 stable_small o held = record {
-  in_rules = stable_true (in_rules o.kind 1) (λ none. held (λ s. none s.in_rules));
+  in_rules = stable_true (is_in_rules o.kind 1) (λ none. held (λ s. none s.in_rules));
   hits = stable_le o.hits (2 ^ 32 - 1) (λ none. held (λ s. none s.hits));
   energy = stable_le o.energy (2 ^ 53) (λ none. held (λ s. none s.energy));
   timer = stable_le o.timer (2 ^ 32 - 1) (λ none. held (λ s. none s.timer));
   extra = stable_le o.extra (2 ^ 32 - 1) (λ none. held (λ s. none s.extra));
   progress = stable_le o.progress (2 ^ 53) (λ none. held (λ s. none s.progress));
   other_ticks = stable_le o.other_ticks (2 ^ 32 - 1) (λ none. held (λ s. none s.other_ticks));
-  body = stable_le (length o.body) parts_bound (λ none. held (λ s. none s.body));
+  body = stable_le (length o.body) most_parts (λ none. held (λ s. none s.body));
 }
 
 -- ---- counts
 
-pub few_rooms : (listing : Listing) → KeepsRules listing → length listing.rooms ≤ rooms_bound
-few_rooms listing keeps = stable_le (length listing.rooms) rooms_bound (λ none. keeps rules.Counts 0 (refl, λ counts. none counts.rooms))
+pub few_rooms : (listing : Listing) → KeepsRules listing → length listing.rooms ≤ most_rooms
+few_rooms listing keeps = stable_le (length listing.rooms) most_rooms (λ none. keeps rules.Counts 0 (refl, λ counts. none counts.rooms))
 
-pub few_objects : (listing : Listing) → KeepsRules listing → length (placed listing) ≤ objects_bound
-few_objects listing keeps = stable_le (length (placed listing)) objects_bound (λ none. keeps rules.Counts 0 (refl, λ counts. none counts.objects))
+pub few_objects : (listing : Listing) → KeepsRules listing → length (placed listing) ≤ most_objects
+few_objects listing keeps = stable_le (length (placed listing)) most_objects (λ none. keeps rules.Counts 0 (refl, λ counts. none counts.objects))
 
-pub few_players : (listing : Listing) → KeepsRules listing → length listing.accounts ≤ players_bound
-few_players listing keeps = stable_le (length listing.accounts) players_bound (λ none. keeps rules.Counts 0 (refl, λ counts. none counts.players))
+pub few_players : (listing : Listing) → KeepsRules listing → length listing.accounts ≤ most_players
+few_players listing keeps = stable_le (length listing.accounts) most_players (λ none. keeps rules.Counts 0 (refl, λ counts. none counts.players))
 
 -- ---- ids
 
 id_low : (listing : Listing) (id : ℕ) → (HasNoBirth (world_listed listing) id → ⊥) → 1 ≤ id
 id_low listing id born = elim (cases_eq id 0) [ inl e ↦ absurd (born (inr (ap (λ n. n % 2 ^ 32) e))) | inr apart ↦ omega arith ]
 
-id_high : (listing : Listing) (id : ℕ) → length listing.rooms ≤ rooms_bound → (HasNoBirth (world_listed listing) id → ⊥) → id ≤ 2 ^ 53
+id_high : (listing : Listing) (id : ℕ) → length listing.rooms ≤ most_rooms → (HasNoBirth (world_listed listing) id → ⊥) → id ≤ 2 ^ 53
 id_high listing id few born =
-    elim (cases_lt (id / 2 ^ 32) rooms_bound) [
+    elim (cases_lt (id / 2 ^ 32) most_rooms) [
       | inl lt ↦ omega arith
       | inr le ↦
           let frames : List Frame = map (λ (room : ListedRoom). room.frame) listing.rooms in

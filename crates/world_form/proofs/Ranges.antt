@@ -8,24 +8,24 @@ use Rattle.game_tables.specs.declared.kind.Kind.{Kind}
 use Rattle.game_tables.specs.declared.kind.Kind.TheVariants as kinds
 use Rattle.game_tables.specs.declared.kind.Part.{Part}
 use Rattle.game_tables.specs.declared.kind.Part.TheVariants as parts
-use Rattle.game_tables.specs.Bodies.{parts_bound, has_part, lifetime, live_parts, live_count, same_part}
-use Rattle.game_tables.specs.Kinds.{in_rules, most_hits, work_to_build}
-use Rattle.game_tables.specs.Fields.{energy_bound, timer_bound}
-use Rattle.game_tables.specs.Levels.{totals, downgrades, total_at, downgrade_at}
+use Rattle.game_tables.specs.Bodies.{most_parts, has_part, lifetime, live_parts, live_count, same_part}
+use Rattle.game_tables.specs.Kinds.{is_in_rules, hits_max, build_total}
+use Rattle.game_tables.specs.Fields.{most_energy, most_timer}
+use Rattle.game_tables.specs.Levels.{totals, downgrades, total_for_next, downgrade_number}
 use Rattle.game_tables.specs.Numbers.{kind_number}
 use Rattle.object_store.specs.declared.object.Object.{Object}
 use Rattle.world_rules.specs.Rules.{IsProgress, IsDowngradeTimer, IsSource, IsController, IsCreep, IsSpawn, IsStore, IsDecaying, IsPile, IsSite, IsInRangeAs}
 
 -- The kind is one of the rules in force, and the fields but for its id and its players are in a file's ranges.
 pub record IsSmall (o : Object) : Type 0 where
-  pub in_rules : in_rules o.kind 1 ≡ true
+  pub in_rules : is_in_rules o.kind 1 ≡ true
   pub hits : o.hits ≤ 2 ^ 32 - 1
   pub energy : o.energy ≤ 2 ^ 53
   pub timer : o.timer ≤ 2 ^ 32 - 1
   pub extra : o.extra ≤ 2 ^ 32 - 1
   pub progress : o.progress ≤ 2 ^ 53
   pub other_ticks : o.other_ticks ≤ 2 ^ 32 - 1
-  pub body : length o.body ≤ parts_bound
+  pub body : length o.body ≤ most_parts
 
 -- ---- tables
 
@@ -38,12 +38,12 @@ at_most bound [] all level = tt
 at_most bound (entry ∷ entries) all zero = all.0
 at_most bound (entry ∷ entries) all (suc level) = at_most bound entries all.1 level
 
-downgrade_most : (level : ℕ) → AtMost 200000 (downgrade_at level)
+downgrade_most : (level : ℕ) → AtMost 200000 (downgrade_number level)
 downgrade_most level =
     at_most 200000 downgrades
     (tt, (omega arith, (omega arith, (omega arith, (omega arith, (omega arith, (omega arith, (omega arith, (omega arith, tt))))))))) level
 
-total_most : (level : ℕ) → AtMost 10935000 (total_at level)
+total_most : (level : ℕ) → AtMost 10935000 (total_for_next level)
 total_most level =
     at_most 10935000 totals
     (tt, (omega arith, (omega arith, (omega arith, (omega arith, (omega arith, (omega arith, (omega arith, (tt, tt))))))))) level
@@ -56,7 +56,7 @@ progress_most : (bound : ℕ) (total : Option ℕ) (progress : ℕ) → AtMost b
 progress_most bound None progress most is = omega (arith, is)
 progress_most bound (Some total) progress most is = omega (arith, is)
 
-work_most : (kind : Kind) → AtMost 30000 (work_to_build kind)
+work_most : (kind : Kind) → AtMost 30000 (build_total kind)
 work_most kinds.Source = tt
 work_most kinds.Controller = tt
 work_most kinds.Creep = tt
@@ -100,14 +100,14 @@ carried_most part hits body = omega (arith, count_by-le-length (same_part part) 
 lifetime_most : (body : List Part) → lifetime body ≤ 1500
 lifetime_most body = cond_both (has_part parts.Claim body) 600 1500 (λ n. n ≤ 1500) (λ e. omega arith) (λ e. omega arith)
 
-none_most : (body : List Part) → body ≡ [] → length body ≤ parts_bound
+none_most : (body : List Part) → body ≡ [] → length body ≤ most_parts
 none_most body none = omega (arith, ap length none)
 
 -- ---- the kinds
 
 source_small : (o : Object) → o.kind ≡ kinds.Source → IsSource o → IsSmall o
 source_small o is s = record {
-  in_rules = ap (λ kind. in_rules kind 1) is;
+  in_rules = ap (λ kind. is_in_rules kind 1) is;
   hits = omega arith;
   energy = omega arith;
   timer = omega arith;
@@ -119,11 +119,11 @@ source_small o is s = record {
 
 controller_small : (o : Object) → o.kind ≡ kinds.Controller → IsController o → IsSmall o
 controller_small o is s =
-    let timer = timer_most 200000 (downgrade_at o.extra) o.timer (downgrade_most o.extra) s.timer in
-    let progress = progress_most 10935000 (total_at o.extra) o.progress (total_most o.extra) s.progress in
+    let timer = timer_most 200000 (downgrade_number o.extra) o.timer (downgrade_most o.extra) s.timer in
+    let progress = progress_most 10935000 (total_for_next o.extra) o.progress (total_most o.extra) s.progress in
     let ticks : o.other_ticks ≤ 5000 = elim (cases_eq o.other 0) [ inl nobody ↦ (let none = s.unreserved nobody in omega arith) | inr some ↦ (s.reserved some).1 ] in
     record {
-      in_rules = ap (λ kind. in_rules kind 1) is;
+      in_rules = ap (λ kind. is_in_rules kind 1) is;
       hits = omega arith;
       energy = omega arith;
       timer = omega arith;
@@ -142,7 +142,7 @@ creep_small o is s =
     let life : o.timer ≤ lifetime o.body = s.timer.1 in
     let years = lifetime_most o.body in
     record {
-      in_rules = ap (λ kind. in_rules kind 1) is;
+      in_rules = ap (λ kind. is_in_rules kind 1) is;
       hits = omega arith;
       energy = omega arith;
       timer = omega arith;
@@ -158,7 +158,7 @@ spawn_small o is s =
     let long : length o.body ≤ 50 = s.parts in
     let timer : o.timer ≤ 3 * length o.body = s.timer in
     record {
-      in_rules = ap (λ kind. in_rules kind 1) is;
+      in_rules = ap (λ kind. is_in_rules kind 1) is;
       hits = omega arith;
       energy = omega arith;
       timer = omega arith;
@@ -168,11 +168,11 @@ spawn_small o is s =
       body = s.parts;
     }
 
-store_small : (kind : Kind) (o : Object) → in_rules o.kind 1 ≡ true → ((body : List Part) → most_hits kind body ≤ 10000) → ((hits : ℕ) (body : List Part) → energy_bound kind hits body ≤ 1000000) → IsStore kind o → IsSmall o
+store_small : (kind : Kind) (o : Object) → is_in_rules o.kind 1 ≡ true → ((body : List Part) → hits_max kind body ≤ 10000) → ((hits : ℕ) (body : List Part) → most_energy kind hits body ≤ 1000000) → IsStore kind o → IsSmall o
 store_small kind o known full room s =
-    let hits : o.hits ≤ most_hits kind o.body = s.hits.1 in
+    let hits : o.hits ≤ hits_max kind o.body = s.hits.1 in
     let most = full o.body in
-    let energy : o.energy ≤ energy_bound kind o.hits o.body = s.energy in
+    let energy : o.energy ≤ most_energy kind o.hits o.body = s.energy in
     let holds = room o.hits o.body in
     record {
       in_rules = known;
@@ -185,14 +185,14 @@ store_small kind o known full room s =
       body = none_most o.body s.body;
     }
 
-decaying_small : (kind : Kind) (o : Object) → in_rules o.kind 1 ≡ true → ((body : List Part) → most_hits kind body ≤ 250000) → ((hits : ℕ) (body : List Part) → energy_bound kind hits body ≤ 2000)
-    → ((extra : ℕ) (body : List Part) → timer_bound kind extra body ≤ 1000) → IsDecaying kind o → IsSmall o
+decaying_small : (kind : Kind) (o : Object) → is_in_rules o.kind 1 ≡ true → ((body : List Part) → hits_max kind body ≤ 250000) → ((hits : ℕ) (body : List Part) → most_energy kind hits body ≤ 2000)
+    → ((extra : ℕ) (body : List Part) → most_timer kind extra body ≤ 1000) → IsDecaying kind o → IsSmall o
 decaying_small kind o known full room decay s =
-    let hits : o.hits ≤ most_hits kind o.body = s.hits.1 in
+    let hits : o.hits ≤ hits_max kind o.body = s.hits.1 in
     let most = full o.body in
-    let energy : o.energy ≤ energy_bound kind o.hits o.body = s.energy in
+    let energy : o.energy ≤ most_energy kind o.hits o.body = s.energy in
     let holds = room o.hits o.body in
-    let timer : o.timer ≤ timer_bound kind o.extra o.body = s.timer.1 in
+    let timer : o.timer ≤ most_timer kind o.extra o.body = s.timer.1 in
     let lasts = decay o.extra o.body in
     record {
       in_rules = known;
@@ -209,7 +209,7 @@ pile_small : (o : Object) → o.kind ≡ kinds.Pile → IsPile o → IsSmall o
 pile_small o is s =
     let energy : o.energy ≤ 1000000000 = s.energy.1 in
     record {
-      in_rules = ap (λ kind. in_rules kind 1) is;
+      in_rules = ap (λ kind. is_in_rules kind 1) is;
       hits = omega arith;
       energy = omega arith;
       timer = omega arith;
@@ -223,9 +223,9 @@ site_small : (o : Object) → o.kind ≡ kinds.Site → IsSite o → IsSmall o
 site_small o is s =
     let number : o.extra ≡ kind_number s.built.0 = s.built.2 in
     let most = number_most s.built.0 in
-    let progress = progress_most 30000 (work_to_build s.built.0) o.progress (work_most s.built.0) s.built.3 in
+    let progress = progress_most 30000 (build_total s.built.0) o.progress (work_most s.built.0) s.built.3 in
     record {
-      in_rules = ap (λ kind. in_rules kind 1) is;
+      in_rules = ap (λ kind. is_in_rules kind 1) is;
       hits = omega arith;
       energy = omega arith;
       timer = omega arith;
@@ -240,10 +240,10 @@ small_as kinds.Source o is s = source_small o is s
 small_as kinds.Controller o is s = controller_small o is s
 small_as kinds.Creep o is s = creep_small o is s
 small_as kinds.Spawn o is s = spawn_small o is s
-small_as kinds.Extension o is s = store_small kinds.Extension o (ap (λ kind. in_rules kind 1) is) (λ body. omega arith) (λ hits body. omega arith) s
-small_as kinds.Storage o is s = store_small kinds.Storage o (ap (λ kind. in_rules kind 1) is) (λ body. omega arith) (λ hits body. omega arith) s
-small_as kinds.Container o is s = decaying_small kinds.Container o (ap (λ kind. in_rules kind 1) is) (λ body. omega arith) (λ hits body. omega arith) (λ extra body. omega arith) s
-small_as kinds.Road o is s = decaying_small kinds.Road o (ap (λ kind. in_rules kind 1) is) (λ body. omega arith) (λ hits body. omega arith) (λ extra body. omega arith) s
+small_as kinds.Extension o is s = store_small kinds.Extension o (ap (λ kind. is_in_rules kind 1) is) (λ body. omega arith) (λ hits body. omega arith) s
+small_as kinds.Storage o is s = store_small kinds.Storage o (ap (λ kind. is_in_rules kind 1) is) (λ body. omega arith) (λ hits body. omega arith) s
+small_as kinds.Container o is s = decaying_small kinds.Container o (ap (λ kind. is_in_rules kind 1) is) (λ body. omega arith) (λ hits body. omega arith) (λ extra body. omega arith) s
+small_as kinds.Road o is s = decaying_small kinds.Road o (ap (λ kind. is_in_rules kind 1) is) (λ body. omega arith) (λ hits body. omega arith) (λ extra body. omega arith) s
 small_as kinds.Pile o is s = pile_small o is s
 small_as kinds.Site o is s = site_small o is s
 small_as kinds.Tower o is s = absurd s

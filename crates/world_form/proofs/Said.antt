@@ -2,8 +2,8 @@
 use Rattle.std.proofs.Common.{◌≡◌, ℕ, ◌≤◌, ◌⊎◌, List, [], Some, option_and_then, refl, sym, ap, subst, ◌∙◌, inl, inr, arith}
 use Rattle.serde_json.specs.Data.{Data, Items, no_items}
 use Rattle.serde_json.specs.Find.{get, as_array}
-use Rattle.game_tables.specs.Kinds.{most_hits}
-use Rattle.game_tables.specs.Limits.{bucket_bound, points_bound}
+use Rattle.game_tables.specs.Kinds.{hits_max}
+use Rattle.game_tables.specs.Limits.{most_bucket, most_points}
 use Rattle.object_store.specs.declared.object.Object.{Object}
 use Rattle.world_rules.specs.World.{ListedRoom}
 use Rattle.world_form.specs.declared.field.Field.{Field}
@@ -64,7 +64,7 @@ object_holds place part o s = (
             (
               default_holds fields.Body IsBodyList [] part o.body s.body,
               (
-                default_holds fields.Hits IsWhole32 (most_hits o.kind o.body) part o.hits s.hits,
+                default_holds fields.Hits IsWhole32 (hits_max o.kind o.body) part o.hits s.hits,
                 (
                   default_holds fields.Energy IsWhole53 0 part o.energy s.energy,
                   (
@@ -103,9 +103,9 @@ player_holds place part player s = (
     (
       (player.account.limit, s.limit),
       (
-        default_holds fields.Bucket (IsWhole 0 bucket_bound) 0 part player.account.bucket s.bucket,
+        default_holds fields.Bucket (IsWhole 0 most_bucket) 0 part player.account.bucket s.bucket,
         (
-          default_holds fields.Points (IsWhole 0 points_bound) 0 part player.account.points s.points,
+          default_holds fields.Points (IsWhole 0 most_points) 0 part player.account.points s.points,
           (default_holds fields.Memory IsMemoryText [] part player.account.memory s.memory, tt),
         ),
       ),
@@ -131,7 +131,7 @@ object_held : (place : ℕ) (part : Data) → AllHold (object_checks place part)
 object_held place part (id, (formed, (kind, (x, (y, (owner, (body, (hits, (energy, (timer, (extra, (progress, (other, (other_ticks, done)))))))))))))) =
     let owner_said = default_held fields.Owner IsWhole32 0 part owner in
     let body_said = default_held fields.Body IsBodyList [] part body in
-    let hits_said = default_held fields.Hits IsWhole32 (most_hits kind.0 body_said.0) part hits in
+    let hits_said = default_held fields.Hits IsWhole32 (hits_max kind.0 body_said.0) part hits in
     let energy_said = default_held fields.Energy IsWhole53 0 part energy in
     let timer_said = default_held fields.Timer IsWhole32 0 part timer in
     let extra_said = default_held fields.Extra IsWhole32 0 part extra in
@@ -181,8 +181,8 @@ room_held place part (name, (terrain, (next, (formed, hold)))) =
 player_held : (place : ℕ) (part : Data) → AllHold (player_checks place part) → (player : Player) × SaysPlayer part player
 player_held place part (number, (token, (limit, (bucket, (points, (memory, done)))))) =
     let token_said = default_held fields.Token IsTokenText [] part token in
-    let bucket_said = default_held fields.Bucket (IsWhole 0 bucket_bound) 0 part bucket in
-    let points_said = default_held fields.Points (IsWhole 0 points_bound) 0 part points in
+    let bucket_said = default_held fields.Bucket (IsWhole 0 most_bucket) 0 part bucket in
+    let points_said = default_held fields.Points (IsWhole 0 most_points) 0 part points in
     let memory_said = default_held fields.Memory IsMemoryText [] part memory in (
       record { account = record { player = number.0; limit = limit.0; bucket = bucket_said.0; points = points_said.0; memory = memory_said.0 }; token = token_said.0 },
       record { number = number.1; token = token_said.1; limit = limit.1; bucket = bucket_said.1; points = points_said.1; memory = memory_said.1 },

@@ -1,8 +1,8 @@
 -- The keys of a file say one world at most.
 use Rattle.std.proofs.Common.{◌≡◌, ℕ, ◌-◌, ◌^◌, [], refl, ap₂}
 use Rattle.serde_json.specs.Data.{Data}
-use Rattle.game_tables.specs.Kinds.{most_hits}
-use Rattle.game_tables.specs.Limits.{limit_bound, bucket_bound, points_bound}
+use Rattle.game_tables.specs.Kinds.{hits_max}
+use Rattle.game_tables.specs.Limits.{most_limit, most_bucket, most_points}
 use Rattle.world_form.specs.declared.field.Field.{Field}
 use Rattle.world_form.specs.declared.field.Field.TheVariants as fields
 use Rattle.world_form.specs.Facts.{Requires, Defaults, IsWhole, IsWhole32, IsListOf, IsKindText, IsBodyList, IsNameText, IsTerrainText, IsTokenText, IsMemoryText, SaysObject, SaysRoom, SaysPlayer, SaysWorld}
@@ -22,8 +22,8 @@ object_one part o p s t =
     let y = number_one fields.Y 0 49 part o.y p.y s.y t.y in
     let owner = number_or_zero fields.Owner (2 ^ 32 - 1) part o.owner p.owner s.owner t.owner in
     let body = default_one fields.Body IsBodyList body_one [] [] refl part o.body p.body s.body t.body in
-    let full = ap₂ most_hits kind body in
-    let hits = default_one fields.Hits IsWhole32 (whole_one 0 (2 ^ 32 - 1)) (most_hits o.kind o.body) (most_hits p.kind p.body) full part o.hits p.hits s.hits t.hits in
+    let full = ap₂ hits_max kind body in
+    let hits = default_one fields.Hits IsWhole32 (whole_one 0 (2 ^ 32 - 1)) (hits_max o.kind o.body) (hits_max p.kind p.body) full part o.hits p.hits s.hits t.hits in
     let energy = number_or_zero fields.Energy (2 ^ 53) part o.energy p.energy s.energy t.energy in
     let timer = number_or_zero fields.Timer (2 ^ 32 - 1) part o.timer p.timer s.timer t.timer in
     let extra = number_or_zero fields.Extra (2 ^ 32 - 1) part o.extra p.extra s.extra t.extra in
@@ -58,9 +58,9 @@ player_one : IsOne SaysPlayer
 player_one part player other s t =
     let number = number_one fields.Player 1 (2 ^ 32 - 1) part player.account.player other.account.player s.number t.number in
     let token = default_one fields.Token IsTokenText token_one [] [] refl part player.token other.token s.token t.token in
-    let limit = number_one fields.Limit 0 limit_bound part player.account.limit other.account.limit s.limit t.limit in
-    let bucket = number_or_zero fields.Bucket bucket_bound part player.account.bucket other.account.bucket s.bucket t.bucket in
-    let points = number_or_zero fields.Points points_bound part player.account.points other.account.points s.points t.points in
+    let limit = number_one fields.Limit 0 most_limit part player.account.limit other.account.limit s.limit t.limit in
+    let bucket = number_or_zero fields.Bucket most_bucket part player.account.bucket other.account.bucket s.bucket t.bucket in
+    let points = number_or_zero fields.Points most_points part player.account.points other.account.points s.points t.points in
     let memory = default_one fields.Memory IsMemoryText memory_one [] [] refl part player.account.memory other.account.memory s.memory t.memory in
     λ i. record { account = record { player = number i; limit = limit i; bucket = bucket i; points = points i; memory = memory i }; token = token i }
 

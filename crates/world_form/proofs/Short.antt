@@ -9,8 +9,8 @@ use Rattle.game_tables.specs.declared.kind.Kind.{Kind}
 use Rattle.game_tables.specs.declared.kind.Kind.TheVariants as kinds
 use Rattle.game_tables.specs.declared.kind.Part.{Part}
 use Rattle.game_tables.specs.declared.kind.Part.TheVariants as parts
-use Rattle.game_tables.specs.Bodies.{parts_bound}
-use Rattle.game_tables.specs.Limits.{memory_bound, rooms_bound, objects_bound, players_bound}
+use Rattle.game_tables.specs.Bodies.{most_parts}
+use Rattle.game_tables.specs.Limits.{most_memory, most_rooms, most_objects, most_players}
 use Rattle.game_tables.specs.Texts.{kind_text, part_text}
 use Rattle.room_terrain.specs.declared.name.RoomName.{RoomName}
 use Rattle.room_terrain.specs.Names.{IsSideInRange, IsInRange, side_text, name_text}
@@ -74,7 +74,7 @@ body_short (part ∷ body) = let here = part_short part in let rest = body_short
 object_short : (o : Object) → IsFiledObject o → size (object_data o) ≤ 1200
 unfolding object_data
 object_short o filed =
-    let few : length o.body ≤ parts_bound = filed.0.small.body in
+    let few : length o.body ≤ most_parts = filed.0.small.body in
     let body = body_short o.body in
     let kind = kind_short o.kind in
     omega arith
@@ -91,7 +91,7 @@ room_short room filed =
 account_short : (account : Account) → IsFiledAccount account → size (account_data account) ≤ 131300
 unfolding account_data
 account_short account filed =
-    let few : length account.memory ≤ memory_bound = filed.writable.memory in
+    let few : length account.memory ≤ most_memory = filed.writable.memory in
     let digits = length-hex account.memory in
     omega arith
 
@@ -116,7 +116,7 @@ written-IsShort world writable types =
     let rooms = rooms_short 0 world.rooms filed.rooms in
     let players = list_short IsFiledAccount account_data 131300 account_short world.accounts filed.accounts in
     let listed : length (map listed_room world.rooms) ≡ length world.rooms = length-map world.rooms listed_room in
-    let some_rooms : length (map listed_room world.rooms) ≤ rooms_bound = few_rooms (listing_of world) writable.rules in
-    let some_objects : length (placed (listing_of world)) ≤ objects_bound = few_objects (listing_of world) writable.rules in
-    let some_players : length world.accounts ≤ players_bound = few_players (listing_of world) writable.rules in
+    let some_rooms : length (map listed_room world.rooms) ≤ most_rooms = few_rooms (listing_of world) writable.rules in
+    let some_objects : length (placed (listing_of world)) ≤ most_objects = few_objects (listing_of world) writable.rules in
+    let some_players : length world.accounts ≤ most_players = few_players (listing_of world) writable.rules in
     omega arith

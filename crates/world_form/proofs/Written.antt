@@ -6,7 +6,7 @@ use Rattle.serde_json.specs.Data.{Data, string, depth, items_depth}
 use Rattle.serde_json.specs.View.{items_of}
 use Rattle.game_tables.specs.declared.kind.Part.{Part}
 use Rattle.game_tables.specs.Texts.{part_text}
-use Rattle.game_tables.specs.Limits.{limit_bound, bucket_bound, points_bound}
+use Rattle.game_tables.specs.Limits.{most_limit, most_bucket, most_points}
 use Rattle.object_store.specs.declared.object.Object.{Object}
 use Rattle.object_store.specs.declared.account.Account.{Account}
 use Rattle.object_store.specs.declared.world.Room.{Room}
@@ -147,9 +147,9 @@ room_legible room filed = (
 account_legible : (account : Account) → IsFiledAccount account → IsLegible (account_data account)
 unfolding account_data
 account_legible account filed =
-    let limit : account.limit ≤ limit_bound = filed.writable.limit in
-    let bucket : account.bucket ≤ bucket_bound = filed.writable.bucket in
-    let points : account.points ≤ points_bound = filed.writable.points in (
+    let limit : account.limit ≤ most_limit = filed.writable.limit in
+    let bucket : account.bucket ≤ most_bucket = filed.writable.bucket in
+    let points : account.points ≤ most_points = filed.writable.points in (
       (
         refl,
         omega arith,

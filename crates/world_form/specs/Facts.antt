@@ -6,9 +6,9 @@ use Rattle.serde_json.specs.Find.{get}
 use Rattle.serde_json.specs.View.{items_of}
 use Rattle.game_tables.specs.declared.kind.Kind.{Kind}
 use Rattle.game_tables.specs.declared.kind.Part.{Part}
-use Rattle.game_tables.specs.Bodies.{parts_bound}
-use Rattle.game_tables.specs.Kinds.{most_hits, in_rules}
-use Rattle.game_tables.specs.Limits.{limit_bound, bucket_bound, points_bound, memory_bound}
+use Rattle.game_tables.specs.Bodies.{most_parts}
+use Rattle.game_tables.specs.Kinds.{hits_max, is_in_rules}
+use Rattle.game_tables.specs.Limits.{most_limit, most_bucket, most_points, most_memory}
 use Rattle.game_tables.specs.Texts.{kind_text, part_text}
 use Rattle.room_terrain.specs.declared.name.RoomName.{RoomName}
 use Rattle.room_terrain.specs.declared.terrain.Ground.{Ground}
@@ -45,7 +45,8 @@ IsKindText value kind = value ≡ string (kind_text kind)
 
 -- a list of part texts, no more than a body may have
 abbrev pub IsBodyList : Data → List Part → Type 0
-IsBodyList value parts = (value ≡ array (items_of (map (λ part. string (part_text part)) parts))) × (length parts ≤ parts_bound)
+IsBodyList value parts =
+    (value ≡ array (items_of (map (λ part. string (part_text part)) parts))) × (length parts ≤ most_parts)
 
 -- the name of a room: W or E, a number, N or S, a number
 abbrev pub IsNameText : Data → RoomName → Type 0
@@ -57,11 +58,13 @@ IsTerrainText value grounds = (value ≡ string (map ground_digit grounds)) × (
 
 -- a text of at most 64 bytes, each from '!' to '~'
 abbrev pub IsTokenText : Data → List ℕ → Type 0
-IsTokenText value token = (value ≡ string token) × (length token ≤ 64) × AllByRecursion (λ byte. (33 ≤ byte) × (byte ≤ 126)) token
+IsTokenText value token =
+    (value ≡ string token) × (length token ≤ 64) × AllByRecursion (λ byte. (33 ≤ byte) × (byte ≤ 126)) token
 
 -- bytes in lower case hexadecimal, no more than a memory text may have
 abbrev pub IsMemoryText : Data → List ℕ → Type 0
-IsMemoryText value bytes = (value ≡ string (hex bytes)) × (length bytes ≤ memory_bound) × AllByRecursion (λ byte. byte < 2 ^ 8) bytes
+IsMemoryText value bytes =
+    (value ≡ string (hex bytes)) × (length bytes ≤ most_memory) × AllByRecursion (λ byte. byte < 2 ^ 8) bytes
 
 -- ---- keys
 
@@ -80,12 +83,12 @@ Defaults field Form default part said =
 pub record SaysObject (part : Data) (object : Object) : Type 0 where
   pub id : Requires fields.Id (IsWhole 1 (2 ^ 53)) part object.id
   pub kind : Requires fields.Kind IsKindText part object.kind
-  pub in_rules : in_rules object.kind 1 ≡ true
+  pub in_rules : is_in_rules object.kind 1 ≡ true
   pub x : Requires fields.X (IsWhole 0 49) part object.x
   pub y : Requires fields.Y (IsWhole 0 49) part object.y
   pub owner : Defaults fields.Owner IsWhole32 0 part object.owner
   pub body : Defaults fields.Body IsBodyList [] part object.body
-  pub hits : Defaults fields.Hits IsWhole32 (most_hits object.kind object.body) part object.hits
+  pub hits : Defaults fields.Hits IsWhole32 (hits_max object.kind object.body) part object.hits
   pub energy : Defaults fields.Energy IsWhole53 0 part object.energy
   pub timer : Defaults fields.Timer IsWhole32 0 part object.timer
   pub extra : Defaults fields.Extra IsWhole32 0 part object.extra
@@ -124,9 +127,9 @@ pub record Player : Type 0 where
 pub record SaysPlayer (part : Data) (player : Player) : Type 0 where
   pub number : Requires fields.Player (IsWhole 1 (2 ^ 32 - 1)) part player.account.player
   pub token : Defaults fields.Token IsTokenText [] part player.token
-  pub limit : Requires fields.Limit (IsWhole 0 limit_bound) part player.account.limit
-  pub bucket : Defaults fields.Bucket (IsWhole 0 bucket_bound) 0 part player.account.bucket
-  pub points : Defaults fields.Points (IsWhole 0 points_bound) 0 part player.account.points
+  pub limit : Requires fields.Limit (IsWhole 0 most_limit) part player.account.limit
+  pub bucket : Defaults fields.Bucket (IsWhole 0 most_bucket) 0 part player.account.bucket
+  pub points : Defaults fields.Points (IsWhole 0 most_points) 0 part player.account.points
   pub memory : Defaults fields.Memory IsMemoryText [] part player.account.memory
 
 -- ---- the whole file
@@ -146,4 +149,10 @@ pub record SaysWorld (part : Data) (filed : Filed) : Type 0 where
 
 -- the world that it lists
 abbrev pub filed_listing : Filed → Listing
-filed_listing filed = record { rules = 1; tick = filed.tick; rooms = filed.rooms; accounts = map (λ player. player.account) filed.players }
+filed_listing filed =
+    record {
+      rules = 1;
+      tick = filed.tick;
+      rooms = filed.rooms;
+      accounts = map (λ player. player.account) filed.players;
+    }

@@ -46,7 +46,8 @@ told_tokens players = map (λ player. (player.account.player, player.token)) pla
 -- The numbers rise.
 abbrev pub HaveRisingNumbers : List (ℕ × List ℕ) → Type 0
 HaveRisingNumbers [] = Unit {0}
-HaveRisingNumbers (first ∷ later) = AllByRecursion (λ other. first.0 < other.0) later × HaveRisingNumbers later
+HaveRisingNumbers (first ∷ later) =
+    AllByRecursion (λ other. first.0 < other.0) later × HaveRisingNumbers later
 
 -- These are the players' tokens, in rising number.
 abbrev pub AreTokens : List Player → List (ℕ × List ℕ) → Type 0
@@ -58,12 +59,14 @@ AreTokens players tokens = IsPermutation (told_tokens players) tokens × HaveRis
 abbrev pub HasKeyFault : List ℕ → WorldFault → Type 0
 HasKeyFault bytes fault = (value : Data) × HasValue bytes value × IsFirst (world_checks value) fault
 
--- The bytes have this as their first fault: they are too long, no JSON text, a key is at fault, or a rule is broken.
+-- The bytes have this as their first fault: they are too long, no JSON text, a key is at fault, or a rule is
+-- broken.
 abbrev pub HasFault : List ℕ → WorldFault → Type 0
 HasFault bytes faults.TooLong = 2 ^ 26 < length bytes
 HasFault bytes faults.NotJson = IsShort bytes × ((value : Data) → IsJson bytes value → ⊥)
 HasFault bytes (faults.Missing field) = HasKeyFault bytes (faults.Missing field)
 HasFault bytes (faults.BadValue field place) = HasKeyFault bytes (faults.BadValue field place)
 HasFault bytes (faults.NotBuilt kind) = HasKeyFault bytes (faults.NotBuilt kind)
-HasFault bytes (faults.Rule rule n) = (filed : Filed) × Says bytes filed × IsFirstBroken rule n (filed_listing filed)
+HasFault bytes (faults.Rule rule n) =
+    (filed : Filed) × Says bytes filed × IsFirstBroken rule n (filed_listing filed)
 HasFault bytes faults.Memory = Unit {0}

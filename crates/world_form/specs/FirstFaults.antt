@@ -3,8 +3,8 @@ use Rattle.std.specs.Prelude.{◌≡◌, ℕ, suc, ◌-◌, ◌^◌, ◌⊎◌, 
 use Rattle.serde_json.specs.Data.{Data, Items, no_items, item}
 use Rattle.serde_json.specs.Find.{get, as_array}
 use Rattle.game_tables.specs.declared.kind.Kind.{Kind}
-use Rattle.game_tables.specs.Kinds.{in_rules}
-use Rattle.game_tables.specs.Limits.{limit_bound, bucket_bound, points_bound}
+use Rattle.game_tables.specs.Kinds.{is_in_rules}
+use Rattle.game_tables.specs.Limits.{most_limit, most_bucket, most_points}
 use Rattle.world_form.specs.declared.fault.WorldFault.{WorldFault}
 use Rattle.world_form.specs.declared.fault.WorldFault.TheVariants.{Missing, BadValue, NotBuilt}
 use Rattle.world_form.specs.declared.field.Field.{Field}
@@ -39,13 +39,16 @@ IsFormed {A} field Form part = (said : A) × Requires field Form part said
 
 -- The key has a value that is not of the form.
 abbrev pub IsMalformed : {A : Type 0} → Field → (Data → A → Type 0) → Data → Type 0
-IsMalformed {A} field Form part = (value : Data) × (get (key field) part ≡ Some value) × ((said : A) → Form value said → ⊥)
+IsMalformed {A} field Form part =
+    (value : Data) × (get (key field) part ≡ Some value) × ((said : A) → Form value said → ⊥)
 
 -- a key that must be there, of the part at this place of its list
 abbrev pub required : {A : Type 0} → Field → (Data → A → Type 0) → ℕ → Data → Check
 required field Form place part = record {
   Holds = IsFormed field Form part;
-  Fails = λ fault. (IsAbsent field part × (fault ≡ Missing field)) ⊎ (IsMalformed field Form part × (fault ≡ BadValue field place));
+  Fails =
+      λ fault. (IsAbsent field part × (fault ≡ Missing field))
+      ⊎ (IsMalformed field Form part × (fault ≡ BadValue field place));
 }
 
 -- a key that may be absent
@@ -58,8 +61,10 @@ optional field Form place part = record {
 -- the kind is one of the rules in force
 abbrev pub known_kind : Data → Check
 known_kind part = record {
-  Holds = (kind : Kind) × Requires fields.Kind IsKindText part kind × (in_rules kind 1 ≡ true);
-  Fails = λ fault. (kind : Kind) × Requires fields.Kind IsKindText part kind × (in_rules kind 1 ≡ false) × (fault ≡ NotBuilt kind);
+  Holds = (kind : Kind) × Requires fields.Kind IsKindText part kind × (is_in_rules kind 1 ≡ true);
+  Fails =
+      λ fault. (kind : Kind) × Requires fields.Kind IsKindText part kind × (is_in_rules kind 1 ≡ false)
+      × (fault ≡ NotBuilt kind);
 }
 
 -- ---- parts, each at its place in its own list, from 0 on
@@ -108,9 +113,9 @@ abbrev pub player_checks : ℕ → Data → List Check
 player_checks place part =
     required fields.Player (IsWhole 1 (2 ^ 32 - 1)) place part
     ∷ optional fields.Token IsTokenText place part
-    ∷ required fields.Limit (IsWhole 0 limit_bound) place part
-    ∷ optional fields.Bucket (IsWhole 0 bucket_bound) place part
-    ∷ optional fields.Points (IsWhole 0 points_bound) place part
+    ∷ required fields.Limit (IsWhole 0 most_limit) place part
+    ∷ optional fields.Bucket (IsWhole 0 most_bucket) place part
+    ∷ optional fields.Points (IsWhole 0 most_points) place part
     ∷ optional fields.Memory IsMemoryText place part
     ∷ []
 

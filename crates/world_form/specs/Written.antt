@@ -11,7 +11,7 @@ use Rattle.object_store.specs.declared.account.Account.{Account}
 use Rattle.object_store.specs.declared.world.Room.{Room}
 use Rattle.object_store.specs.Stored.{Stored}
 use Rattle.object_store.specs.Tables.{IsOnTile}
-use Rattle.game_tables.specs.Limits.{limit_bound, bucket_bound, points_bound, memory_bound}
+use Rattle.game_tables.specs.Limits.{most_limit, most_bucket, most_points, most_memory}
 use Rattle.world_rules.specs.Sound.{IsSound}
 use Rattle.world_rules.specs.World.{listed_room, listing_of}
 use Rattle.world_form.specs.Digits.{ground_digit, hex}
@@ -83,10 +83,10 @@ pub record IsWritableRoom (room : Room) : Type 0 where
 pub record IsWritableAccount (account : Account) : Type 0 where
   pub player : 1 ≤ account.player
   pub below : account.player < 2 ^ 32
-  pub limit : account.limit ≤ limit_bound
-  pub bucket : account.bucket ≤ bucket_bound
-  pub points : account.points ≤ points_bound
-  pub memory : length account.memory ≤ memory_bound
+  pub limit : account.limit ≤ most_limit
+  pub bucket : account.bucket ≤ most_bucket
+  pub points : account.points ≤ most_points
+  pub memory : length account.memory ≤ most_memory
 
 -- It keeps all rules, each table's index is its room's place, and its numbers are in a file's ranges.
 pub record IsWritable (world : Stored) : Type 0 where

@@ -2,7 +2,7 @@
 use Rattle.std.proofs.Common.{◌≡◌, ℕ, ◌≤◌, ◌^◌, List, [], ◌∷◌, ◌++◌, map, length, refl, sym, ap, subst, ◌∙◌, arith}
 use Rattle.std.specs.List.{AllByRecursion}
 use Rattle.std.proofs.lemmas.List.{length-map}
-use Rattle.game_tables.specs.Limits.{rooms_bound, players_bound}
+use Rattle.game_tables.specs.Limits.{most_rooms, most_players}
 use Rattle.object_store.specs.declared.world.Room.{Room}
 use Rattle.object_store.specs.Tables.{IsRising}
 use Rattle.object_store.specs.Stored.{Stored, HaveRisingTables, AreRising}
@@ -17,7 +17,7 @@ use Rattle.world_form.specs.Written.{IsWritable, IsWritableRoom}
 use Rattle.world_form.proofs.InFile.{few_rooms, few_players}
 use Rattle.world_text.specs.declared.draft.RoomDraft.{RoomDraft}
 use Rattle.world_text.specs.declared.draft.Draft.{Draft}
-use Rattle.world_text.specs.Drafts.{drafted, drafted_room, BreaksFirst, HavePlaces, IsDraft, IsInOrder, IsRisingDraft}
+use Rattle.world_text.specs.inner.Drafts.{drafted, drafted_room, BreaksFirst, HavePlaces, IsDraft, IsInOrder, IsRisingDraft}
 use Rattle.world_text.proofs.Reordered.{turned, first_moved, kept_moved, world_moved}
 use Rattle.world_text.proofs.Rising.{accounts_rise, drafts_rise, once_permuted, players_once, tokens_once, tokens_rise}
 use Rattle.world_text.proofs.Fits.{accounts_writable, draft_reordered, in_order, rooms_writable}
@@ -39,10 +39,10 @@ rule_fault bytes filed draft faults.Memory says d broken = tt
 pub orderly : (bytes : List ℕ) (filed : Filed) (draft : Draft) → Says bytes filed → IsDraft filed draft → IsInOrder draft
 orderly bytes filed draft says d = in_order says.0 filed draft says.2 d
 
-pub rooms_few : (draft : Draft) → KeepsRules (drafted draft) → length draft.rooms.items ≤ rooms_bound
-rooms_few draft keeps = let few : length (map drafted_room draft.rooms.items) ≤ rooms_bound = few_rooms (drafted draft) keeps in omega (arith, length-map draft.rooms.items drafted_room)
+pub rooms_few : (draft : Draft) → KeepsRules (drafted draft) → length draft.rooms.items ≤ most_rooms
+rooms_few draft keeps = let few : length (map drafted_room draft.rooms.items) ≤ most_rooms = few_rooms (drafted draft) keeps in omega (arith, length-map draft.rooms.items drafted_room)
 
-pub accounts_few : (draft : Draft) → KeepsRules (drafted draft) → length draft.players.accounts.items ≤ players_bound
+pub accounts_few : (draft : Draft) → KeepsRules (drafted draft) → length draft.players.accounts.items ≤ most_players
 accounts_few draft keeps = few_players (drafted draft) keeps
 
 pub rooms_rising : (draft : Draft) → KeepsRules (drafted draft) → IsInOrder draft → AllByRecursion IsRisingDraft draft.rooms.items

@@ -7,7 +7,7 @@ use Rattle.object_store.specs.declared.world.Room.{Room}
 use Rattle.object_store.specs.Stored.{AreRising, IsLast}
 use Rattle.world_rules.specs.World.{ListedRoom, listed_room}
 use Rattle.world_text.specs.declared.draft.RoomDraft.{RoomDraft}
-use Rattle.world_text.specs.Drafts.{drafted_room, HavePlaces}
+use Rattle.world_text.specs.inner.Drafts.{drafted_room, HavePlaces}
 use Rattle.world_text.proofs.Passes.{all_at}
 
 -- ---- rooms

@@ -9,7 +9,7 @@ use Rattle.room_terrain.specs.Names.{IsInRange}
 use Rattle.object_store.specs.declared.object.Object.{Object}
 use Rattle.object_store.specs.declared.world.Room.{Room}
 use Rattle.object_store.specs.Tables.{IsOnTile}
-use Rattle.game_tables.specs.Limits.{bucket_bound, points_bound, memory_bound}
+use Rattle.game_tables.specs.Limits.{most_bucket, most_points, most_memory}
 use Rattle.world_rules.specs.World.{Frame, Placed, ListedRoom, listed_room, placed_from}
 use Rattle.world_form.specs.declared.field.Field.{Field}
 use Rattle.world_form.specs.declared.field.Field.TheVariants as fields
@@ -17,7 +17,7 @@ use Rattle.world_form.specs.Facts.{Filed, Player, Defaults, IsWhole, IsMemoryTex
 use Rattle.world_form.specs.Written.{IsWritableRoom, IsWritableAccount}
 use Rattle.world_text.specs.declared.draft.RoomDraft.{RoomDraft}
 use Rattle.world_text.specs.declared.draft.Draft.{Draft}
-use Rattle.world_text.specs.Drafts.{drafted, drafted_room, IsDraftRoom, AreDrafts, IsDraft, IsOrderedDraft, IsInOrder}
+use Rattle.world_text.specs.inner.Drafts.{drafted, drafted_room, IsDraftRoom, AreDrafts, IsDraft, IsOrderedDraft, IsInOrder}
 use Rattle.world_text.proofs.Reordered.{IsReordered}
 
 all_permuted : {A : Type 0} (P : A → Type 0) (xs ys : List A) → IsPermutation xs ys → AllByRecursion P xs → AllByRecursion P ys
@@ -86,7 +86,7 @@ default_most : (field : Field) (most : ℕ) (part : Data) (n : ℕ) → Defaults
 default_most field most part n (inl there) = there.2.2
 default_most field most part n (inr absent) = let none : n ≡ 0 = absent.1 in omega arith
 
-default_memory : (part : Data) (bytes : List ℕ) → Defaults fields.Memory IsMemoryText [] part bytes → length bytes ≤ memory_bound
+default_memory : (part : Data) (bytes : List ℕ) → Defaults fields.Memory IsMemoryText [] part bytes → length bytes ≤ most_memory
 default_memory part bytes (inl there) = there.2.1
 default_memory part bytes (inr absent) = rw absent.1 (omega arith)
 
@@ -97,8 +97,8 @@ player_fits part player s =
       player = s.number.2.1;
       below = omega arith;
       limit = s.limit.2.2;
-      bucket = default_most fields.Bucket bucket_bound part player.account.bucket s.bucket;
-      points = default_most fields.Points points_bound part player.account.points s.points;
+      bucket = default_most fields.Bucket most_bucket part player.account.bucket s.bucket;
+      points = default_most fields.Points most_points part player.account.points s.points;
       memory = default_memory part player.account.memory s.memory;
     }
 

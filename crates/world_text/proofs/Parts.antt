@@ -3,7 +3,7 @@ use Rattle.std.proofs.Common.{◌≡◌, ℕ, List, [], ◌∷◌, ◌++◌, map
 use Rattle.std.proofs.lemmas.List.{map_push}
 use Rattle.serde_json.specs.Data.{Data, Items, no_items, item}
 use Rattle.game_tables.specs.declared.kind.Kind.{Kind}
-use Rattle.game_tables.specs.Kinds.{most_hits}
+use Rattle.game_tables.specs.Kinds.{hits_max}
 use Rattle.world_form.specs.declared.field.Field.TheVariants as fields
 use Rattle.object_store.specs.declared.account.Account.{Account}
 use Rattle.world_rules.specs.World.{ListedRoom}
@@ -14,8 +14,8 @@ use Rattle.world_form.proofs.Said.{default_holds, room_holds}
 use Rattle.world_text.specs.declared.draft.RoomDraft.{RoomDraft}
 use Rattle.world_text.specs.declared.objects.Identity.{Identity}
 use Rattle.world_text.specs.declared.objects.Holding.{Holding}
-use Rattle.world_text.specs.Readings.{SaysIdentity, identity_checks, SaysHolding, holding_checks}
-use Rattle.world_text.specs.Drafts.{SaysDraft, AreDrafts}
+use Rattle.world_text.specs.inner.Readings.{SaysIdentity, identity_checks, SaysHolding, holding_checks}
+use Rattle.world_text.specs.inner.Drafts.{SaysDraft, AreDrafts}
 
 pub identity_holds : (place : ℕ) (part : Data) (said : Identity) → SaysIdentity part said → AllHold (identity_checks place part)
 identity_holds place part said s = ((said.id, s.id), ((said.kind, s.kind), ((said.kind, s.kind, s.in_rules), ((said.x, s.x), ((said.y, s.y), tt)))))
@@ -23,7 +23,7 @@ identity_holds place part said s = ((said.id, s.id), ((said.kind, s.kind), ((sai
 pub holding_holds : (place : ℕ) (kind : Kind) (part : Data) (said : Holding) → SaysHolding kind part said → AllHold (holding_checks place part)
 holding_holds place kind part said s = (
   default_holds fields.Owner IsWhole32 0 part said.owner s.owner,
-  (default_holds fields.Body IsBodyList [] part said.body s.body, (default_holds fields.Hits IsWhole32 (most_hits kind said.body) part said.hits s.hits, tt)),
+  (default_holds fields.Body IsBodyList [] part said.body s.body, (default_holds fields.Hits IsWhole32 (hits_max kind said.body) part said.hits s.hits, tt)),
 )
 
 -- ---- lists of rooms

@@ -8,7 +8,7 @@ use Rattle.serde_json.specs.Find.{as_str, as_array}
 use Rattle.serde_json.specs.View.{view, items_of, items_view}
 use Rattle.serde_json.specs.declared.value.Value.{Value}
 use Rattle.world_form.specs.Digits.{hex, hex_digit}
-use Rattle.world_text.specs.Readings.{Reads}
+use Rattle.world_text.specs.inner.Readings.{Reads}
 
 -- ---- a list that is the image of another
 

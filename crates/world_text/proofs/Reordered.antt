@@ -14,7 +14,7 @@ use Rattle.object_store.specs.declared.object.Object.{Object}
 use Rattle.object_store.specs.declared.account.Account.{Account}
 use Rattle.world_rules.specs.declared.rule.Rule.{Rule}
 use Rattle.world_rules.specs.declared.rule.Rule.TheVariants as rules
-use Rattle.world_rules.specs.Kinds.{is_controller, is_site}
+use Rattle.game_tables.specs.Kinds.{is_controller, is_site}
 use Rattle.world_rules.specs.World.{Placed, Frame, ListedRoom, World, Listing, placed, world_listed}
 use Rattle.world_rules.proofs.Rooms.{frame_listed}
 use Rattle.world_rules.specs.Rules.{Broken, KeepsRules, IsFirstBroken, rule_place, IsWithinCounts, Stands, IsRoom, IsPlayer, HasEarlierName, HasOpenCorner, HasNoBirth, IsOnWrongTile, IsInTheWay, HasWrongOwner, IsInRangeAs}

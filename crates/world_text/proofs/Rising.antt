@@ -6,7 +6,7 @@ use Rattle.std.proofs.lemmas.Bool.{cases_lt, eq-eqb}
 use Rattle.std.proofs.lemmas.List.{length-append, length-map}
 use Rattle.std.proofs.lemmas.List.Sums.{sum_by-cons, sum_by-append}
 use Rattle.std.proofs.lemmas.List.Sorted.{sum_by-IsPermutation}
-use Rattle.game_tables.specs.Limits.{objects_bound}
+use Rattle.game_tables.specs.Limits.{most_objects}
 use Rattle.object_store.specs.declared.object.Object.{Object}
 use Rattle.object_store.specs.declared.account.Account.{Account}
 use Rattle.object_store.specs.Tables.{IsRising}
@@ -19,7 +19,7 @@ use Rattle.world_form.specs.Files.{HaveRisingNumbers, told_tokens}
 use Rattle.world_form.proofs.InFile.{few_objects}
 use Rattle.rule_check.proofs.Found.{times}
 use Rattle.world_text.specs.declared.draft.RoomDraft.{RoomDraft}
-use Rattle.world_text.specs.Drafts.{drafted_room, IsOrderedDraft, IsRisingDraft}
+use Rattle.world_text.specs.inner.Drafts.{drafted_room, IsOrderedDraft, IsRisingDraft}
 
 -- how often a number is there
 abbrev count : {A : Type 0} → (A → ℕ) → ℕ → List A → ℕ
@@ -110,7 +110,7 @@ tagged_times q index (object ∷ objects) =
 split_times : (q index : ℕ) (objects : List Object) (later : List (ℕ × Placed)) → times q (map (tagged index) objects ++ later) ≡ count (λ (object : Object). object.id) q objects + times q later
 split_times q index objects later = sum_by-append (λ (e : ℕ × Placed). cond (e.0 == q) 1 0) (map (tagged index) objects) later ∙ ap (λ m. m + times q later) (tagged_times q index objects)
 
-rooms_rise : (index : ℕ) (drafts : List RoomDraft) → ((q : ℕ) → times q (placed_from index (map drafted_room drafts)) < 2) → length (placed_from index (map drafted_room drafts)) ≤ objects_bound → AllByRecursion IsOrderedDraft drafts
+rooms_rise : (index : ℕ) (drafts : List RoomDraft) → ((q : ℕ) → times q (placed_from index (map drafted_room drafts)) < 2) → length (placed_from index (map drafted_room drafts)) ≤ most_objects → AllByRecursion IsOrderedDraft drafts
     → AllByRecursion IsRisingDraft drafts
 rooms_rise index [] once few ordered = tt
 rooms_rise index (draft ∷ drafts) once few ordered =
@@ -119,7 +119,7 @@ rooms_rise index (draft ∷ drafts) once few ordered =
     let mine : HasEachOnce (λ (object : Object). object.id) objects = λ q. (let all : times q (map (tagged index) objects ++ later) < 2 = once q in omega (arith, split_times q index objects later)) in
     let others : (q : ℕ) → times q later < 2 = λ q. (let all : times q (map (tagged index) objects ++ later) < 2 = once q in omega (arith, split_times q index objects later)) in
     let long : length (map (tagged index) objects ++ later) ≡ length objects + length later = length-append (map (tagged index) objects) later ∙ ap (λ m. m + length later) (length-map objects (tagged index)) in
-    let all : length (map (tagged index) objects ++ later) ≤ objects_bound = few in (
+    let all : length (map (tagged index) objects ++ later) ≤ most_objects = few in (
       record { rising = objects_rise objects ordered.0.order mine; within = omega arith },
       rooms_rise (suc index) drafts others (omega arith) ordered.1,
     )

@@ -12,7 +12,7 @@ use Rattle.world_form.specs.FirstFaults.{Check, IsFirst, AllHold, each_from, opt
 use Rattle.world_form.proofs.Checks.{each_hold}
 use Rattle.world_form.proofs.Said.{values_there, values_nowhere}
 use Rattle.world_form.proofs.Pushed.{each_said_push, each_first_push}
-use Rattle.world_text.specs.Readings.{list_checks}
+use Rattle.world_text.specs.inner.Readings.{list_checks}
 
 front_more : (values : List Value) (i : ℕ) (v : Value) → i < length values → v ≡ get_or values i v → map view (take (i + 1) values) ≡ map view (take i values) ++ view v ∷ []
 front_more values i v lt is = ap (map view) (take_more values i v lt) ∙ map_push view (take i values) (get_or values i v) ∙ ap (λ (w : Value). map view (take i values) ++ view w ∷ []) (sym is)

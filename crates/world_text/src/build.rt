@@ -4,7 +4,7 @@ ghost use Rattle.std.specs.List.{AllByRecursion};
 ghost use Rattle.rule_check.specs.Views.{viewed_room, IsOrdered};
 ghost use Rattle.object_store.specs.Stored.{AreRising};
 ghost use Rattle.world_rules.specs.World.{listed_room};
-ghost use Rattle.world_text.specs.Drafts.{drafted_room, IsOrderedDraft, IsRisingDraft, HavePlaces};
+ghost use Rattle.world_text.specs.inner.Drafts.{drafted_room, IsOrderedDraft, IsRisingDraft, HavePlaces};
 
 use crate::draft::RoomDraft;
 use object_store::{Account, RoomTable, World};
@@ -30,17 +30,18 @@ pub fn views_of(alloc: Global, rooms: &[RoomDraft]) -> Result<Vec<RoomView<'_>>,
 }
 
 /// Adds rooms at the end of a world.
-pub fn add_rooms(world: &mut World, rooms: Vec<RoomDraft>) -> Result<(), AllocError>
+pub fn add_rooms(alloc: Global, world: &mut World, rooms: Vec<RoomDraft>) -> Result<(), AllocError>
     requires places { HavePlaces world.old.rooms }
     requires rising { AllByRecursion IsRisingDraft rooms.items }
     requires room { length world.old.rooms + length rooms.items < 2 ^ 32 }
-    ensures rooms { OnOk result (map listed_room world.new.rooms ≡ map listed_room world.old.rooms ++ map drafted_room rooms.items) }
+    ensures rooms { OnOk result (map listed_room world.new.rooms ≡ map listed_room world.old.rooms
+        ++ map drafted_room rooms.items) }
     ensures places { OnOk result (HavePlaces world.new.rooms) }
     ensures tick { world.new.tick ≡ world.old.tick }
     ensures accounts { world.new.accounts ≡ world.old.accounts }
 {
     for room in rooms {
-        let table = RoomTable::of(world.rooms(), room.next, room.objects);
+        let table = RoomTable::of(alloc, world.rooms(), room.next, room.objects)?;
         world.push_room(room.name, room.terrain, table)?;
     }
     Ok(())

@@ -5,7 +5,7 @@ ghost use Rattle.serde_json.specs.Data.{Data};
 ghost use Rattle.world_form.specs.Facts.{Filed, SaysWorld};
 ghost use Rattle.world_form.specs.FirstFaults.{IsFirst, world_checks};
 ghost use Rattle.world_form.specs.Files.{HasValue, HasFault, IsShort, IsJson};
-ghost use Rattle.world_text.specs.Drafts.{IsDraft};
+ghost use Rattle.world_text.specs.inner.Drafts.{IsDraft};
 
 use crate::draft::Draft;
 use crate::keys::required_number;
@@ -21,7 +21,8 @@ const MOST_TICK: u64 = 0x20_0000_0000_0000;
 
 /// What the keys of a JSON value say, or the first fault from the top down.
 pub fn read_file(alloc: Global, part: &Value) -> Result<Draft, WorldFault>
-    ensures ok { IfOk result (λ draft. (filed : Filed) × SaysWorld (view part.now) filed × IsDraft filed draft) }
+    ensures ok { IfOk result (λ draft. (filed : Filed) × SaysWorld (view part.now) filed
+        × IsDraft filed draft) }
     ensures tick { IfOk result (λ draft. draft.tick ≤ 2 ^ 53) }
     ensures err { IfErr result (λ e. e ≢ WorldFault.Memory → IsFirst (world_checks (view part.now)) e) }
 {

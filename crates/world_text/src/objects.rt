@@ -5,8 +5,8 @@ ghost use Rattle.object_store.specs.declared.object.Object.{Object};
 ghost use Rattle.world_form.specs.Facts.{Requires, Defaults, IsKindText, IsBodyList, IsListOf, SayEach, SaysObject};
 ghost use Rattle.world_form.specs.FirstFaults.{IsFirst, required, optional, each_from, object_checks};
 ghost use Rattle.world_form.specs.declared.field.Field.TheVariants as fields;
-ghost use Rattle.world_text.specs.Readings.{SaysIdentity, identity_checks, SaysHolding, holding_checks, SaysCounters, counter_checks, list_checks};
-ghost use Rattle.world_text.specs.Drafts.{IsSorting};
+ghost use Rattle.world_text.specs.inner.Readings.{SaysIdentity, identity_checks, SaysHolding, holding_checks, SaysCounters, counter_checks, list_checks};
+ghost use Rattle.world_text.specs.inner.Drafts.{IsSorting};
 
 use crate::keys::{optional_number, required_list, required_number, required_value};
 use crate::values::{body_of, kind_of};
@@ -50,8 +50,11 @@ pub struct Counters {
 
 /// The objects of a room, in the order of their ids, or the first fault of the list.
 pub fn read_objects(alloc: Global, part: &Value, place: u64) -> Result<Vec<Object>, WorldFault>
-    ensures ok { IfOk result (λ objects. (said : List Object) × Requires fields.Objects (IsListOf SaysObject) (view part.now) said × IsSorting (λ object. object.id) said objects.items) }
-    ensures err { IfErr result (λ e. e ≢ WorldFault.Memory → IsFirst (list_checks fields.Objects object_checks place (view part.now)) e) }
+    ensures ok { IfOk result
+        (λ objects. (said : List Object) × Requires fields.Objects (IsListOf SaysObject) (view part.now) said
+        × IsSorting (λ object. object.id) said objects.items) }
+    ensures err { IfErr result (λ e. e ≢ WorldFault.Memory
+        → IsFirst (list_checks fields.Objects object_checks place (view part.now)) e) }
 {
     let values = required_list(part, Field::Objects, place)?;
     let mut objects = read_object_list(alloc, values)?;
@@ -61,7 +64,8 @@ pub fn read_objects(alloc: Global, part: &Value, place: u64) -> Result<Vec<Objec
 
 fn read_object_list(alloc: Global, values: &[Value]) -> Result<Vec<Object>, WorldFault>
     ensures ok { IfOk result (λ objects. SayEach SaysObject (items_view values.now) objects.items) }
-    ensures err { IfErr result (λ e. e ≢ WorldFault.Memory → IsFirst (each_from object_checks 0 (items_view values.now)) e) }
+    ensures err { IfErr result (λ e. e ≢ WorldFault.Memory
+        → IsFirst (each_from object_checks 0 (items_view values.now)) e) }
 {
     let mut objects = Vec::with_capacity(alloc, values.len())?;
     for (place, value) in values.iter().enumerate() {

@@ -6,7 +6,7 @@ ghost use Rattle.world_rules.specs.Sound.{IsSound};
 ghost use Rattle.world_form.specs.Facts.{Filed, filed_listing};
 ghost use Rattle.world_form.specs.Files.{AreTokens, HasFault, Lists, Says, WorldForm};
 ghost use Rattle.world_form.specs.Written.{IsWritable};
-ghost use Rattle.world_text.specs.Drafts.{drafted, BreaksFirst, IsDraft, IsInOrder, HavePlaces};
+ghost use Rattle.world_text.specs.inner.Drafts.{drafted, BreaksFirst, IsDraft, IsInOrder, HavePlaces};
 
 use crate::build::{add_accounts, add_rooms, views_of};
 use crate::draft::Draft;
@@ -33,7 +33,8 @@ pub struct WorldFile {
 /// each room with its own keys and then its objects, each player. The rules are tested after that.
 pub fn read_world(alloc: Global, bytes: &[u8]) -> Result<WorldFile, WorldFault>
     // What is read is what the file says, and the tokens are its players', in rising number.
-    ensures ok { IfOk result (λ file. (filed : Filed) × Lists bytes.now filed × (world_of file.world ≡ world_listed (filed_listing filed)) × AreTokens filed.players file.tokens) }
+    ensures ok { IfOk result (λ file. (filed : Filed) × Lists bytes.now filed
+        × (world_of file.world ≡ world_listed (filed_listing filed)) × AreTokens filed.players file.tokens) }
     ensures form { IfOk result (λ file. WorldForm bytes.now (world_of file.world)) }
     ensures sound { IfOk result (λ file. IsSound file.world) }
     ensures tick { IfOk result (λ file. file.world.tick ≤ 2 ^ 53) }
@@ -41,12 +42,13 @@ pub fn read_world(alloc: Global, bytes: &[u8]) -> Result<WorldFile, WorldFault>
 
     // Each fault is the first that the bytes have, and bytes with a fault are no world file.
     ensures fault { IfErr result (HasFault bytes.now) }
-    ensures refused { IfErr result (λ e. e ≢ WorldFault.Memory → (world : GameWorld) → WorldForm bytes.now world → ⊥) }
+    ensures refused { IfErr result (λ e. e ≢ WorldFault.Memory → (world : GameWorld)
+        → WorldForm bytes.now world → ⊥) }
 {
     let draft = read_draft(alloc, bytes)?;
     test_rules(alloc, &draft)?;
     let mut world = World::empty(alloc, draft.tick);
-    add_rooms(&mut world, draft.rooms)?;
+    add_rooms(alloc, &mut world, draft.rooms)?;
     let players = draft.players;
     add_accounts(&mut world, players.accounts)?;
     Ok(WorldFile {

@@ -5,8 +5,8 @@ ghost use Rattle.world_rules.specs.World.{ListedRoom};
 ghost use Rattle.world_form.specs.Facts.{Requires, IsListOf, IsNameText, IsTerrainText, SayEach, SaysRoom};
 ghost use Rattle.world_form.specs.FirstFaults.{IsFirst, required, each_from, room_checks};
 ghost use Rattle.world_form.specs.declared.field.Field.TheVariants as fields;
-ghost use Rattle.world_text.specs.Readings.{list_checks};
-ghost use Rattle.world_text.specs.Drafts.{AreDrafts, SaysDraft};
+ghost use Rattle.world_text.specs.inner.Readings.{list_checks};
+ghost use Rattle.world_text.specs.inner.Drafts.{AreDrafts, SaysDraft};
 
 use crate::draft::RoomDraft;
 use crate::keys::{required_list, required_number, required_value};
@@ -21,8 +21,11 @@ const MOST_NEXT: u64 = 0xffff_ffff;
 
 /// The rooms of a file, or the first fault of the list.
 pub fn read_rooms(alloc: Global, part: &Value) -> Result<Vec<RoomDraft>, WorldFault>
-    ensures ok { IfOk result (λ drafts. (said : List ListedRoom) × Requires fields.Rooms (IsListOf SaysRoom) (view part.now) said × AreDrafts said drafts.items) }
-    ensures err { IfErr result (λ e. e ≢ WorldFault.Memory → IsFirst (list_checks fields.Rooms room_checks 0 (view part.now)) e) }
+    ensures ok { IfOk result
+        (λ drafts. (said : List ListedRoom) × Requires fields.Rooms (IsListOf SaysRoom) (view part.now) said
+        × AreDrafts said drafts.items) }
+    ensures err { IfErr result (λ e. e ≢ WorldFault.Memory
+        → IsFirst (list_checks fields.Rooms room_checks 0 (view part.now)) e) }
 {
     let values = required_list(part, Field::Rooms, 0)?;
     read_room_list(alloc, values)
@@ -30,7 +33,8 @@ pub fn read_rooms(alloc: Global, part: &Value) -> Result<Vec<RoomDraft>, WorldFa
 
 fn read_room_list(alloc: Global, values: &[Value]) -> Result<Vec<RoomDraft>, WorldFault>
     ensures ok { IfOk result (λ drafts. SayEach SaysDraft (items_view values.now) drafts.items) }
-    ensures err { IfErr result (λ e. e ≢ WorldFault.Memory → IsFirst (each_from room_checks 0 (items_view values.now)) e) }
+    ensures err { IfErr result (λ e. e ≢ WorldFault.Memory
+        → IsFirst (each_from room_checks 0 (items_view values.now)) e) }
 {
     let mut drafts = Vec::with_capacity(alloc, values.len())?;
     for (place, value) in values.iter().enumerate() {
@@ -70,7 +74,8 @@ fn read_name(part: &Value, place: u64) -> Result<RoomName, WorldFault>
 
 fn read_terrain(alloc: Global, part: &Value, place: u64) -> Result<Terrain, WorldFault>
     ensures ok { IfOk result (Requires fields.Terrain IsTerrainText (view part.now)) }
-    ensures err { IfErr result (λ e. e ≢ WorldFault.Memory → (required fields.Terrain IsTerrainText place (view part.now)).Fails e) }
+    ensures err { IfErr result (λ e. e ≢ WorldFault.Memory
+        → (required fields.Terrain IsTerrainText place (view part.now)).Fails e) }
 {
     let value = required_value(part, Field::Terrain)?;
     match terrain_of(alloc, value)? {

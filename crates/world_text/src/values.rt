@@ -3,11 +3,11 @@ ghost use Rattle.std.specs.Prelude.{◌≡◌, ◌≤◌, ◌<◌, ◌+◌, ◌*
 ghost use Rattle.std.specs.List.{AllByRecursion};
 ghost use Rattle.serde_json.specs.Data.{string};
 ghost use Rattle.serde_json.specs.View.{view, items_view, items_of};
-ghost use Rattle.game_tables.specs.Bodies.{parts_bound};
+ghost use Rattle.game_tables.specs.Bodies.{most_parts};
 ghost use Rattle.game_tables.specs.Texts.{part_text};
 ghost use Rattle.world_form.specs.Digits.{ground_digit, hex_digit, hex};
 ghost use Rattle.world_form.specs.Facts.{IsWhole, IsKindText, IsBodyList, IsNameText, IsTerrainText, IsTokenText, IsMemoryText};
-ghost use Rattle.world_text.specs.Readings.{Reads};
+ghost use Rattle.world_text.specs.inner.Readings.{Reads};
 
 use crate::text::Text;
 use game_tables::{Body, Kind, Part, most_memory, most_parts};
@@ -51,8 +51,9 @@ pub fn body_of(value: &Value) -> Option<Body>
 }
 
 fn parts_of(values: &[Value]) -> Option<Body>
-    requires { length values.now ≤ parts_bound }
-    ensures { Reads (λ parts. items_view values.now ≡ items_of (map (λ part. string (part_text part)) parts)) result }
+    requires { length values.now ≤ most_parts }
+    ensures { Reads
+        (λ parts. items_view values.now ≡ items_of (map (λ part. string (part_text part)) parts)) result }
 {
     let mut body = Body::new();
     for value in values {
@@ -140,7 +141,8 @@ pub fn token_of(alloc: Global, value: &Value) -> Result<Option<Text>, AllocError
 
 // Whether each byte is from '!' to '~'.
 fn is_printed(text: &str) -> bool
-    ensures { MatchBool result (AllByRecursion (λ byte. (33 ≤ byte) × (byte ≤ 126)) text.now) (AllByRecursion (λ byte. (33 ≤ byte) × (byte ≤ 126)) text.now → ⊥) }
+    ensures { MatchBool result (AllByRecursion (λ byte. (33 ≤ byte) × (byte ≤ 126)) text.now)
+        (AllByRecursion (λ byte. (33 ≤ byte) × (byte ≤ 126)) text.now → ⊥) }
 {
     for byte in text.as_bytes() {
         if *byte < b'!' || *byte > b'~' {
@@ -166,7 +168,8 @@ pub fn memory_of(alloc: Global, value: &Value) -> Result<Option<Bytes>, AllocErr
 // The bytes that pairs of digits say.
 fn bytes_of(alloc: Global, digits: &[u8]) -> Result<Option<Bytes>, AllocError>
     requires { length digits.now ≡ 2 * (length digits.now / 2) }
-    ensures { IfOk result (Reads (λ bytes. (digits.now ≡ hex bytes) × AllByRecursion (λ byte. byte < 2 ^ 8) bytes)) }
+    ensures { IfOk result
+        (Reads (λ bytes. (digits.now ≡ hex bytes) × AllByRecursion (λ byte. byte < 2 ^ 8) bytes)) }
 {
     let mut bytes = Bytes::new(alloc);
     for at in 0..digits.len() / 2 {

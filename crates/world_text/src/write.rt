@@ -9,7 +9,7 @@ ghost use Rattle.world_form.specs.Files.{Lists};
 ghost use Rattle.world_form.specs.Written.{list_data, object_data, room_data, account_data, world_data, written, filed_of, IsWritable, IsOfTypes};
 
 use game_tables::Body;
-use object_store::{Account, Ground, Object, Room, Terrain, World};
+use object_store::{Account, Ground, Object, Objects, Room, Terrain, World};
 use serde_json::{Value, json};
 use std::alloc::{AllocError, Global};
 
@@ -76,8 +76,8 @@ fn ground_text(ground: Ground) -> &'static str
     }
 }
 
-fn object_values(alloc: Global, objects: &[Object]) -> Result<Value, AllocError>
-    ensures { IfOk result (λ value. view value ≡ list_data object_data objects.now) }
+fn object_values(alloc: Global, objects: Objects<'_>) -> Result<Value, AllocError>
+    ensures { IfOk result (λ value. view value ≡ list_data object_data objects.entry) }
 {
     let mut values = Vec::new(alloc);
     for object in objects {
@@ -120,7 +120,8 @@ fn body_value(alloc: Global, body: &Body) -> Result<Value, AllocError>
 
 fn account_values(alloc: Global, accounts: &[Account]) -> Result<Value, AllocError>
     ensures value { IfOk result (λ value. view value ≡ list_data account_data accounts.now) }
-    ensures bytes { OnOk result (AllByRecursion (λ account. AllByRecursion (λ byte. byte < 2 ^ 8) account.memory) accounts.now) }
+    ensures bytes { OnOk result
+        (AllByRecursion (λ account. AllByRecursion (λ byte. byte < 2 ^ 8) account.memory) accounts.now) }
 {
     let mut values = Vec::new(alloc);
     for account in accounts {

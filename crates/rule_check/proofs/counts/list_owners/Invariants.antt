@@ -1,5 +1,5 @@
 use Rattle.std.proofs.Common.{◌≡◌, ◌++◌, take}
-use Rattle.rule_check.specs.Checks.{site_owners_of}
+use Rattle.rule_check.specs.inner.Checks.{site_owners_of}
 use Rattle.rule_check.proofs.counts.list_owners.Given as goal
 
 abbrev pub invariant-loop-object : goal.invariant-loop-object

@@ -1,5 +1,5 @@
 use Rattle.std.proofs.Common.{◌≡◌, take}
-use Rattle.rule_check.specs.Checks.{owners_in}
+use Rattle.rule_check.specs.inner.Checks.{owners_in}
 use Rattle.rule_check.proofs.counts.site_owners.Given as goal
 
 abbrev pub invariant-loop-room : goal.invariant-loop-room

@@ -1,5 +1,5 @@
 use Rattle.std.proofs.Common.{◌+◌}
-use Rattle.rule_check.specs.Checks.{KeptBelow}
+use Rattle.rule_check.specs.inner.Checks.{KeptBelow}
 use Rattle.rule_check.specs.Views.{viewed}
 use Rattle.rule_check.proofs.first.first_broken.Given as goal
 

@@ -1,10 +1,10 @@
 use Rattle.std.proofs.Common.{◌≡◌, ◌<◌, ◌==◌, arith}
 use Rattle.std.specs.List.{count_by}
-use Rattle.game_tables.specs.Limits.{sites_bound}
+use Rattle.game_tables.specs.Limits.{most_sites}
 use Rattle.std.proofs.lemmas.Result.{IfOk-weaker}
 use Rattle.world_rules.specs.declared.rule.Rule.TheVariants as rules
 use Rattle.world_rules.specs.Rules.{Broken}
-use Rattle.rule_check.specs.Checks.{IsLeast, AnyOf, IsBlocked, owners_in}
+use Rattle.rule_check.specs.inner.Checks.{IsLeast, AnyOf, IsBlocked, owners_in}
 use Rattle.rule_check.proofs.Placing.{the_world}
 use Rattle.rule_check.proofs.Breaks.{each_once, least_name, least_corner, least_serial, least_id, least_tile, least_shared_tile, least_owner, least_controllers, least_range, least_player, least_sites}
 use Rattle.rule_check.proofs.first.least_broken.Goals as goal
@@ -55,5 +55,5 @@ returns-in_ok-players_of-in-PlayerTwice c =
 pub returns-in-Sites : goal.returns-in-Sites
 returns-in-Sites c =
     rw c.in-Sites.is
-    (IfOk-weaker c.least_crowded.result (λ found. IsLeast (AnyOf (λ account n. (account.player ≡ n) × (sites_bound < count_by (λ owner. owner == n) (owners_in c.args.rooms.now))) c.args.accounts.now) found)
+    (IfOk-weaker c.least_crowded.result (λ found. IsLeast (AnyOf (λ account n. (account.player ≡ n) × (most_sites < count_by (λ owner. owner == n) (owners_in c.args.rooms.now))) c.args.accounts.now) found)
     (λ found. IsLeast (λ n. Broken rules.Sites n (the_world c.args.rooms.now c.args.accounts.now)) found) (λ found. least_sites c.args.rooms.now c.args.accounts.now found) c.least_crowded.ensures)

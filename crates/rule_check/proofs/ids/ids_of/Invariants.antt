@@ -1,5 +1,5 @@
 use Rattle.std.proofs.Common.{◌≡◌, take}
-use Rattle.rule_check.specs.Checks.{ids_in}
+use Rattle.rule_check.specs.inner.Checks.{ids_in}
 use Rattle.rule_check.proofs.ids.ids_of.Given as goal
 
 abbrev pub invariant-loop-room : goal.invariant-loop-room

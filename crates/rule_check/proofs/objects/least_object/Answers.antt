@@ -1,4 +1,4 @@
-use Rattle.rule_check.specs.Checks.{AnyObject}
+use Rattle.rule_check.specs.inner.Checks.{AnyObject}
 use Rattle.rule_check.proofs.Minima.{least_more, least_end, read_at}
 use Rattle.rule_check.proofs.objects.least_object.Goals as goal
 

@@ -1,4 +1,4 @@
-use Rattle.rule_check.specs.Checks.{IsLeast, AnyObject}
+use Rattle.rule_check.specs.inner.Checks.{IsLeast, AnyObject}
 use Rattle.rule_check.proofs.Minima.{AnyBelow}
 use Rattle.rule_check.proofs.objects.least_object.Given as goal
 

@@ -1,5 +1,5 @@
 use Rattle.std.proofs.Common.{◌≡◌, ℕ, ◌<◌, get_or}
-use Rattle.rule_check.specs.Taken.{nothing}
+use Rattle.rule_check.specs.inner.Taken.{nothing}
 use Rattle.rule_check.specs.declared.shared.Taken.{Taken}
 use Rattle.rule_check.proofs.shared.clear.Given as goal
 

@@ -2,7 +2,7 @@ use Rattle.std.proofs.Common.{◌≡◌, true, false, take, sym, ap, ◌∙◌}
 use Rattle.std.proofs.lemmas.List.{length-set}
 use Rattle.room_terrain.specs.Tiles.{tile}
 use Rattle.object_store.specs.Tables.{IsOnTile}
-use Rattle.rule_check.specs.Taken.{clash_with, taken_on}
+use Rattle.rule_check.specs.inner.Taken.{clash_with, taken_on}
 use Rattle.rule_check.specs.declared.shared.Taken.{Taken}
 use Rattle.rule_check.proofs.Minima.{none_more, all_at, read_at}
 use Rattle.rule_check.proofs.OnTiles.{BlockedAt, read_taken, write_taken, blocked_from_clash, free_from_no_clash, blocked_is_least, none_blocked_is_least}

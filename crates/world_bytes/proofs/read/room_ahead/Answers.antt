@@ -1,7 +1,7 @@
 use Rattle.std.proofs.Common.{◌≡◌, ◌++◌, ◌∙◌, ℕ, List, length, refl, sym, ap, arith, rules}
 use Rattle.std.proofs.lemmas.Result.{err_from_is_err_and}
 use Rattle.byteorder.specs.Endian.{little_bytes}
-use Rattle.world_bytes.specs.Rows.{objects_row}
+use Rattle.world_bytes.specs.inner.Rows.{objects_row}
 use Rattle.world_bytes.proofs.Rooms.{room_short, room_begins, leads_room, behind_next, behind_count, room_objects}
 use Rattle.world_bytes.proofs.read.room_ahead.Goals as goal
 
@@ -39,7 +39,7 @@ pub returns-clause-found : goal.returns-clause-found
 returns-clause-found c =
     let are = c.in_ok-objects.ensures.found.0 in
     let count : length c.in_ok-objects.objects.items ≡ c.in_ok-count.count = are.counted in
-    rw c.of.ensures (room_begins _ c.args.from.now.0 c.u32.new.self.0 c.u32-2.new.self.0 c.read_objects.new.from.0
+    rw c.in_ok-table.ensures (room_begins _ c.args.from.now.0 c.u32.new.self.0 c.u32-2.new.self.0 c.read_objects.new.from.0
     (record { some = omega arith; rising = are.rising; objects = are.forms; index = search rules; next = search rules; count = rw count (search rules) })
     refl c.in_ok-index.ensures.found c.in_ok-next.ensures.found
     (c.in_ok-count.ensures.found ∙ ap (λ (z : List ℕ). little_bytes 4 c.in_ok-count.count ++ z) c.in_ok-objects.ensures.found.1 ∙ ap (λ (n : ℕ). little_bytes 4 n ++ objects_row c.in_ok-objects.objects.items c.read_objects.new.from.0) (sym count)))

@@ -1,5 +1,5 @@
 use Rattle.std.proofs.lemmas.Result.{on_ok_weaker}
-use Rattle.world_bytes.specs.Rows.{counts_of}
+use Rattle.world_bytes.specs.inner.Rows.{counts_of}
 use Rattle.world_bytes.proofs.Written.{counts_written}
 use Rattle.world_bytes.proofs.write.put_counts.Goals as goal
 

@@ -1,5 +1,5 @@
 use Rattle.std.proofs.lemmas.Result.{on_ok_weaker}
-use Rattle.world_bytes.specs.Rows.{head_of}
+use Rattle.world_bytes.specs.inner.Rows.{head_of}
 use Rattle.world_bytes.proofs.Written.{head_written}
 use Rattle.world_bytes.proofs.write.put_head.Goals as goal
 

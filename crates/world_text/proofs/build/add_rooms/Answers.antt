@@ -10,8 +10,8 @@ loop-room-preserved c =
     let same = λ (t : Table). (let r : ListedRoom = record { frame = record { name = draft.name; grounds = draft.terrain; next = t.next }; objects = t.objects } in r) in
     let before = c.loop-room.world in
     rw c.in_ok-push_room.ensures.ok (record {
-      rooms = rooms_push (map listed_room c.args.world.now.rooms) before.rooms c.loop-room.yielded _ draft c.loop-room.invariant.rooms (ap same c.of-table.ensures);
-      places = places_push before.rooms _ c.loop-room.invariant.places (ap (λ (t : Table). t.index) c.of-table.ensures ∙ c.rooms.ensures);
+      rooms = rooms_push (map listed_room c.args.world.now.rooms) before.rooms c.loop-room.yielded _ draft c.loop-room.invariant.rooms (ap same c.in_ok-table.ensures);
+      places = places_push before.rooms _ c.loop-room.invariant.places (ap (λ (t : Table). t.index) c.in_ok-table.ensures ∙ c.rooms.ensures);
       tick = c.loop-room.invariant.tick;
       accounts = c.loop-room.invariant.accounts;
     })

@@ -1,6 +1,6 @@
 use Rattle.std.proofs.Common.{◌≡◌, ◌++◌, map}
 use Rattle.world_rules.specs.World.{listed_room}
-use Rattle.world_text.specs.Drafts.{drafted_room, HavePlaces}
+use Rattle.world_text.specs.inner.Drafts.{drafted_room, HavePlaces}
 use Rattle.world_text.proofs.build.add_rooms.Given as goal
 
 abbrev pub invariant-loop-room : goal.invariant-loop-room

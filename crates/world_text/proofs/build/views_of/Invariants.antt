@@ -1,7 +1,7 @@
 use Rattle.std.proofs.Common.{◌≡◌, map, take}
 use Rattle.std.specs.List.{AllByRecursion}
 use Rattle.rule_check.specs.Views.{viewed_room, IsOrdered}
-use Rattle.world_text.specs.Drafts.{drafted_room}
+use Rattle.world_text.specs.inner.Drafts.{drafted_room}
 use Rattle.world_text.proofs.build.views_of.Given as goal
 
 abbrev pub invariant-loop-room : goal.invariant-loop-room

@@ -6,7 +6,7 @@ use Rattle.world_form.specs.Facts.{Requires, IsWhole, IsList, SaysRoom}
 use Rattle.world_form.specs.FirstFaults.{optional, each_from, values_at, room_checks, player_checks}
 use Rattle.world_form.proofs.Checks.{first_append, first_later}
 use Rattle.world_form.proofs.Said.{listed_holds, room_holds}
-use Rattle.world_text.specs.Readings.{list_checks}
+use Rattle.world_text.specs.inner.Readings.{list_checks}
 use Rattle.world_text.proofs.file.read_file.Goals as goal
 
 pub returns-in_err-rooms-clause-err : goal.returns-in_err-rooms-clause-err

@@ -2,7 +2,7 @@ use Rattle.std.proofs.Common.{◌++◌}
 use Rattle.std.proofs.lemmas.Result.{err_from_is_err_and}
 use Rattle.serde_json.specs.View.{view}
 use Rattle.world_form.proofs.Checks.{first_append, first_later}
-use Rattle.world_text.specs.Readings.{identity_checks, holding_checks, counter_checks}
+use Rattle.world_text.specs.inner.Readings.{identity_checks, holding_checks, counter_checks}
 use Rattle.world_text.proofs.Parts.{identity_holds, holding_holds}
 use Rattle.world_text.proofs.objects.read_object.Goals as goal
 

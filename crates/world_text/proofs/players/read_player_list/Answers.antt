@@ -3,7 +3,7 @@ use Rattle.std.proofs.lemmas.Result.{err_from_is_err_and}
 use Rattle.world_form.specs.Facts.{SaysPlayer}
 use Rattle.world_form.specs.FirstFaults.{player_checks}
 use Rattle.world_form.proofs.Said.{player_holds}
-use Rattle.world_text.specs.Readings.{player_of}
+use Rattle.world_text.specs.inner.Readings.{player_of}
 use Rattle.world_text.proofs.Parts.{players_more}
 use Rattle.world_text.proofs.Turns.{said_more, first_here}
 use Rattle.world_text.proofs.players.read_player_list.Goals as goal

@@ -4,7 +4,7 @@ use Rattle.serde_json.specs.View.{view}
 use Rattle.world_form.specs.declared.field.Field.TheVariants as fields
 use Rattle.world_form.specs.Facts.{IsTokenText}
 use Rattle.world_form.specs.Keys.{key}
-use Rattle.world_text.specs.Readings.{Reads}
+use Rattle.world_text.specs.inner.Readings.{Reads}
 use Rattle.world_text.proofs.players.read_token.Goals as goal
 
 pub returns-in-None-clause-err : goal.returns-in-None-clause-err

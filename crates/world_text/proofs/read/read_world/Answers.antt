@@ -1,6 +1,6 @@
 use Rattle.std.proofs.Common.{◌≡◌, ◌≤◌, length, ap, arith}
 use Rattle.std.proofs.lemmas.Result.{err_from_is_err_and}
-use Rattle.game_tables.specs.Limits.{rooms_bound, players_bound}
+use Rattle.game_tables.specs.Limits.{most_rooms, most_players}
 use Rattle.object_store.specs.Stored.{Stored}
 use Rattle.world_form.proofs.OneThing.{no_fault}
 use Rattle.world_text.proofs.Accepted.{rule_fault, orderly, rooms_few, accounts_few, rooms_rising, accounts_rising, built_of, lists, world_is, tokens_are, writable}
@@ -33,7 +33,7 @@ add_rooms-requires-clause-rising c =
 
 pub add_rooms-requires-clause-room : goal.add_rooms-requires-clause-room
 add_rooms-requires-clause-room c =
-    let few : length c.in_ok-draft.draft.rooms.items ≤ rooms_bound = rooms_few c.in_ok-draft.draft c.in_ok-test_rules.ensures.kept in
+    let few : length c.in_ok-draft.draft.rooms.items ≤ most_rooms = rooms_few c.in_ok-draft.draft c.in_ok-test_rules.ensures.kept in
     let none : length c.empty-world.result.rooms ≡ 0 = ap (λ (world : Stored). length world.rooms) c.empty-world.ensures in
     omega arith
 
@@ -43,7 +43,7 @@ add_accounts-requires-clause-rising c =
     accounts_rising c.in_ok-draft.draft c.in_ok-test_rules.ensures.kept (orderly c.args.bytes.now said.0 c.in_ok-draft.draft said.1 said.2)
 
 pub add_accounts-requires-clause-room : goal.add_accounts-requires-clause-room
-add_accounts-requires-clause-room c = let few : length c.in_ok-draft.draft.players.accounts.items ≤ players_bound = accounts_few c.in_ok-draft.draft c.in_ok-test_rules.ensures.kept in omega arith
+add_accounts-requires-clause-room c = let few : length c.in_ok-draft.draft.players.accounts.items ≤ most_players = accounts_few c.in_ok-draft.draft c.in_ok-test_rules.ensures.kept in omega arith
 
 pub returns-clause-ok : goal.returns-clause-ok
 returns-clause-ok c =

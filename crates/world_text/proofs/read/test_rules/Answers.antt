@@ -2,7 +2,7 @@ use Rattle.std.proofs.Common.{◌≡◌, map, ap, ◌∙◌, subst}
 use Rattle.world_rules.specs.World.{Listing}
 use Rattle.world_rules.specs.Rules.{IsFirstBroken}
 use Rattle.rule_check.specs.Views.{viewed, viewed_room}
-use Rattle.world_text.specs.Drafts.{drafted, drafted_room}
+use Rattle.world_text.specs.inner.Drafts.{drafted, drafted_room}
 use Rattle.world_text.proofs.read.test_rules.Goals as goal
 
 pub returns-in-Some-clause-broken : goal.returns-in-Some-clause-broken

@@ -1,6 +1,6 @@
 use Rattle.std.proofs.lemmas.Result.{err_from_is_err_and}
 use Rattle.world_form.specs.FirstFaults.{room_checks}
-use Rattle.world_text.specs.Drafts.{SaysDraft}
+use Rattle.world_text.specs.inner.Drafts.{SaysDraft}
 use Rattle.world_text.proofs.Parts.{draft_holds}
 use Rattle.world_text.proofs.Turns.{said_more, first_here}
 use Rattle.world_text.proofs.rooms.read_room_list.Goals as goal

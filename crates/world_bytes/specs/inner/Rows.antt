@@ -1,10 +1,11 @@
--- Groups of an object's fields in front of other bytes, and lists of objects: the steps in which forms are read and written.
+-- Groups of an object's fields in front of other bytes, and lists of objects: the steps in which forms are
+-- read and written.
 use Rattle.std.specs.Prelude.{◌≡◌, ℕ, ◌≤◌, ◌<◌, ◌^◌, true, List, ◌∷◌, ◌++◌, map, length}
 use Rattle.std.specs.List.{AllByRecursion, flat_map}
 use Rattle.byteorder.specs.Endian.{little_bytes}
-use Rattle.game_tables.specs.Bodies.{parts_bound}
-use Rattle.game_tables.specs.Kinds.{in_rules}
-use Rattle.game_tables.specs.Limits.{memory_bound}
+use Rattle.game_tables.specs.Bodies.{most_parts}
+use Rattle.game_tables.specs.Kinds.{is_in_rules}
+use Rattle.game_tables.specs.Limits.{most_memory}
 use Rattle.game_tables.specs.Numbers.{kind_number, part_number}
 use Rattle.game_tables.specs.declared.kind.Part.{Part}
 use Rattle.object_store.specs.declared.object.Object.{Object}
@@ -26,17 +27,19 @@ LeadsNone {V} HasForm row bytes = (value : V) (rest : List ℕ) → HasForm valu
 -- ---- an object's groups of fields
 
 pub record HasHeadForm (head : Head) : Type 0 where
-  pub kind : in_rules head.kind 1 ≡ true
+  pub kind : is_in_rules head.kind 1 ≡ true
   pub column : head.x ≤ 49
   pub row : head.y ≤ 49
   pub id : head.id < 2 ^ 64
   pub owner : head.owner < 2 ^ 32
 
 unfoldable pub head_row : Head → List ℕ → List ℕ
-head_row head rest = little_bytes 8 head.id ++ (kind_number head.kind ∷ head.x ∷ head.y ∷ (little_bytes 4 head.owner ++ rest))
+head_row head rest =
+    little_bytes 8 head.id ++ (kind_number head.kind ∷ head.x ∷ head.y ∷ (little_bytes 4 head.owner ++ rest))
 
 abbrev pub head_of : Object → Head
-head_of object = record { id = object.id; kind = object.kind; x = object.x; y = object.y; owner = object.owner }
+head_of object =
+    record { id = object.id; kind = object.kind; x = object.x; y = object.y; owner = object.owner }
 
 pub record HasCountsForm (counts : Counts) : Type 0 where
   pub hits : counts.hits < 2 ^ 32
@@ -59,10 +62,18 @@ counts_row counts rest =
 
 abbrev pub counts_of : Object → Counts
 counts_of object =
-    record { hits = object.hits; energy = object.energy; timer = object.timer; extra = object.extra; progress = object.progress; other = object.other; other_ticks = object.other_ticks }
+    record {
+      hits = object.hits;
+      energy = object.energy;
+      timer = object.timer;
+      extra = object.extra;
+      progress = object.progress;
+      other = object.other;
+      other_ticks = object.other_ticks;
+    }
 
 pub record HasBodyForm (body : List Part) : Type 0 where
-  pub parts : length body ≤ parts_bound
+  pub parts : length body ≤ most_parts
 
 unfoldable pub body_row : List Part → List ℕ → List ℕ
 body_row body rest = length body ∷ (map part_number body ++ rest)
@@ -84,7 +95,7 @@ objects_row objects rest = flat_map object_bytes objects ++ rest
 -- ---- a memory text
 
 pub record HasMemoryForm (text : List ℕ) : Type 0 where
-  pub memory : length text ≤ memory_bound
+  pub memory : length text ≤ most_memory
   pub bytes : AllByRecursion (λ byte. byte < 2 ^ 8) text
 
 unfoldable pub memory_row : List ℕ → List ℕ → List ℕ

@@ -1,8 +1,8 @@
 -- What the readers of a file's parts give. For private clauses.
 use Rattle.std.specs.Prelude.{◌≡◌, ℕ, ◌^◌, true, List, [], ◌∷◌, Option, Some, None}
 use Rattle.serde_json.specs.Data.{Data}
-use Rattle.game_tables.specs.Kinds.{most_hits, in_rules}
-use Rattle.game_tables.specs.Limits.{limit_bound, bucket_bound, points_bound}
+use Rattle.game_tables.specs.Kinds.{hits_max, is_in_rules}
+use Rattle.game_tables.specs.Limits.{most_limit, most_bucket, most_points}
 use Rattle.game_tables.specs.declared.kind.Kind.{Kind}
 use Rattle.object_store.specs.declared.account.Account.{Account}
 use Rattle.world_form.specs.declared.field.Field.{Field}
@@ -24,7 +24,7 @@ Reads {A} Form None = (said : A) → Form said → ⊥
 pub record SaysIdentity (part : Data) (said : Identity) : Type 0 where
   pub id : Requires fields.Id (IsWhole 1 (2 ^ 53)) part said.id
   pub kind : Requires fields.Kind IsKindText part said.kind
-  pub in_rules : in_rules said.kind 1 ≡ true
+  pub in_rules : is_in_rules said.kind 1 ≡ true
   pub x : Requires fields.X (IsWhole 0 49) part said.x
   pub y : Requires fields.Y (IsWhole 0 49) part said.y
 
@@ -41,7 +41,7 @@ identity_checks place part =
 pub record SaysHolding (kind : Kind) (part : Data) (said : Holding) : Type 0 where
   pub owner : Defaults fields.Owner IsWhole32 0 part said.owner
   pub body : Defaults fields.Body IsBodyList [] part said.body
-  pub hits : Defaults fields.Hits IsWhole32 (most_hits kind said.body) part said.hits
+  pub hits : Defaults fields.Hits IsWhole32 (hits_max kind said.body) part said.hits
 
 abbrev pub holding_checks : ℕ → Data → List Check
 holding_checks place part =
@@ -72,7 +72,8 @@ counter_checks place part =
 
 -- the checks of a list that must be there, and of its values
 abbrev pub list_checks : Field → (ℕ → Data → List Check) → ℕ → Data → List Check
-list_checks field checks place part = required field IsList place part ∷ each_from checks 0 (values_at field part)
+list_checks field checks place part =
+    required field IsList place part ∷ each_from checks 0 (values_at field part)
 
 -- ---- players
 
@@ -81,15 +82,15 @@ player_of draft = record { account = draft.account; token = draft.token }
 
 -- The keys of an account say it, but for that of the player.
 pub record SaysAccount (part : Data) (said : Account) : Type 0 where
-  pub limit : Requires fields.Limit (IsWhole 0 limit_bound) part said.limit
-  pub bucket : Defaults fields.Bucket (IsWhole 0 bucket_bound) 0 part said.bucket
-  pub points : Defaults fields.Points (IsWhole 0 points_bound) 0 part said.points
+  pub limit : Requires fields.Limit (IsWhole 0 most_limit) part said.limit
+  pub bucket : Defaults fields.Bucket (IsWhole 0 most_bucket) 0 part said.bucket
+  pub points : Defaults fields.Points (IsWhole 0 most_points) 0 part said.points
   pub memory : Defaults fields.Memory IsMemoryText [] part said.memory
 
 abbrev pub account_checks : ℕ → Data → List Check
 account_checks place part =
-    required fields.Limit (IsWhole 0 limit_bound) place part
-    ∷ optional fields.Bucket (IsWhole 0 bucket_bound) place part
-    ∷ optional fields.Points (IsWhole 0 points_bound) place part
+    required fields.Limit (IsWhole 0 most_limit) place part
+    ∷ optional fields.Bucket (IsWhole 0 most_bucket) place part
+    ∷ optional fields.Points (IsWhole 0 most_points) place part
     ∷ optional fields.Memory IsMemoryText place part
     ∷ []

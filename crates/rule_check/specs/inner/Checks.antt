@@ -2,13 +2,12 @@
 use Rattle.std.specs.Prelude.{◌≡◌, ◌≢◌, ℕ, ◌<◌, ◌≤◌, ◌/◌, ◌%◌, ◌^◌, ◌⊎◌, true, false, List, Option, Some, None, length, map, slice_get, min, sum_by}
 use Rattle.std.specs.List.{flat_map, filter}
 use Rattle.game_tables.specs.declared.kind.Kind.{Kind}
-use Rattle.game_tables.specs.Kinds.{site_kind, work_to_build}
-use Rattle.game_tables.specs.Limits.{rooms_bound, objects_bound, players_bound}
+use Rattle.game_tables.specs.Kinds.{is_site_kind, build_total, is_controller, is_site, may_have_owner, clash}
+use Rattle.game_tables.specs.Limits.{most_rooms, most_objects, most_players}
 use Rattle.game_tables.specs.Numbers.{kind_number}
 use Rattle.room_terrain.specs.declared.name.RoomName.{RoomName}
 use Rattle.object_store.specs.declared.object.Object.{Object}
 use Rattle.object_store.specs.declared.account.Account.{Account}
-use Rattle.world_rules.specs.Kinds.{is_controller, is_site, may_have_owner, clash}
 use Rattle.world_rules.specs.Rules.{IsFrom1To, IsProgress, Broken, rule_place}
 use Rattle.world_rules.specs.World.{Listing}
 use Rattle.world_rules.specs.declared.rule.Rule.{Rule}
@@ -50,7 +49,9 @@ pub record AnyObject (so : Object → Type 0) (objects : List Object) (n : ℕ) 
 
 -- There is a room, and there are no more rooms, objects and players than may be.
 abbrev pub AreWithinCounts : List RoomView → List Account → Type 0
-AreWithinCounts rooms accounts = (1 ≤ length rooms) × (length rooms ≤ rooms_bound) × (length accounts ≤ players_bound) × (sum_by (λ room. length room.objects.now) rooms ≤ objects_bound)
+AreWithinCounts rooms accounts =
+    (1 ≤ length rooms) × (length rooms ≤ most_rooms) × (length accounts ≤ most_players)
+    × (sum_by (λ room. length room.objects.now) rooms ≤ most_objects)
 
 -- A room of a lesser index has this name.
 pub record HasNameBefore (rooms : List RoomView) (index : ℕ) (name : RoomName) : Type 0 where
@@ -62,7 +63,9 @@ pub record HasNameBefore (rooms : List RoomView) (index : ℕ) (name : RoomName)
 
 -- The id's room part is no room of these, or its serial is 0 or was not given yet.
 abbrev pub IsUnborn : List RoomView → ℕ → Type 0
-IsUnborn rooms id = ((room : RoomView) → slice_get rooms (id / 2 ^ 32) ≡ Some room → room.next ≤ id % 2 ^ 32) ⊎ (id % 2 ^ 32 ≡ 0)
+IsUnborn rooms id =
+    ((room : RoomView) → slice_get rooms (id / 2 ^ 32) ≡ Some room → room.next ≤ id % 2 ^ 32)
+    ⊎ (id % 2 ^ 32 ≡ 0)
 
 -- the ids of all objects, room by room
 abbrev pub ids_in : List RoomView → List ℕ
@@ -105,7 +108,9 @@ pub record IsReservedFor (most : ℕ) (object : Object) : Type 0 where
 
 -- The number is that of a kind that sites are for, and the progress is below its work.
 abbrev pub IsBuilt : ℕ → ℕ → Type 0
-IsBuilt number progress = (kind : Kind) × (site_kind kind 1 ≡ true) × (number ≡ kind_number kind) × IsProgress (work_to_build kind) progress
+IsBuilt number progress =
+    (kind : Kind) × (is_site_kind kind 1 ≡ true) × (number ≡ kind_number kind)
+    × IsProgress (build_total kind) progress
 
 -- ---- two objects of a room
 

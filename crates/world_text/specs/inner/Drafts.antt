@@ -53,7 +53,8 @@ pub record AreListed (listed : List Player) (players : Players) : Type 0 where
 
 -- They are those of these players, each list in the order of the players' numbers.
 pub record AreSorted (listed : List Player) (players : Players) : Type 0 where
-  pub accounts : IsSorting (λ account. account.player) (map (λ player. player.account) listed) players.accounts.items
+  pub accounts : IsSorting (λ account. account.player)
+      (map (λ player. player.account) listed) players.accounts.items
   pub tokens : IsSorting (λ token. token.0) (told_tokens listed) players.tokens.items
 
 -- ---- the whole file
