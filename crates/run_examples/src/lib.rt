@@ -1,5 +1,7 @@
-// Runs and checks over devices in memory, and the calls that fail: examples of the top calls, and of what players
-// see, which are tests alone. They stand in a crate of their own, so that the top calls are not proved once more for them.
+// Runs and checks over devices in memory, and the calls that fail: examples of the top calls, and of what
+// players
+// see, which are tests alone. They stand in a crate of their own, so that the top calls are not proved once
+// more for them.
 #![tactic(auto)]
 
 #[cfg(test)]

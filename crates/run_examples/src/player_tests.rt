@@ -35,7 +35,8 @@ const OTHER_DROPPER: &[u8] =
 const TRAPPED: &[u8] =
     b"\0asm\x01\0\0\0\x01\x0A\x02\x60\x02\x7E\x7F\x01\x7F\x60\0\0\x02\x10\x01\x07screeps\x04drop\0\0\x03\x02\x01\x01\x07\x08\x01\x04loop\0\x01\x0A\x0C\x01\x0A\0\x42\x03\x41\x05\x10\0\x1A\0\x0B";
 
-// A room with a source that is renewed at once, a pile of 1,001 and a creep of player 1 with a load of 20, whose next
+// A room with a source that is renewed at once, a pile of 1,001 and a creep of player 1 with a load of 20,
+// whose next
 // serial is this; and player 1 with this limit and bucket.
 fn world_of(alloc: Global, next: u32, limit: u32, bucket: u32) -> Result<Vec<u8>, AllocError> {
     let objects =
@@ -182,7 +183,8 @@ fn refused_streams_and_used_up_serials(rt: HostRuntime) -> Result<(), Fail> {
     Ok(())
 }
 
-// Two rooms with these next serials: in the first a creep of player 1 with this load on a pile of this energy, in the
+// Two rooms with these next serials: in the first a creep of player 1 with this load on a pile of this
+// energy, in the
 // second a creep of player 2 with this load, and more objects; and the players with these buckets.
 fn world_of_two(
     alloc: Global,

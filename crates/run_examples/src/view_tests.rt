@@ -6,7 +6,8 @@ use std::test::Fail;
 use visible_view::View;
 use world_text::read_world;
 
-// Three rooms: player 1 has a controller in the first, and in the second a creep that was born in the first; in the
+// Three rooms: player 1 has a controller in the first, and in the second a creep that was born in the first;
+// in the
 // third he has a site and a reservation, and player 2 a creep.
 fn three_rooms(alloc: Global) -> Result<String, AllocError> {
     let first = room(

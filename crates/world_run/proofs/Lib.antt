@@ -5,3 +5,5 @@ pub mod RunsLists
 pub mod Checked
 pub mod WorldFaults
 pub mod Hosts
+pub mod Worldly
+pub mod Ended

@@ -13,10 +13,10 @@ use Rattle.world_rules.specs.Sound.{HaveSerials}
 use Rattle.world_rules.specs.World.{world_of}
 use Rattle.upload_stream.specs.Streams.{Upload}
 use Rattle.hosted_tick.specs.Hosting.{Held, IsHosted}
-use Rattle.world_run.specs.Steps.{Step}
-use Rattle.world_run.specs.Lines.{start_line, step_lines}
-use Rattle.world_run.specs.Runs.{Follow, IsStep, base_frame, step_frame, last_of, opened, Fills, IsEmpty, AppendsPart, CutsLast, Leaves, LeavesPart, output}
-use Rattle.world_run.specs.Stages.{Grows, GrowsPart}
+use Rattle.world_run.specs.inner.Held.{Step, step_lines, Follow, IsStep, base_frame, step_frame, last_of, opened, CutsLast, Leaves, LeavesPart, output}
+use Rattle.world_run.specs.Lines.{start_line}
+use Rattle.world_run.specs.Runs.{Fills, IsEmpty, AppendsPart}
+use Rattle.world_run.specs.inner.Stages.{Grows, GrowsPart}
 
 -- ---- known bytes
 

@@ -23,7 +23,8 @@ answer_line statuses.Done = codes "accepted\n"
 answer_line (statuses.Refused refusal) = codes "refused " ++ refusal_name refusal ++ codes "\n"
 answer_line status = []
 
--- The source was read to its end, and its bytes call for this answer; or it gave one byte more than a module may have, which is too large whatever comes behind.
+-- The source was read to its end, and its bytes call for this answer; or it gave one byte more than a module
+-- may have, which is too large whatever comes behind.
 abbrev pub ReadsAnswer : Option (List ℕ) → Option (List ℕ) → Status → Type 0
 ReadsAnswer old new status =
     ((bytes : List ℕ) × GaveAll old new bytes × Checks bytes status)

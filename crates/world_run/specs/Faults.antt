@@ -113,4 +113,5 @@ status_text (statuses.Refused refusal) = codes "Refused " ++ refusal_name refusa
 
 -- the line `fault N TEXT` of a status
 abbrev pub fault_text : Status → List ℕ
-fault_text status = codes "fault " ++ decimal (status_number status) ++ codes " " ++ status_text status ++ codes "\n"
+fault_text status =
+    codes "fault " ++ decimal (status_number status) ++ codes " " ++ status_text status ++ codes "\n"

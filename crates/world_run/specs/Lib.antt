@@ -1,8 +1,9 @@
 pub mod Words
 pub mod Commands
-pub mod Steps
 pub mod Lines
 pub mod Faults
+pub mod Listed
 pub mod Runs
-pub mod Stages
+pub mod Ends
 pub mod Checks
+pub mod inner

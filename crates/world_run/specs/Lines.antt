@@ -9,7 +9,6 @@ use Rattle.intent_book.specs.declared.player_run.RunOutcome.TheVariants.{Finishe
 use Rattle.world_rules.specs.Tick.{intents_of}
 use Rattle.world_rules.specs.World.{placed, listing_of}
 use Rattle.tick_journal.specs.declared.entries.UploadEntry.{UploadEntry}
-use Rattle.world_run.specs.Steps.{Step}
 
 -- the number of objects of a world
 abbrev pub object_count : Stored → ℕ
@@ -29,11 +28,15 @@ start_line world =
 
 -- the result of an upload, by its number
 unfoldable pub result_text : ℕ → List ℕ
-result_text number = if number == 0 then codes "accepted" else unwrap_or (option_map (λ refusal. codes "refused " ++ refusal_name refusal) (refusal_of number)) []
+result_text number =
+    if number == 0 then codes "accepted"
+    else unwrap_or (option_map (λ refusal. codes "refused " ++ refusal_name refusal) (refusal_of number)) []
 
 -- for each upload of a tick
 unfoldable pub upload_line : UploadEntry → List ℕ
-upload_line entry = codes "upload player " ++ decimal entry.player ++ codes " " ++ result_text entry.result_number ++ codes "\n"
+upload_line entry =
+    codes "upload player " ++ decimal entry.player ++ codes " " ++ result_text entry.result_number
+    ++ codes "\n"
 
 -- how a run ended
 unfoldable pub outcome_text : RunOutcome → List ℕ
@@ -43,7 +46,9 @@ outcome_text Spent = codes "spent"
 
 -- for each run of a tick, with the instructions that it used
 unfoldable pub run_line : PlayerRun → List ℕ
-run_line run = codes "player " ++ decimal run.player ++ codes " " ++ outcome_text run.outcome ++ codes " " ++ decimal run.used ++ codes "\n"
+run_line run =
+    codes "player " ++ decimal run.player ++ codes " " ++ outcome_text run.outcome ++ codes " "
+    ++ decimal run.used ++ codes "\n"
 
 -- after a tick, with the numbers of the new world and of the intents that were recorded
 unfoldable pub tick_line : Stored → ℕ → List ℕ
@@ -53,6 +58,7 @@ tick_line world intents =
     ++ codes " intents " ++ decimal intents
     ++ codes " energy " ++ decimal (total_energy world) ++ codes "\n"
 
--- all lines of a tick
-abbrev pub step_lines : Step → List ℕ
-step_lines step = flat_map upload_line step.uploads ++ flat_map run_line step.runs ++ tick_line step.after.world (length (intents_of step.runs))
+-- all lines of a tick, by its uploads, its runs, and the world after it
+abbrev pub tick_lines : List UploadEntry → List PlayerRun → Stored → List ℕ
+tick_lines uploads runs world =
+    flat_map upload_line uploads ++ flat_map run_line runs ++ tick_line world (length (intents_of runs))

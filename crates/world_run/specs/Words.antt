@@ -16,11 +16,14 @@ pub record IsRun (words : List (List ℕ)) (world uploads journal : List ℕ) (t
 
 -- The words are those of a run.
 abbrev pub AreRun : List (List ℕ) → Type 0
-AreRun words = (world : List ℕ) × (uploads : List ℕ) × (journal : List ℕ) × (ticks : ℕ) × IsRun words world uploads journal ticks
+AreRun words =
+    (world : List ℕ) × (uploads : List ℕ) × (journal : List ℕ) × (ticks : ℕ)
+    × IsRun words world uploads journal ticks
 
 -- The words are those of a run of so many ticks.
 abbrev pub Asks : List (List ℕ) → ℕ → Type 0
-Asks words ticks = (world : List ℕ) × (uploads : List ℕ) × (journal : List ℕ) × IsRun words world uploads journal ticks
+Asks words ticks =
+    (world : List ℕ) × (uploads : List ℕ) × (journal : List ℕ) × IsRun words world uploads journal ticks
 
 -- The words are those of a run of so many ticks or more.
 abbrev pub AsksAtLeast : List (List ℕ) → ℕ → Type 0

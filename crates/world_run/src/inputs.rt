@@ -6,9 +6,9 @@ ghost use Rattle.world_rules.specs.World.{World as GameWorld, world_of};
 ghost use Rattle.world_form.specs.Files.{WorldForm};
 ghost use Rattle.world_form.specs.declared.fault.WorldFault.{WorldFault};
 ghost use Rattle.hosted_tick.specs.Hosting.{IsHosted};
-ghost use Rattle.world_run.specs.Stages.{status_of_fault, IsOfWords, IsOfWorld, IsOfUploads, IsOfInputs};
+ghost use Rattle.world_run.specs.inner.Stages.{status_of_fault, IsOfWords, IsOfWorld, IsOfUploads, IsOfInputs, IsPastWorld};
 ghost use Rattle.world_run.specs.Words.{AreRun, Asks};
-ghost use Rattle.world_run.specs.Runs.{ReadsWorld, ReadsFault, IsPastWords, IsPastWorld};
+ghost use Rattle.world_run.specs.Runs.{ReadsWorld, ReadsFault, IsPastWords};
 
 use crate::status::Status;
 use crate::words::{Command, WordsFault, read_words};
@@ -40,26 +40,41 @@ pub(crate) fn read_inputs<W: Source, U: Source>(
     uploads: &mut U,
 ) -> Result<Inputs, Status>
     ensures run { IfOk result (λ inputs. Asks (map string_bytes words.now) inputs.ticks) }
-    ensures found { IfOk result (λ inputs. ReadsWorld (W.left world.old) (W.left world.new) (world_of inputs.world)) }
+    ensures found { IfOk result
+        (λ inputs. ReadsWorld (W.left world.old) (W.left world.new) (world_of inputs.world)) }
     ensures hosted { IfOk result (λ inputs. IsHosted inputs.world) }
     ensures tick { IfOk result (λ inputs. inputs.world.tick ≤ 2 ^ 53) }
-    ensures stream { IfOk result (λ inputs. GaveAll (U.left uploads.old) (U.left uploads.new) inputs.stream.items) }
+    ensures stream { IfOk result
+        (λ inputs. GaveAll (U.left uploads.old) (U.left uploads.new) inputs.stream.items) }
     ensures within { IfOk result (λ inputs. length inputs.stream.items ≤ 2 ^ 28) }
     ensures only { IfErr result IsOfInputs }
     ensures usage { IfErr result (λ status. status ≡ Status.Usage → AreRun (map string_bytes words.now) → ⊥) }
     ensures words { IfErr result (λ status. IsPastWords status → AreRun (map string_bytes words.now)) }
-    ensures world_refused { IfErr result (λ status. (fault : WorldFault) → status ≡ Status.World fault → ReadsFault (W.left world.old) (W.left world.new) fault) }
-    ensures world_accepted { IfErr result (λ status. IsPastWorld status → (found : GameWorld) × ReadsWorld (W.left world.old) (W.left world.new) found) }
-    ensures uploads_refused { IfErr result (λ status. (at : ℕ) → status ≡ Status.Uploads at → (at ≡ 2 ^ 28) × Gave (U.left uploads.old) (U.left uploads.new) (2 ^ 28 + 1)) }
-    ensures read_fault { IfErr result (λ status. status ≡ Status.ReadFault → (Rose (W.faults world.old) (W.faults world.new) × (U.left uploads.new ≡ U.left uploads.old))
-        ⊎ (Rose (U.faults uploads.old) (U.faults uploads.new) × ((found : GameWorld) × ReadsWorld (W.left world.old) (W.left world.new) found))) }
-    ensures unread { IfErr result (λ status. status ≡ Status.Usage → (W.left world.new ≡ W.left world.old) × (U.left uploads.new ≡ U.left uploads.old)) }
-    ensures uploads_unread { IfErr result (λ status. (fault : WorldFault) → status ≡ Status.World fault → U.left uploads.new ≡ U.left uploads.old) }
-    ensures steady { OnOk result ((W.faults world.new ≡ W.faults world.old) × (U.faults uploads.new ≡ U.faults uploads.old)) }
-    ensures steady_else { IfErr result (λ status. status ≢ Status.ReadFault → (W.faults world.new ≡ W.faults world.old) × (U.faults uploads.new ≡ U.faults uploads.old)) }
-    ensures complete { IfErr result (λ status. (bytes stream : List ℕ) → (found : GameWorld) → AreRun (map string_bytes words.now)
-        → W.left world.old ≡ Some bytes → WorldForm bytes found → U.left uploads.old ≡ Some stream → length stream ≤ 2 ^ 28
-        → (Rose (W.faults world.old) (W.faults world.new) → ⊥) → (Rose (U.faults uploads.old) (U.faults uploads.new) → ⊥)
+    ensures world_refused { IfErr result (λ status. (fault : WorldFault) → status ≡ Status.World fault
+        → ReadsFault (W.left world.old) (W.left world.new) fault) }
+    ensures world_accepted { IfErr result (λ status. IsPastWorld status
+        → (found : GameWorld) × ReadsWorld (W.left world.old) (W.left world.new) found) }
+    ensures uploads_refused { IfErr result (λ status. (at : ℕ) → status ≡ Status.Uploads at
+        → (at ≡ 2 ^ 28) × Gave (U.left uploads.old) (U.left uploads.new) (2 ^ 28 + 1)) }
+    ensures read_fault { IfErr result (λ status. status ≡ Status.ReadFault
+        → (Rose (W.faults world.old) (W.faults world.new) × (U.left uploads.new ≡ U.left uploads.old))
+        ⊎ (Rose (U.faults uploads.old)
+        (U.faults uploads.new)
+        × ((found : GameWorld) × ReadsWorld (W.left world.old) (W.left world.new) found))) }
+    ensures unread { IfErr result (λ status. status ≡ Status.Usage → (W.left world.new ≡ W.left world.old)
+        × (U.left uploads.new ≡ U.left uploads.old)) }
+    ensures uploads_unread { IfErr result (λ status. (fault : WorldFault) → status ≡ Status.World fault
+        → U.left uploads.new ≡ U.left uploads.old) }
+    ensures steady { OnOk result ((W.faults world.new ≡ W.faults world.old)
+        × (U.faults uploads.new ≡ U.faults uploads.old)) }
+    ensures steady_else { IfErr result (λ status. status ≢ Status.ReadFault
+        → (W.faults world.new ≡ W.faults world.old) × (U.faults uploads.new ≡ U.faults uploads.old)) }
+    ensures complete { IfErr result (λ status. (bytes stream : List ℕ) → (found : GameWorld)
+        → AreRun (map string_bytes words.now)
+        → W.left world.old ≡ Some bytes → WorldForm bytes found → U.left uploads.old ≡ Some stream
+        → length stream ≤ 2 ^ 28
+        → (Rose (W.faults world.old) (W.faults world.new) → ⊥)
+        → (Rose (U.faults uploads.old) (U.faults uploads.new) → ⊥)
         → status ≡ Status.Memory) }
     ensures world_later { W.faults world.old ≤ W.faults world.new }
     ensures uploads_later { U.faults uploads.old ≤ U.faults uploads.new }
@@ -90,16 +105,21 @@ fn asked_ticks(alloc: Global, words: &[String]) -> Result<u64, Status>
 // The world of a file.
 #[tactic(auto, using(crate::proofs::WorldFaults::of_faults))]
 fn load_world<W: Source>(alloc: Global, source: &mut W) -> Result<World, Status>
-    ensures found { IfOk result (λ world. ReadsWorld (W.left source.old) (W.left source.new) (world_of world)) }
+    ensures found { IfOk result
+        (λ world. ReadsWorld (W.left source.old) (W.left source.new) (world_of world)) }
     ensures hosted { IfOk result IsHosted }
     ensures tick { IfOk result (λ world. world.tick ≤ 2 ^ 53) }
     ensures only { IfErr result IsOfWorld }
-    ensures refused { IfErr result (λ status. (fault : WorldFault) → status ≡ Status.World fault → ReadsFault (W.left source.old) (W.left source.new) fault) }
-    ensures fault { IfErr result (λ status. status ≡ Status.ReadFault → Rose (W.faults source.old) (W.faults source.new)) }
-    ensures complete { IfErr result (λ status. (bytes : List ℕ) → (found : GameWorld) → W.left source.old ≡ Some bytes → WorldForm bytes found
+    ensures refused { IfErr result (λ status. (fault : WorldFault) → status ≡ Status.World fault
+        → ReadsFault (W.left source.old) (W.left source.new) fault) }
+    ensures fault { IfErr result (λ status. status ≡ Status.ReadFault
+        → Rose (W.faults source.old) (W.faults source.new)) }
+    ensures complete { IfErr result (λ status. (bytes : List ℕ) → (found : GameWorld)
+        → W.left source.old ≡ Some bytes → WorldForm bytes found
         → (Rose (W.faults source.old) (W.faults source.new) → ⊥) → status ≡ Status.Memory) }
     ensures steady { OnOk result (W.faults source.new ≡ W.faults source.old) }
-    ensures steady_else { IfErr result (λ status. status ≢ Status.ReadFault → W.faults source.new ≡ W.faults source.old) }
+    ensures steady_else { IfErr result (λ status. status ≢ Status.ReadFault
+        → W.faults source.new ≡ W.faults source.old) }
     ensures later { W.faults source.old ≤ W.faults source.new }
 {
     let bytes = match read_all(alloc, source, MOST_WORLD_BYTES) {
@@ -129,12 +149,16 @@ fn load_uploads<U: Source>(alloc: Global, source: &mut U) -> Result<Vec<u8>, Sta
     ensures stream { IfOk result (λ stream. GaveAll (U.left source.old) (U.left source.new) stream.items) }
     ensures within { IfOk result (λ stream. length stream.items ≤ 2 ^ 28) }
     ensures only { IfErr result IsOfUploads }
-    ensures refused { IfErr result (λ status. (at : ℕ) → status ≡ Status.Uploads at → (at ≡ 2 ^ 28) × Gave (U.left source.old) (U.left source.new) (2 ^ 28 + 1)) }
-    ensures fault { IfErr result (λ status. status ≡ Status.ReadFault → Rose (U.faults source.old) (U.faults source.new)) }
-    ensures complete { IfErr result (λ status. (stream : List ℕ) → U.left source.old ≡ Some stream → length stream ≤ 2 ^ 28
+    ensures refused { IfErr result (λ status. (at : ℕ) → status ≡ Status.Uploads at
+        → (at ≡ 2 ^ 28) × Gave (U.left source.old) (U.left source.new) (2 ^ 28 + 1)) }
+    ensures fault { IfErr result (λ status. status ≡ Status.ReadFault
+        → Rose (U.faults source.old) (U.faults source.new)) }
+    ensures complete { IfErr result (λ status. (stream : List ℕ) → U.left source.old ≡ Some stream
+        → length stream ≤ 2 ^ 28
         → (Rose (U.faults source.old) (U.faults source.new) → ⊥) → status ≡ Status.Memory) }
     ensures steady { OnOk result (U.faults source.new ≡ U.faults source.old) }
-    ensures steady_else { IfErr result (λ status. status ≢ Status.ReadFault → U.faults source.new ≡ U.faults source.old) }
+    ensures steady_else { IfErr result (λ status. status ≢ Status.ReadFault
+        → U.faults source.new ≡ U.faults source.old) }
     ensures later { U.faults source.old ≤ U.faults source.new }
 {
     match read_all(alloc, source, MOST_UPLOAD_BYTES) {

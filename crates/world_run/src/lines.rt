@@ -2,12 +2,12 @@
 ghost use Rattle.std.specs.Prelude.{◌≡◌, ◌<◌, ◌^◌, ◌++◌, length, string_bytes, IfOk, OnOk};
 ghost use Rattle.std.specs.List.{flat_map, sum_by};
 ghost use Rattle.world_rules.specs.Tick.{intents_of};
-ghost use Rattle.world_run.specs.Steps.{step_of};
-ghost use Rattle.world_run.specs.Lines.{start_line as start_line_of, upload_line as upload_line_of, result_text as result_text_of, run_line as run_line_of, outcome_text as outcome_text_of, tick_line as tick_line_of, step_lines as step_lines_of, object_count as object_count_of, total_energy as total_energy_of};
+ghost use Rattle.world_run.specs.inner.Held.{step_of, step_lines as step_lines_of};
+ghost use Rattle.world_run.specs.Lines.{start_line as start_line_of, upload_line as upload_line_of, result_text as result_text_of, run_line as run_line_of, outcome_text as outcome_text_of, tick_line as tick_line_of, object_count as object_count_of, total_energy as total_energy_of};
 
 use hosted_tick::Ticked;
 use intent_book::{PlayerRun, Refusal, RunOutcome};
-use object_store::{Object, World};
+use object_store::{Object, Objects, World};
 use std::alloc::{AllocError, Global};
 use tick_journal::UploadEntry;
 
@@ -38,7 +38,8 @@ pub(crate) fn step_lines(alloc: Global, done: &Ticked) -> Result<Vec<u8>, AllocE
 }
 
 fn add_uploads(uploads: &[UploadEntry], lines: &mut String) -> Result<(), AllocError>
-    ensures { OnOk result (string_bytes lines.new ≡ string_bytes lines.old ++ flat_map upload_line_of uploads.now) }
+    ensures { OnOk result (string_bytes lines.new ≡ string_bytes lines.old
+        ++ flat_map upload_line_of uploads.now) }
 {
     for entry in uploads {
         add_upload(entry, lines)?;
@@ -110,7 +111,8 @@ fn intent_count(runs: &[PlayerRun]) -> u128
 
 // Adds the line of a world after a tick, in which so many intents were recorded.
 fn add_tick(world: &World, intents: u128, lines: &mut String) -> Result<(), AllocError>
-    ensures { OnOk result (string_bytes lines.new ≡ string_bytes lines.old ++ tick_line_of world.now intents) }
+    ensures { OnOk result (string_bytes lines.new ≡ string_bytes lines.old
+        ++ tick_line_of world.now intents) }
 {
     let tick = world.tick();
     let objects = object_count(world);
@@ -145,15 +147,22 @@ fn total_energy(world: &World) -> u128
 }
 
 // The energy of the objects of one room.
-#[tactic(auto, using(crate::proofs::LinesSums::counts))]
-fn room_energy(objects: &[Object]) -> u128
-    requires { length objects.now < 2 ^ 32 }
-    ensures energy { result ≡ sum_by (λ object. object.energy) objects.now }
+fn room_energy(objects: Objects<'_>) -> u128
+    requires { length objects < 2 ^ 32 }
+    ensures energy { result ≡ sum_by (λ object. object.energy) objects.entry }
     ensures within { result < 2 ^ 96 }
 {
     let mut total: u128 = 0;
     for object in objects {
-        total += u128::from(object.energy);
+        total += energy_of(object);
     }
     total
+}
+
+// The energy of an object.
+fn energy_of(object: &Object) -> u128
+    ensures energy { result ≡ object.now.energy }
+    ensures within { result < 2 ^ 64 }
+{
+    u128::from(object.energy)
 }

@@ -7,9 +7,11 @@ ghost use Rattle.world_rules.specs.World.{World as GameWorld, world_of};
 ghost use Rattle.world_form.specs.Files.{WorldForm};
 ghost use Rattle.world_form.specs.declared.fault.WorldFault.{WorldFault};
 ghost use Rattle.upload_stream.specs.Streams.{Upload as UploadOfStream, UploadList};
-ghost use Rattle.world_run.specs.Steps.{Step};
+ghost use Rattle.world_run.specs.inner.Held.{Step, IsExhausted, Leaves, LeavesPart, Follow, last_of, opened, output};
 ghost use Rattle.world_run.specs.Words.{AreRun, Asks, AsksAtLeast};
-ghost use Rattle.world_run.specs.Runs.{ReadsWorld, ReadsFault, ReadsUploads, ReadsBad, IsEmpty, IsFilled, IsOfRun, IsPastWords, IsPastWorld, IsPastUploads, IsPastJournal, IsBeforeJournal, IsExhausted, Leaves, LeavesPart, Follow, last_of, opened, output};
+ghost use Rattle.world_run.specs.Runs.{ReadsWorld, ReadsFault, ReadsUploads, ReadsBad, IsEmpty, IsFilled, IsPastWords};
+ghost use Rattle.world_run.specs.inner.Stages.{IsOfRun, IsPastWorld, IsPastUploads, IsPastJournal, IsBeforeJournal};
+ghost use Rattle.world_run.specs.Ends.{Runs};
 
 use crate::inputs::{Inputs, read_inputs};
 use crate::status::Status;
@@ -32,75 +34,139 @@ pub fn run_alone<W: Source, U: Source, O: Sink, D: Disk>(
     out: &mut O,
     disk: &mut D,
 ) -> Status
-    // All was done: the journal has the file's world and each tick after it, with what each player's module emits of what he sees, and the lines were printed.
-    ensures done { result ≡ Status.Done → (first : Stored) × (stream : List UploadOfStream) × (steps : List Step)
+    ensures { Runs (map string_bytes words.now)
+        (record {
+          world = W.left world.old;
+          uploads = U.left uploads.old;
+          written = O.written out.old;
+          disk = D.seen disk.old;
+          world_faults = W.faults world.old;
+          uploads_faults = U.faults uploads.old;
+          sink_faults = O.faults out.old;
+          disk_faults = D.faults disk.old;
+        })
+        (record {
+          world = W.left world.new;
+          uploads = U.left uploads.new;
+          written = O.written out.new;
+          disk = D.seen disk.new;
+          world_faults = W.faults world.new;
+          uploads_faults = U.faults uploads.new;
+          sink_faults = O.faults out.new;
+          disk_faults = D.faults disk.new;
+        }) result }
+{
+    run_stored(alloc, words, world, uploads, out, disk)
+}
+
+// The same, said of worlds as they are stored.
+fn run_stored<W: Source, U: Source, O: Sink, D: Disk>(
+    alloc: Global,
+    words: &[String],
+    world: &mut W,
+    uploads: &mut U,
+    out: &mut O,
+    disk: &mut D,
+) -> Status
+    // All was done: the journal has the file's world and each tick after it, with what each player's module
+    // emits of what he sees, and the lines were printed.
+    ensures done { result ≡ Status.Done → (first : Stored) × (stream : List UploadOfStream)
+        × (steps : List Step)
         × Asks (map string_bytes words.now) (length steps)
         × ReadsWorld (W.left world.old) (W.left world.new) (world_of first)
         × ReadsUploads (U.left uploads.old) (U.left uploads.new) stream
-        × Leaves (D.seen disk.old) (D.seen disk.new) (O.written out.old) (O.written out.new) stream first steps }
+        × Leaves (D.seen disk.old) (D.seen disk.new) (O.written out.old)
+        (O.written out.new) stream first steps }
     ensures only { IsOfRun result }
 
     // Each refusal of an input comes exactly where the input has its fault.
     ensures usage { result ≡ Status.Usage → AreRun (map string_bytes words.now) → ⊥ }
     ensures words { IsPastWords result → AreRun (map string_bytes words.now) }
-    ensures world_refused { (fault : WorldFault) → result ≡ Status.World fault → ReadsFault (W.left world.old) (W.left world.new) fault }
-    ensures world_accepted { IsPastWorld result → (found : GameWorld) × ReadsWorld (W.left world.old) (W.left world.new) found }
-    ensures uploads_refused { (at : ℕ) → result ≡ Status.Uploads at → ReadsBad (U.left uploads.old) (U.left uploads.new) at }
-    ensures uploads_accepted { IsPastUploads result → (stream : List UploadOfStream) × ReadsUploads (U.left uploads.old) (U.left uploads.new) stream }
-    ensures journal_refused { (at : ℕ) → result ≡ Status.NotAJournal at → (at ≡ 0) × IsFilled (D.seen disk.old) }
+    ensures world_refused { (fault : WorldFault) → result ≡ Status.World fault
+        → ReadsFault (W.left world.old) (W.left world.new) fault }
+    ensures world_accepted { IsPastWorld result → (found : GameWorld)
+        × ReadsWorld (W.left world.old) (W.left world.new) found }
+    ensures uploads_refused { (at : ℕ) → result ≡ Status.Uploads at
+        → ReadsBad (U.left uploads.old) (U.left uploads.new) at }
+    ensures uploads_accepted { IsPastUploads result → (stream : List UploadOfStream)
+        × ReadsUploads (U.left uploads.old) (U.left uploads.new) stream }
+    ensures journal_refused { (at : ℕ) → result ≡ Status.NotAJournal at
+        → (at ≡ 0) × IsFilled (D.seen disk.old) }
     ensures journal_accepted { IsPastJournal result → IsEmpty (D.seen disk.old) }
 
-    // Before a tick that is asked for the room is the first whose serials are used up, and all ticks before it were done.
-    ensures exhausted { (index : ℕ) → result ≡ Status.IdsExhausted index → (first : Stored) × (stream : List UploadOfStream) × (steps : List Step)
+    // Before a tick that is asked for the room is the first whose serials are used up, and all ticks before
+    // it were done.
+    ensures exhausted { (index : ℕ) → result ≡ Status.IdsExhausted index
+        → (first : Stored) × (stream : List UploadOfStream) × (steps : List Step)
         × AsksAtLeast (map string_bytes words.now) (suc (length steps))
         × ReadsWorld (W.left world.old) (W.left world.new) (world_of first)
         × ReadsUploads (U.left uploads.old) (U.left uploads.new) stream
-        × Leaves (D.seen disk.old) (D.seen disk.new) (O.written out.old) (O.written out.new) stream first steps
+        × Leaves (D.seen disk.old) (D.seen disk.new) (O.written out.old)
+        (O.written out.new) stream first steps
         × IsExhausted (last_of (opened first) steps).world index }
 
-    // A fault comes only where that object's count rose, and that of the upload stream only where the world file was accepted.
-    ensures read_fault { result ≡ Status.ReadFault → (Rose (W.faults world.old) (W.faults world.new) × (U.left uploads.new ≡ U.left uploads.old))
-        ⊎ (Rose (U.faults uploads.old) (U.faults uploads.new) × ((found : GameWorld) × ReadsWorld (W.left world.old) (W.left world.new) found)) }
+    // A fault comes only where that object's count rose, and that of the upload stream only where the world
+    // file was accepted.
+    ensures read_fault { result ≡ Status.ReadFault
+        → (Rose (W.faults world.old) (W.faults world.new) × (U.left uploads.new ≡ U.left uploads.old))
+        ⊎ (Rose (U.faults uploads.old)
+        (U.faults uploads.new)
+        × ((found : GameWorld) × ReadsWorld (W.left world.old) (W.left world.new) found)) }
     ensures write_fault { result ≡ Status.WriteFault → Rose (O.faults out.old) (O.faults out.new) }
     ensures disk_fault { result ≡ Status.DiskFault → Rose (D.faults disk.old) (D.faults disk.new) }
 
     // With good inputs and no fault all is done, or serials are used up, or memory is wanted.
-    ensures complete { (bytes stream : List ℕ) → (found : GameWorld) → (list : List UploadOfStream) → AreRun (map string_bytes words.now)
+    ensures complete { (bytes stream : List ℕ) → (found : GameWorld) → (list : List UploadOfStream)
+        → AreRun (map string_bytes words.now)
         → W.left world.old ≡ Some bytes → WorldForm bytes found
-        → U.left uploads.old ≡ Some stream → length stream ≤ 2 ^ 28 → UploadList stream list → D.seen disk.old ≡ Some []
-        → (Rose (W.faults world.old) (W.faults world.new) → ⊥) → (Rose (U.faults uploads.old) (U.faults uploads.new) → ⊥)
-        → (Rose (O.faults out.old) (O.faults out.new) → ⊥) → (Rose (D.faults disk.old) (D.faults disk.new) → ⊥)
-        → (result ≡ Status.Done) ⊎ (result ≡ Status.Memory) ⊎ ((index : ℕ) × (result ≡ Status.IdsExhausted index)) }
+        → U.left uploads.old ≡ Some stream → length stream ≤ 2 ^ 28 → UploadList stream list
+        → D.seen disk.old ≡ Some []
+        → (Rose (W.faults world.old) (W.faults world.new) → ⊥)
+        → (Rose (U.faults uploads.old) (U.faults uploads.new) → ⊥)
+        → (Rose (O.faults out.old) (O.faults out.new) → ⊥)
+        → (Rose (D.faults disk.old) (D.faults disk.new) → ⊥)
+        → (result ≡ Status.Done) ⊎ (result ≡ Status.Memory)
+        ⊎ ((index : ℕ) × (result ≡ Status.IdsExhausted index)) }
 
     // What is left on the disk and in the sink.
-    ensures untouched { IsBeforeJournal result → (D.seen disk.new ≡ D.seen disk.old) × (O.written out.new ≡ O.written out.old) }
-    ensures disk_kept { (at : ℕ) → result ≡ Status.NotAJournal at → (D.seen disk.new ≡ D.seen disk.old) × (O.written out.new ≡ O.written out.old) }
-    ensures write_stopped { result ≡ Status.WriteFault → (first : Stored) × (stream : List UploadOfStream) × (steps : List Step)
+    ensures untouched { IsBeforeJournal result → (D.seen disk.new ≡ D.seen disk.old)
+        × (O.written out.new ≡ O.written out.old) }
+    ensures disk_kept { (at : ℕ) → result ≡ Status.NotAJournal at → (D.seen disk.new ≡ D.seen disk.old)
+        × (O.written out.new ≡ O.written out.old) }
+    ensures write_stopped { result ≡ Status.WriteFault → (first : Stored) × (stream : List UploadOfStream)
+        × (steps : List Step)
         × AsksAtLeast (map string_bytes words.now) (length steps)
         × ReadsWorld (W.left world.old) (W.left world.new) (world_of first)
         × ReadsUploads (U.left uploads.old) (U.left uploads.new) stream
-        × LeavesPart (D.seen disk.old) (D.seen disk.new) (O.written out.old) (O.written out.new) stream first steps }
+        × LeavesPart (D.seen disk.old) (D.seen disk.new) (O.written out.old)
+        (O.written out.new) stream first steps }
     ensures disk_stopped { result ≡ Status.DiskFault → (O.written out.new ≡ O.written out.old)
         ⊎ ((first : Stored) × (stream : List UploadOfStream) × (steps : List Step)
         × AsksAtLeast (map string_bytes words.now) (length steps)
         × ReadsWorld (W.left world.old) (W.left world.new) (world_of first)
         × ReadsUploads (U.left uploads.old) (U.left uploads.new) stream
-        × Follow stream (opened first) steps × Appends (O.written out.old) (O.written out.new) (output first steps)) }
-    ensures memory_stopped { result ≡ Status.Memory → ((D.seen disk.new ≡ D.seen disk.old) × (O.written out.new ≡ O.written out.old))
+        × Follow stream (opened first) steps × Appends (O.written out.old) (O.written out.new)
+        (output first steps)) }
+    ensures memory_stopped { result ≡ Status.Memory
+        → ((D.seen disk.new ≡ D.seen disk.old) × (O.written out.new ≡ O.written out.old))
         ⊎ ((first : Stored) × (stream : List UploadOfStream) × (steps : List Step)
         × AsksAtLeast (map string_bytes words.now) (length steps)
         × ReadsWorld (W.left world.old) (W.left world.new) (world_of first)
         × ReadsUploads (U.left uploads.old) (U.left uploads.new) stream
-        × Leaves (D.seen disk.old) (D.seen disk.new) (O.written out.old) (O.written out.new) stream first steps) }
+        × Leaves (D.seen disk.old) (D.seen disk.new) (O.written out.old)
+        (O.written out.new) stream first steps) }
 
     ensures overwrites_nothing { IsEmpty (D.seen disk.old) ⊎ (D.seen disk.new ≡ D.seen disk.old) }
 
     // What is not needed is not read.
-    ensures unread { result ≡ Status.Usage → (W.left world.new ≡ W.left world.old) × (U.left uploads.new ≡ U.left uploads.old) }
-    ensures uploads_unread { (fault : WorldFault) → result ≡ Status.World fault → U.left uploads.new ≡ U.left uploads.old }
+    ensures unread { result ≡ Status.Usage → (W.left world.new ≡ W.left world.old)
+        × (U.left uploads.new ≡ U.left uploads.old) }
+    ensures uploads_unread { (fault : WorldFault) → result ≡ Status.World fault
+        → U.left uploads.new ≡ U.left uploads.old }
 
     // No failure is passed over: a count stays but where its fault is answered.
-    ensures read_steady { result ≢ Status.ReadFault → (W.faults world.new ≡ W.faults world.old) × (U.faults uploads.new ≡ U.faults uploads.old) }
+    ensures read_steady { result ≢ Status.ReadFault → (W.faults world.new ≡ W.faults world.old)
+        × (U.faults uploads.new ≡ U.faults uploads.old) }
     ensures write_steady { result ≢ Status.WriteFault → O.faults out.new ≡ O.faults out.old }
     ensures disk_steady { result ≢ Status.DiskFault → D.faults disk.new ≡ D.faults disk.old }
 

@@ -8,10 +8,10 @@ ghost use Rattle.world_io.specs.Told.{AppendsPrefix};
 ghost use Rattle.world_rules.specs.Sound.{HaveSerials};
 ghost use Rattle.upload_stream.specs.Entries.{upload_of};
 ghost use Rattle.hosted_tick.specs.Hosting.{IsHosted};
-ghost use Rattle.world_run.specs.Steps.{Step, step_of};
-ghost use Rattle.world_run.specs.Lines.{start_line as start_line_of, step_lines};
-ghost use Rattle.world_run.specs.Stages.{IsOfRecord, IsOfStart, IsOfTick, IsOfTicks, IsOfJournal, Grows, GrowsPart, GrowsLines};
-ghost use Rattle.world_run.specs.Runs.{IsEmpty, IsFilled, IsPastJournal, IsExhausted, IsStep, Leaves, LeavesPart, Follow, base_frame, step_frame, last_of, opened, output};
+ghost use Rattle.world_run.specs.inner.Held.{Step, step_of, step_lines, IsExhausted, IsStep, Leaves, LeavesPart, Follow, base_frame, step_frame, last_of, opened, output};
+ghost use Rattle.world_run.specs.Lines.{start_line as start_line_of};
+ghost use Rattle.world_run.specs.inner.Stages.{IsOfRecord, IsOfStart, IsOfTick, IsOfTicks, IsOfJournal, Grows, GrowsPart, GrowsLines, IsPastJournal};
+ghost use Rattle.world_run.specs.Runs.{IsEmpty, IsFilled};
 
 use crate::journal::{append, frame_of};
 use crate::lines::{start_line, step_lines as lines_of};
@@ -40,24 +40,35 @@ pub(crate) fn keep_journal<O: Sink, D: Disk>(
     requires tick { world.tick + ticks < 2 ^ 64 - 1 }
     ensures only { IsOfJournal result }
     ensures done { result ≡ Status.Done → (steps : List Step) × (length steps ≡ ticks)
-        × Leaves (D.seen disk.old) (D.seen disk.new) (O.written out.old) (O.written out.new) (map upload_of stream.now) world steps }
-    ensures exhausted { (index : ℕ) → result ≡ Status.IdsExhausted index → (steps : List Step) × (length steps < ticks)
-        × Leaves (D.seen disk.old) (D.seen disk.new) (O.written out.old) (O.written out.new) (map upload_of stream.now) world steps
+        × Leaves (D.seen disk.old) (D.seen disk.new) (O.written out.old) (O.written out.new)
+        (map upload_of stream.now) world steps }
+    ensures exhausted { (index : ℕ) → result ≡ Status.IdsExhausted index
+        → (steps : List Step) × (length steps < ticks)
+        × Leaves (D.seen disk.old) (D.seen disk.new) (O.written out.old) (O.written out.new)
+        (map upload_of stream.now) world steps
         × IsExhausted (last_of (opened world) steps).world index }
-    ensures journal_refused { (at : ℕ) → result ≡ Status.NotAJournal at → (at ≡ 0) × IsFilled (D.seen disk.old) }
+    ensures journal_refused { (at : ℕ) → result ≡ Status.NotAJournal at
+        → (at ≡ 0) × IsFilled (D.seen disk.old) }
     ensures journal_accepted { IsPastJournal result → IsEmpty (D.seen disk.old) }
     ensures write_fault { result ≡ Status.WriteFault → Rose (O.faults out.old) (O.faults out.new) }
     ensures disk_fault { result ≡ Status.DiskFault → Rose (D.faults disk.old) (D.faults disk.new) }
     ensures complete { D.seen disk.old ≡ Some []
-        → (Rose (O.faults out.old) (O.faults out.new) → ⊥) → (Rose (D.faults disk.old) (D.faults disk.new) → ⊥)
-        → (result ≡ Status.Done) ⊎ (result ≡ Status.Memory) ⊎ ((index : ℕ) × (result ≡ Status.IdsExhausted index)) }
-    ensures disk_kept { (at : ℕ) → result ≡ Status.NotAJournal at → (D.seen disk.new ≡ D.seen disk.old) × (O.written out.new ≡ O.written out.old) }
+        → (Rose (O.faults out.old) (O.faults out.new) → ⊥)
+        → (Rose (D.faults disk.old) (D.faults disk.new) → ⊥)
+        → (result ≡ Status.Done) ⊎ (result ≡ Status.Memory)
+        ⊎ ((index : ℕ) × (result ≡ Status.IdsExhausted index)) }
+    ensures disk_kept { (at : ℕ) → result ≡ Status.NotAJournal at → (D.seen disk.new ≡ D.seen disk.old)
+        × (O.written out.new ≡ O.written out.old) }
     ensures write_stopped { result ≡ Status.WriteFault → (steps : List Step) × (length steps ≤ ticks)
-        × LeavesPart (D.seen disk.old) (D.seen disk.new) (O.written out.old) (O.written out.new) (map upload_of stream.now) world steps }
+        × LeavesPart (D.seen disk.old) (D.seen disk.new) (O.written out.old) (O.written out.new)
+        (map upload_of stream.now) world steps }
     ensures disk_stopped { result ≡ Status.DiskFault → (O.written out.new ≡ O.written out.old)
-        ⊎ ((steps : List Step) × (length steps ≤ ticks) × Follow (map upload_of stream.now) (opened world) steps × Appends (O.written out.old) (O.written out.new) (output world steps)) }
-    ensures memory_stopped { result ≡ Status.Memory → ((D.seen disk.new ≡ D.seen disk.old) × (O.written out.new ≡ O.written out.old))
-        ⊎ ((steps : List Step) × (length steps ≤ ticks) × Leaves (D.seen disk.old) (D.seen disk.new) (O.written out.old) (O.written out.new) (map upload_of stream.now) world steps) }
+        ⊎ ((steps : List Step) × (length steps ≤ ticks) × Follow (map upload_of stream.now)
+        (opened world) steps × Appends (O.written out.old) (O.written out.new) (output world steps)) }
+    ensures memory_stopped { result ≡ Status.Memory
+        → ((D.seen disk.new ≡ D.seen disk.old) × (O.written out.new ≡ O.written out.old))
+        ⊎ ((steps : List Step) × (length steps ≤ ticks) × Leaves (D.seen disk.old) (D.seen disk.new)
+        (O.written out.old) (O.written out.new) (map upload_of stream.now) world steps) }
     ensures overwrites_nothing { IsEmpty (D.seen disk.old) ⊎ (D.seen disk.new ≡ D.seen disk.old) }
     ensures write_steady { result ≢ Status.WriteFault → O.faults out.new ≡ O.faults out.old }
     ensures disk_steady { result ≢ Status.DiskFault → D.faults disk.new ≡ D.faults disk.old }
@@ -86,7 +97,8 @@ pub(crate) fn keep_journal<O: Sink, D: Disk>(
     }
 }
 
-// Records the opening world on a disk without bytes, and prints the opening line. It says where the disk then ends.
+// Records the opening world on a disk without bytes, and prints the opening line. It says where the disk then
+// ends.
 fn record_start<O: Sink, D: Disk>(
     alloc: Global,
     world: &World,
@@ -98,15 +110,24 @@ fn record_start<O: Sink, D: Disk>(
     ensures line { OnOk result (Appends (O.written out.old) (O.written out.new) (start_line_of world.now)) }
     ensures end { IfOk result (λ end. LengthIs (D.seen disk.new) end) }
     ensures only { IfErr result IsOfStart }
-    ensures memory { IfErr result (λ status. status ≡ Status.Memory → (D.seen disk.new ≡ D.seen disk.old) × (O.written out.new ≡ O.written out.old)) }
-    ensures disk_stopped { IfErr result (λ status. status ≡ Status.DiskFault → O.written out.new ≡ O.written out.old) }
-    ensures disk_fault { IfErr result (λ status. status ≡ Status.DiskFault → Rose (D.faults disk.old) (D.faults disk.new)) }
-    ensures frame_kept { IfErr result (λ status. status ≡ Status.WriteFault → Appends (D.seen disk.old) (D.seen disk.new) (base_frame world.now)) }
-    ensures line_cut { IfErr result (λ status. status ≡ Status.WriteFault → AppendsPrefix (O.written out.old) (O.written out.new) (start_line_of world.now)) }
-    ensures write_fault { IfErr result (λ status. status ≡ Status.WriteFault → Rose (O.faults out.old) (O.faults out.new)) }
-    ensures steady { OnOk result ((O.faults out.new ≡ O.faults out.old) × (D.faults disk.new ≡ D.faults disk.old)) }
-    ensures write_steady { IfErr result (λ status. status ≢ Status.WriteFault → O.faults out.new ≡ O.faults out.old) }
-    ensures disk_steady { IfErr result (λ status. status ≢ Status.DiskFault → D.faults disk.new ≡ D.faults disk.old) }
+    ensures memory { IfErr result (λ status. status ≡ Status.Memory
+        → (D.seen disk.new ≡ D.seen disk.old) × (O.written out.new ≡ O.written out.old)) }
+    ensures disk_stopped { IfErr result (λ status. status ≡ Status.DiskFault
+        → O.written out.new ≡ O.written out.old) }
+    ensures disk_fault { IfErr result (λ status. status ≡ Status.DiskFault
+        → Rose (D.faults disk.old) (D.faults disk.new)) }
+    ensures frame_kept { IfErr result (λ status. status ≡ Status.WriteFault
+        → Appends (D.seen disk.old) (D.seen disk.new) (base_frame world.now)) }
+    ensures line_cut { IfErr result (λ status. status ≡ Status.WriteFault
+        → AppendsPrefix (O.written out.old) (O.written out.new) (start_line_of world.now)) }
+    ensures write_fault { IfErr result (λ status. status ≡ Status.WriteFault
+        → Rose (O.faults out.old) (O.faults out.new)) }
+    ensures steady { OnOk result ((O.faults out.new ≡ O.faults out.old)
+        × (D.faults disk.new ≡ D.faults disk.old)) }
+    ensures write_steady { IfErr result (λ status. status ≢ Status.WriteFault
+        → O.faults out.new ≡ O.faults out.old) }
+    ensures disk_steady { IfErr result (λ status. status ≢ Status.DiskFault
+        → D.faults disk.new ≡ D.faults disk.old) }
     ensures out_later { O.faults out.old ≤ O.faults out.new }
     ensures disk_later { D.faults disk.old ≤ D.faults disk.new }
 {
@@ -158,14 +179,19 @@ fn run_ticks<O: Sink, D: Disk>(
     requires end { LengthIs (D.seen disk.old) first.end }
     ensures only { IsOfTicks result }
     ensures done { result ≡ Status.Done → (steps : List Step) × (length steps ≡ ticks)
-        × Grows (D.seen disk.old) (D.seen disk.new) (O.written out.old) (O.written out.new) (map upload_of stream.now) first.hosted steps }
-    ensures exhausted { (index : ℕ) → result ≡ Status.IdsExhausted index → (steps : List Step) × (length steps < ticks)
-        × Grows (D.seen disk.old) (D.seen disk.new) (O.written out.old) (O.written out.new) (map upload_of stream.now) first.hosted steps
+        × Grows (D.seen disk.old) (D.seen disk.new) (O.written out.old) (O.written out.new)
+        (map upload_of stream.now) first.hosted steps }
+    ensures exhausted { (index : ℕ) → result ≡ Status.IdsExhausted index
+        → (steps : List Step) × (length steps < ticks)
+        × Grows (D.seen disk.old) (D.seen disk.new) (O.written out.old) (O.written out.new)
+        (map upload_of stream.now) first.hosted steps
         × IsExhausted (last_of first.hosted steps).world index }
     ensures memory { result ≡ Status.Memory → (steps : List Step) × (length steps ≤ ticks)
-        × Grows (D.seen disk.old) (D.seen disk.new) (O.written out.old) (O.written out.new) (map upload_of stream.now) first.hosted steps }
+        × Grows (D.seen disk.old) (D.seen disk.new) (O.written out.old) (O.written out.new)
+        (map upload_of stream.now) first.hosted steps }
     ensures write_stopped { result ≡ Status.WriteFault → (steps : List Step) × (length steps ≤ ticks)
-        × GrowsPart (D.seen disk.old) (D.seen disk.new) (O.written out.old) (O.written out.new) (map upload_of stream.now) first.hosted steps }
+        × GrowsPart (D.seen disk.old) (D.seen disk.new) (O.written out.old) (O.written out.new)
+        (map upload_of stream.now) first.hosted steps }
     ensures disk_stopped { result ≡ Status.DiskFault → (steps : List Step) × (length steps ≤ ticks)
         × GrowsLines (O.written out.old) (O.written out.new) (map upload_of stream.now) first.hosted steps }
     ensures write_fault { result ≡ Status.WriteFault → Rose (O.faults out.old) (O.faults out.new) }
@@ -209,21 +235,35 @@ fn one_tick<O: Sink, D: Disk>(
     requires order { IsNonDecreasingBy (λ upload. upload.tick) stream.now }
     requires tick { kept.hosted.world.tick < 2 ^ 64 - 1 }
     requires end { LengthIs (D.seen disk.old) kept.end }
-    ensures step { IfOk result (λ next. (step : Step) × (step.after ≡ next.hosted) × IsStep (map upload_of stream.now) kept.hosted step × HaveSerials kept.hosted.world.rooms
-        × Appends (D.seen disk.old) (D.seen disk.new) (step_frame step) × Appends (O.written out.old) (O.written out.new) (step_lines step)) }
+    ensures step { IfOk result (λ next. (step : Step) × (step.after ≡ next.hosted)
+        × IsStep (map upload_of stream.now) kept.hosted step × HaveSerials kept.hosted.world.rooms
+        × Appends (D.seen disk.old) (D.seen disk.new) (step_frame step)
+        × Appends (O.written out.old) (O.written out.new) (step_lines step)) }
     ensures hosted { IfOk result (λ next. IsHosted next.hosted.world) }
     ensures end { IfOk result (λ next. LengthIs (D.seen disk.new) next.end) }
     ensures only { IfErr result IsOfTick }
-    ensures memory { IfErr result (λ status. status ≡ Status.Memory → (D.seen disk.new ≡ D.seen disk.old) × (O.written out.new ≡ O.written out.old)) }
-    ensures exhausted { IfErr result (λ status. (index : ℕ) → status ≡ Status.IdsExhausted index → IsExhausted kept.hosted.world index × (D.seen disk.new ≡ D.seen disk.old) × (O.written out.new ≡ O.written out.old)) }
-    ensures disk_stopped { IfErr result (λ status. status ≡ Status.DiskFault → O.written out.new ≡ O.written out.old) }
-    ensures disk_fault { IfErr result (λ status. status ≡ Status.DiskFault → Rose (D.faults disk.old) (D.faults disk.new)) }
-    ensures write_stopped { IfErr result (λ status. status ≡ Status.WriteFault → (step : Step) × IsStep (map upload_of stream.now) kept.hosted step × HaveSerials kept.hosted.world.rooms × IsHosted step.after.world
-        × Appends (D.seen disk.old) (D.seen disk.new) (step_frame step) × AppendsPrefix (O.written out.old) (O.written out.new) (step_lines step)) }
-    ensures write_fault { IfErr result (λ status. status ≡ Status.WriteFault → Rose (O.faults out.old) (O.faults out.new)) }
-    ensures steady { OnOk result ((O.faults out.new ≡ O.faults out.old) × (D.faults disk.new ≡ D.faults disk.old)) }
-    ensures write_steady { IfErr result (λ status. status ≢ Status.WriteFault → O.faults out.new ≡ O.faults out.old) }
-    ensures disk_steady { IfErr result (λ status. status ≢ Status.DiskFault → D.faults disk.new ≡ D.faults disk.old) }
+    ensures memory { IfErr result (λ status. status ≡ Status.Memory
+        → (D.seen disk.new ≡ D.seen disk.old) × (O.written out.new ≡ O.written out.old)) }
+    ensures exhausted { IfErr result (λ status. (index : ℕ) → status ≡ Status.IdsExhausted index
+        → IsExhausted kept.hosted.world index × (D.seen disk.new ≡ D.seen disk.old)
+        × (O.written out.new ≡ O.written out.old)) }
+    ensures disk_stopped { IfErr result (λ status. status ≡ Status.DiskFault
+        → O.written out.new ≡ O.written out.old) }
+    ensures disk_fault { IfErr result (λ status. status ≡ Status.DiskFault
+        → Rose (D.faults disk.old) (D.faults disk.new)) }
+    ensures write_stopped { IfErr result (λ status. status ≡ Status.WriteFault
+        → (step : Step) × IsStep (map upload_of stream.now) kept.hosted step
+        × HaveSerials kept.hosted.world.rooms × IsHosted step.after.world
+        × Appends (D.seen disk.old) (D.seen disk.new) (step_frame step)
+        × AppendsPrefix (O.written out.old) (O.written out.new) (step_lines step)) }
+    ensures write_fault { IfErr result (λ status. status ≡ Status.WriteFault
+        → Rose (O.faults out.old) (O.faults out.new)) }
+    ensures steady { OnOk result ((O.faults out.new ≡ O.faults out.old)
+        × (D.faults disk.new ≡ D.faults disk.old)) }
+    ensures write_steady { IfErr result (λ status. status ≢ Status.WriteFault
+        → O.faults out.new ≡ O.faults out.old) }
+    ensures disk_steady { IfErr result (λ status. status ≢ Status.DiskFault
+        → D.faults disk.new ≡ D.faults disk.old) }
     ensures out_later { O.faults out.old ≤ O.faults out.new }
     ensures disk_later { D.faults disk.old ≤ D.faults disk.new }
 {
@@ -263,14 +303,22 @@ fn record<O: Sink, D: Disk>(
     ensures line { OnOk result (Appends (O.written out.old) (O.written out.new) line.now) }
     ensures end { IfOk result (λ end. LengthIs (D.seen disk.new) end) }
     ensures only { IfErr result IsOfRecord }
-    ensures disk_stopped { IfErr result (λ status. status ≡ Status.DiskFault → O.written out.new ≡ O.written out.old) }
-    ensures disk_fault { IfErr result (λ status. status ≡ Status.DiskFault → Rose (D.faults disk.old) (D.faults disk.new)) }
-    ensures frame_kept { IfErr result (λ status. status ≡ Status.WriteFault → Appends (D.seen disk.old) (D.seen disk.new) frame.now) }
-    ensures line_cut { IfErr result (λ status. status ≡ Status.WriteFault → AppendsPrefix (O.written out.old) (O.written out.new) line.now) }
-    ensures write_fault { IfErr result (λ status. status ≡ Status.WriteFault → Rose (O.faults out.old) (O.faults out.new)) }
-    ensures steady { OnOk result ((O.faults out.new ≡ O.faults out.old) × (D.faults disk.new ≡ D.faults disk.old)) }
-    ensures write_steady { IfErr result (λ status. status ≢ Status.WriteFault → O.faults out.new ≡ O.faults out.old) }
-    ensures disk_steady { IfErr result (λ status. status ≢ Status.DiskFault → D.faults disk.new ≡ D.faults disk.old) }
+    ensures disk_stopped { IfErr result (λ status. status ≡ Status.DiskFault
+        → O.written out.new ≡ O.written out.old) }
+    ensures disk_fault { IfErr result (λ status. status ≡ Status.DiskFault
+        → Rose (D.faults disk.old) (D.faults disk.new)) }
+    ensures frame_kept { IfErr result (λ status. status ≡ Status.WriteFault
+        → Appends (D.seen disk.old) (D.seen disk.new) frame.now) }
+    ensures line_cut { IfErr result (λ status. status ≡ Status.WriteFault
+        → AppendsPrefix (O.written out.old) (O.written out.new) line.now) }
+    ensures write_fault { IfErr result (λ status. status ≡ Status.WriteFault
+        → Rose (O.faults out.old) (O.faults out.new)) }
+    ensures steady { OnOk result ((O.faults out.new ≡ O.faults out.old)
+        × (D.faults disk.new ≡ D.faults disk.old)) }
+    ensures write_steady { IfErr result (λ status. status ≢ Status.WriteFault
+        → O.faults out.new ≡ O.faults out.old) }
+    ensures disk_steady { IfErr result (λ status. status ≢ Status.DiskFault
+        → D.faults disk.new ≡ D.faults disk.old) }
     ensures out_later { O.faults out.old ≤ O.faults out.new }
     ensures disk_later { D.faults disk.old ≤ D.faults disk.new }
 {

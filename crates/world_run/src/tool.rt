@@ -5,7 +5,7 @@ ghost use Rattle.world_io.specs.Causes.{Rose};
 ghost use Rattle.world_io.specs.Told.{AppendsPrefix};
 ghost use Rattle.world_run.specs.Checks.{Checks, answer_line, ReadsAnswer, IsAnswer, IsBeforeLine, IsOfCheck, IsOfReading};
 ghost use Rattle.world_run.specs.Runs.{IsPastWords};
-ghost use Rattle.world_run.specs.Stages.{IsOfWords};
+ghost use Rattle.world_run.specs.inner.Stages.{IsOfWords};
 ghost use Rattle.world_run.specs.Words.{AreCheck};
 ghost use Rattle.world_run.specs.declared.status.Status.{Status as StatusView};
 
@@ -43,8 +43,10 @@ pub fn tool_main<S: Source, O: Sink, D: Disk>(
     ensures write_fault { result ≡ Status.WriteFault → Rose (O.faults out.old) (O.faults out.new) }
 
     // With the words of a check and no fault the bytes are answered, or memory is wanted.
-    ensures complete { (bytes : List ℕ) → AreCheck (map string_bytes words.now) → S.left input.old ≡ Some bytes
-        → (Rose (S.faults input.old) (S.faults input.new) → ⊥) → (Rose (O.faults out.old) (O.faults out.new) → ⊥)
+    ensures complete { (bytes : List ℕ) → AreCheck (map string_bytes words.now)
+        → S.left input.old ≡ Some bytes
+        → (Rose (S.faults input.old) (S.faults input.new) → ⊥)
+        → (Rose (O.faults out.old) (O.faults out.new) → ⊥)
         → (result ≡ Status.Memory) ⊎ Checks bytes result }
 
     // What is left in the sink and on the disk.
@@ -80,7 +82,8 @@ pub fn tool_main<S: Source, O: Sink, D: Disk>(
 // Whether the words ask for a check.
 fn ask_check(alloc: Global, words: &[String]) -> Result<(), Status>
     ensures check { OnOk result (AreCheck (map string_bytes words.now)) }
-    ensures usage { IfErr result (λ status. status ≡ Status.Usage → AreCheck (map string_bytes words.now) → ⊥) }
+    ensures usage { IfErr result (λ status. status ≡ Status.Usage → AreCheck (map string_bytes words.now)
+        → ⊥) }
     ensures only { IfErr result IsOfWords }
 {
     match read_words(alloc, words) {
@@ -95,7 +98,8 @@ fn answer<S: Source>(alloc: Global, input: &mut S) -> Status
     ensures only { IsOfReading result }
     ensures read { IsAnswer result → ReadsAnswer (S.left input.old) (S.left input.new) result }
     ensures fault { result ≡ Status.ReadFault → Rose (S.faults input.old) (S.faults input.new) }
-    ensures complete { (bytes : List ℕ) → S.left input.old ≡ Some bytes → (Rose (S.faults input.old) (S.faults input.new) → ⊥)
+    ensures complete { (bytes : List ℕ) → S.left input.old ≡ Some bytes
+        → (Rose (S.faults input.old) (S.faults input.new) → ⊥)
         → (result ≡ Status.Memory) ⊎ Checks bytes result }
     ensures steady { result ≢ Status.ReadFault → S.faults input.new ≡ S.faults input.old }
     ensures later { S.faults input.old ≤ S.faults input.new }
@@ -125,7 +129,8 @@ fn print<O: Sink>(out: &mut O, line: &str, answer: Status) -> Status
     requires line { line.now ≡ answer_line answer }
     ensures only { (result ≡ answer) ⊎ (result ≡ Status.WriteFault) }
     ensures line { IsAnswer result → Appends (O.written out.old) (O.written out.new) (answer_line answer) }
-    ensures line_cut { result ≡ Status.WriteFault → AppendsPrefix (O.written out.old) (O.written out.new) (answer_line answer) }
+    ensures line_cut { result ≡ Status.WriteFault
+        → AppendsPrefix (O.written out.old) (O.written out.new) (answer_line answer) }
     ensures fault { result ≡ Status.WriteFault → Rose (O.faults out.old) (O.faults out.new) }
     ensures steady { result ≢ Status.WriteFault → O.faults out.new ≡ O.faults out.old }
     ensures later { O.faults out.old ≤ O.faults out.new }

@@ -54,7 +54,8 @@ impl<T: Drop> From<AllocFailed<T>> for WordsFault {
 /// The command that words after the program's name say.
 pub fn read_words(alloc: Global, words: &[String]) -> Result<Command, WordsFault>
     ensures ok { IfOk result (λ command. Says command (map string_bytes words.now)) }
-    ensures usage { IfErr result (λ e. e ≡ WordsFault.Usage → (AreRun (map string_bytes words.now) → ⊥) × (AreCheck (map string_bytes words.now) → ⊥)) }
+    ensures usage { IfErr result (λ e. e ≡ WordsFault.Usage → (AreRun (map string_bytes words.now) → ⊥)
+        × (AreCheck (map string_bytes words.now) → ⊥)) }
 {
     if words.len() == 2 {
         read_check(alloc, words)

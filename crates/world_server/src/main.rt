@@ -53,8 +53,10 @@ fn refused_words(fault: WordsFault) -> Status
 
 // Runs the command that the words say.
 fn run(rt: &HostRuntime, words: &[String]) -> Status
-    ensures usage { result ≡ Status.Usage → (AreRun (map string_bytes words.now) → ⊥) × (AreCheck (map string_bytes words.now) → ⊥) }
-    ensures words { IsPastWords result → AreRun (map string_bytes words.now) ⊎ AreCheck (map string_bytes words.now) }
+    ensures usage { result ≡ Status.Usage → (AreRun (map string_bytes words.now) → ⊥)
+        × (AreCheck (map string_bytes words.now) → ⊥) }
+    ensures words { IsPastWords result → AreRun (map string_bytes words.now)
+        ⊎ AreCheck (map string_bytes words.now) }
 {
     match read_words(rt.alloc(), words) {
         Ok(

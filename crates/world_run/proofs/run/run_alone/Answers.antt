@@ -1,18 +1,42 @@
-use Rattle.std.proofs.Common.{◌≡◌, ℕ, List, Option, Some, inl, inr, subst, ◌∙◌}
-use Rattle.upload_stream.specs.Streams.{IsFirstBad}
-use Rattle.upload_stream.proofs.Judged.{not_both}
-use Rattle.world_io.specs.Told.{GaveAll}
-use Rattle.world_run.proofs.Checked.{gave_whole}
+-- What is known of the run by stored worlds is all that is said of it.
+use Rattle.world_run.proofs.Ended.{stored_ends}
 use Rattle.world_run.proofs.run.run_alone.Goals as goal
 
-pub returns-in-Err-clause-complete : goal.returns-in-Err-clause-complete
-returns-in-Err-clause-complete g c =
-    λ bytes stream found list run left form told short spells empty world uploads out disk. inr (inl (c.in-Err.ensures.complete bytes stream found run left form told short world uploads))
-
-pub returns-in-Err-Bad-clause-complete : goal.returns-in-Err-Bad-clause-complete
-returns-in-Err-Bad-clause-complete g c =
-    λ bytes stream found list run left form told short spells empty world uploads out disk.
-    let gave : GaveAll (Some stream) (g.U.Source.left c.read_inputs.new.uploads) c.in-Ok.inputs.stream.items = subst (λ (o : Option (List ℕ)). GaveAll o (g.U.Source.left c.read_inputs.new.uploads) c.in-Ok.inputs.stream.items) told c.in-Ok.ensures.stream in
-    let whole : c.deref.result.now ≡ stream = c.deref.ensures.value ∙ gave_whole _ stream c.in-Ok.inputs.stream.items gave in
-    let bad : IsFirstBad stream c.in-Err-Bad.place = subst (λ (b : List ℕ). IsFirstBad b c.in-Err-Bad.place) whole (c.in-Err-Bad.ensures.bad c.in-Err-Bad.place c.in-Err-Bad.field-0-is) in
-    absurd (not_both stream list c.in-Err-Bad.place spells bad)
+pub returns : goal.returns
+returns g c =
+    let e = c.run_stored.ensures in
+    record {
+      ends = stored_ends _ _ _ c.run_stored.result (record {
+        done = e.done;
+        only = e.only;
+        usage = e.usage;
+        said = e.words;
+        world_refused = e.world_refused;
+        world_accepted = e.world_accepted;
+        uploads_refused = e.uploads_refused;
+        uploads_accepted = e.uploads_accepted;
+        journal_refused = e.journal_refused;
+        exhausted = e.exhausted;
+        read_fault = e.read_fault;
+        write_fault = e.write_fault;
+        disk_fault = e.disk_fault;
+        untouched = e.untouched;
+        disk_kept = e.disk_kept;
+        write_stopped = e.write_stopped;
+        disk_stopped = e.disk_stopped;
+        memory_stopped = e.memory_stopped;
+        unread = e.unread;
+        uploads_unread = e.uploads_unread;
+      });
+      whole = λ good. e.complete good.world_bytes good.stream_bytes good.world good.stream good.run good.world_left good.form good.stream_left good.short good.list good.empty good.world_holds good.uploads_hold good.sink_holds good.disk_holds;
+      overwrites_nothing = e.overwrites_nothing;
+      steady = record {
+        read = e.read_steady;
+        written = e.write_steady;
+        disk = e.disk_steady;
+        world_later = e.world_later;
+        uploads_later = e.uploads_later;
+        sink_later = e.out_later;
+        disk_later = e.disk_later;
+      };
+    }

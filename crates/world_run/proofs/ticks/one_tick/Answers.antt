@@ -7,9 +7,7 @@ use Rattle.upload_stream.specs.Streams.{Upload, uploads_at}
 use Rattle.upload_stream.specs.Entries.{upload_of}
 use Rattle.hosted_tick.specs.Next.{Next}
 use Rattle.hosted_tick.specs.Hosting.{state_of}
-use Rattle.world_run.specs.Steps.{Step, step_of}
-use Rattle.world_run.specs.Lines.{step_lines}
-use Rattle.world_run.specs.Runs.{IsStep, step_frame}
+use Rattle.world_run.specs.inner.Held.{Step, step_of, step_lines, IsStep, step_frame}
 use Rattle.world_run.proofs.ticks.one_tick.Goals as goal
 
 pub returns-in-Ok-record-clause-step : goal.returns-in-Ok-record-clause-step

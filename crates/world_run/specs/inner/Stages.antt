@@ -6,11 +6,53 @@ use Rattle.upload_stream.specs.Streams.{Upload}
 use Rattle.hosted_tick.specs.Hosting.{Held}
 use Rattle.world_form.specs.declared.fault.WorldFault.{WorldFault}
 use Rattle.world_form.specs.declared.fault.WorldFault.TheVariants as faults
-use Rattle.world_run.specs.Steps.{Step}
-use Rattle.world_run.specs.Lines.{step_lines}
-use Rattle.world_run.specs.Runs.{AppendsPart, Follow, step_frame}
+use Rattle.world_run.specs.Runs.{AppendsPart}
+use Rattle.world_run.specs.inner.Held.{Follow, Step, step_frame, step_lines}
 use Rattle.world_run.specs.declared.status.Status.{Status}
 use Rattle.world_run.specs.declared.status.Status.TheVariants as statuses
+
+-- ---- how far a run came, by its status
+
+-- A run can end so: only a module is refused by a check.
+abbrev pub IsOfRun : Status → Type 0
+IsOfRun (statuses.Refused refusal) = ⊥
+IsOfRun status = Unit {0}
+
+-- It accepted the world file.
+abbrev pub IsPastWorld : Status → Type 0
+IsPastWorld (statuses.Uploads at) = Unit {0}
+IsPastWorld (statuses.NotAJournal at) = Unit {0}
+IsPastWorld (statuses.IdsExhausted index) = Unit {0}
+IsPastWorld statuses.DiskFault = Unit {0}
+IsPastWorld statuses.WriteFault = Unit {0}
+IsPastWorld statuses.Done = Unit {0}
+IsPastWorld status = ⊥
+
+-- It accepted the upload stream.
+abbrev pub IsPastUploads : Status → Type 0
+IsPastUploads (statuses.NotAJournal at) = Unit {0}
+IsPastUploads (statuses.IdsExhausted index) = Unit {0}
+IsPastUploads statuses.DiskFault = Unit {0}
+IsPastUploads statuses.WriteFault = Unit {0}
+IsPastUploads statuses.Done = Unit {0}
+IsPastUploads status = ⊥
+
+-- It accepted the disk.
+abbrev pub IsPastJournal : Status → Type 0
+IsPastJournal (statuses.IdsExhausted index) = Unit {0}
+IsPastJournal statuses.WriteFault = Unit {0}
+IsPastJournal statuses.Done = Unit {0}
+IsPastJournal status = ⊥
+
+-- It ended before it looked at the disk.
+abbrev pub IsBeforeJournal : Status → Type 0
+IsBeforeJournal statuses.Usage = Unit {0}
+IsBeforeJournal (statuses.World fault) = Unit {0}
+IsBeforeJournal (statuses.Uploads at) = Unit {0}
+IsBeforeJournal statuses.ReadFault = Unit {0}
+IsBeforeJournal status = ⊥
+
+-- ---- how each stage ends
 
 -- The reading of the words can end a run so.
 abbrev pub IsOfWords : Status → Type 0
@@ -77,14 +119,17 @@ abbrev pub IsOfJournal : Status → Type 0
 IsOfJournal (statuses.NotAJournal at) = Unit {0}
 IsOfJournal status = IsOfTicks status
 
--- Each step is the tick after the world before it; their frames came to the disk, and their lines to the sink.
-pub record Grows (disk_old disk_new sink_old sink_new : Option (List ℕ)) (stream : List Upload) (first : Held) (steps : List Step) : Type 0 where
+-- Each step is the tick after the world before it; their frames came to the disk, and their lines to the
+-- sink.
+pub record Grows (disk_old disk_new sink_old sink_new : Option (List ℕ)) (stream : List Upload) (first : Held)
+    (steps : List Step) : Type 0 where
   pub follow : Follow stream first steps
   pub frames : Appends disk_old disk_new (flat_map step_frame steps)
   pub lines : Appends sink_old sink_new (flat_map step_lines steps)
 
 -- The same, but that only a part of the lines of the last step came to the sink.
-pub record GrowsPart (disk_old disk_new sink_old sink_new : Option (List ℕ)) (stream : List Upload) (first : Held) (steps : List Step) : Type 0 where
+pub record GrowsPart (disk_old disk_new sink_old sink_new : Option (List ℕ)) (stream : List Upload)
+    (first : Held) (steps : List Step) : Type 0 where
   pub follow : Follow stream first steps
   pub frames : Appends disk_old disk_new (flat_map step_frame steps)
   pub earlier : List Step
@@ -93,6 +138,7 @@ pub record GrowsPart (disk_old disk_new sink_old sink_new : Option (List ℕ)) (
   pub lines : AppendsPart sink_old sink_new (flat_map step_lines earlier) (step_lines last)
 
 -- The same, but that nothing is said of the disk.
-pub record GrowsLines (sink_old sink_new : Option (List ℕ)) (stream : List Upload) (first : Held) (steps : List Step) : Type 0 where
+pub record GrowsLines (sink_old sink_new : Option (List ℕ)) (stream : List Upload) (first : Held)
+    (steps : List Step) : Type 0 where
   pub follow : Follow stream first steps
   pub lines : Appends sink_old sink_new (flat_map step_lines steps)

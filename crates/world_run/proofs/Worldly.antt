@@ -1,0 +1,280 @@
+-- Runs of stored worlds are runs of the worlds that they store: the same journal, the same lines, the same ticks.
+use Rattle.std.proofs.Common.{◌≡◌, ℕ, suc, ◌+◌, ◌<◌, ◌≤◌, List, [], ◌∷◌, ◌++◌, length, map, take, Option, Some, None, option_map, refl, sym, ap, subst, ◌∙◌, append_assoc}
+use Rattle.std.specs.Prelude.{slice_get}
+use Rattle.std.specs.List.{All, AllByRecursion, flat_map}
+use Rattle.std.specs.FinMap.{get, values}
+use Rattle.std.proofs.lemmas.List.{length-map, map-append}
+use Rattle.std.specs.Io.KnownBytes.{Appends}
+use Rattle.world_io.specs.Told.{AppendsPrefix}
+use Rattle.object_store.specs.declared.account.Account.{Account}
+use Rattle.object_store.specs.declared.object.Object.{Object}
+use Rattle.object_store.specs.declared.world.Room.{Room}
+use Rattle.object_store.specs.Stored.{Stored}
+use Rattle.object_store.specs.Tables.{Table, IsRising}
+use Rattle.intent_book.specs.declared.player_run.PlayerRun.{PlayerRun}
+use Rattle.world_rules.specs.World.{World, Frame, Listing, ListedRoom, framed_from, listing_of, world_of}
+use Rattle.world_rules.specs.World as worlds
+use Rattle.world_rules.specs.RoomParts.{RoomPart, objects_in}
+use Rattle.world_rules.specs.Sound.{IsSound, HaveSerials, serials_bound, without_spare, bare}
+use Rattle.world_rules.proofs.Keys.{table_sorted, accounts_sorted, values_of, entries_of_sorted}
+use Rattle.world_rules.proofs.Same.{once, tables_at}
+use Rattle.world_rules.proofs.Lifting.{frames_stored, frame_stored, part_of_stored, room_at}
+use Rattle.std.proofs.lemmas.Option.{get_or_from_slice_get, slice_get_within}
+use Rattle.world_bytes.specs.Forms.{room_bytes}
+use Rattle.upload_stream.specs.Streams.{Upload}
+use Rattle.tick_journal.specs.Contents.{base_room, base_content, tick_content, whole_record}
+use Rattle.tick_journal.specs.declared.entries.UploadEntry.{UploadEntry}
+use Rattle.hosted_tick.specs.Hosting.{Held, IsHosted, state_of}
+use Rattle.world_run.specs.Lines.{object_count, total_energy, start_line, tick_line, tick_lines}
+use Rattle.world_run.specs.Listed.{listed_room, listed}
+use Rattle.world_run.specs.Runs.{Step, HasSerials, IsExhausted, Follow, last_of, opened, base_frame, step_frame, step_lines, journal, output, frame, AppendsPart, Fills}
+use Rattle.world_run.specs.inner.Held as held
+use Rattle.world_run.specs.Ends.{CutsLast}
+
+-- ---- what is listed of a stored world is what is stored, but for the room that tables keep
+
+module _ (tick : ℕ) (accounts : List Account) (before : List Room) (room : Room) (after : List Room) (s : IsSound (record { tick = tick; rooms = before ++ room ∷ after; accounts = accounts })) where
+  abbrev stored : Stored
+  stored = record { tick = tick; rooms = before ++ room ∷ after; accounts = accounts }
+
+  rising : IsRising room.table.objects
+  rising = tables_at (before ++ room ∷ after) (length before) room s.tables (room_at before room after)
+
+  objects_here : values (objects_in (world_of stored) (length before)) ≡ room.table.objects
+  objects_here =
+      ap (λ (part : RoomPart). values part.objects) (part_of_stored tick accounts before room after (once stored s))
+      ∙ ap (map (λ (e : ℕ × Object). e.1)) (entries_of_sorted (map (λ (object : Object). (object.id, object)) room.table.objects) (table_sorted room.table.objects rising))
+      ∙ values_of (λ (object : Object). object.id) room.table.objects
+
+  room_is : listed_room (world_of stored) (length before, (worlds.listed_room room).frame) ≡ without_spare room
+  room_is =
+      let place = s.places (length before) room (room_at before room after) in
+      λ i. record {
+        name = room.name;
+        terrain = room.terrain;
+        table = record { index = sym place i; next = room.table.next; objects = objects_here i; spare = 0 };
+      }
+
+length_push : (before : List Room) (room : Room) → length (before ++ room ∷ []) ≡ suc (length before)
+length_push [] room = refl
+length_push (first ∷ before) room = ap suc (length_push before room)
+
+rooms_from : (tick : ℕ) (accounts : List Account) (before rest : List Room) (s : IsSound (record { tick = tick; rooms = before ++ rest; accounts = accounts }))
+    → map (listed_room (world_of (record { tick = tick; rooms = before ++ rest; accounts = accounts }))) (framed_from (length before) (map worlds.listed_room rest)) ≡ map without_spare rest
+rooms_from tick accounts before [] s = refl
+rooms_from tick accounts before (room ∷ rest) s =
+    let again : List Room = before ++ room ∷ [] in
+    let same : again ++ rest ≡ before ++ (room ∷ rest) = append_assoc before (room ∷ []) rest in
+    let P : List Room → Type 0 = λ rooms. IsSound (record { tick = tick; rooms = rooms; accounts = accounts }) in
+    let later = rooms_from tick accounts again rest (subst P (sym same) s) in
+    let many : length again ≡ suc (length before) = length_push before room in
+    let first = room_is tick accounts before room rest s in
+    let Q : List Room → ℕ → Type 0 = λ rooms n. map (listed_room (world_of (record { tick = tick; rooms = rooms; accounts = accounts }))) (framed_from n (map worlds.listed_room rest)) ≡ map without_spare rest in
+    let others : Q (before ++ (room ∷ rest)) (suc (length before)) = subst (λ (n : ℕ). Q (before ++ (room ∷ rest)) n) many (subst (λ (rooms : List Room). Q rooms (length again)) same later) in
+    λ i. first i ∷ others i
+
+listed_is : (stored : Stored) → IsSound stored → listed (world_of stored) ≡ bare stored
+listed_is stored s =
+    let rooms = ap (map (listed_room (world_of stored))) (frames_stored stored) ∙ rooms_from stored.tick stored.accounts [] stored.rooms s in
+    let accounts = ap (map (λ (e : ℕ × Account). e.1)) (entries_of_sorted (map (λ (account : Account). (account.player, account)) stored.accounts) (accounts_sorted stored.accounts s.accounts)) ∙ values_of (λ (account : Account). account.player) stored.accounts in
+    λ i. record { tick = stored.tick; rooms = rooms i; accounts = accounts i }
+
+-- ---- that room is in no frame and in no line
+
+flat_same : {A B : Type 0} (f : A → List B) (g : A → A) → ((x : A) → f (g x) ≡ f x) → (xs : List A) → flat_map f (map g xs) ≡ flat_map f xs
+flat_same f g same [] = refl
+flat_same f g same (x ∷ xs) = let rest = flat_same f g same xs in λ i. same x i ++ rest i
+
+mapped_same : {A B : Type 0} (f : A → B) (g : A → A) → ((x : A) → f (g x) ≡ f x) → (xs : List A) → map f (map g xs) ≡ map f xs
+mapped_same f g same [] = refl
+mapped_same f g same (x ∷ xs) = let rest = mapped_same f g same xs in λ i. same x i ∷ rest i
+
+room_same : (room : Room) → base_room (without_spare room) ≡ base_room room
+unfolding base_room room_bytes
+room_same room = refl
+
+table_same : (room : Room) → room_bytes (without_spare room).table ≡ room_bytes room.table
+unfolding room_bytes
+table_same room = refl
+
+-- the bytes of the tables of rooms
+tables_same : (rooms : List Room) → flat_map room_bytes (map (λ (room : Room). room.table) (map without_spare rooms)) ≡ flat_map room_bytes (map (λ (room : Room). room.table) rooms)
+tables_same [] = refl
+tables_same (room ∷ rooms) = let rest = tables_same rooms in λ i. table_same room i ++ rest i
+
+many_tables : (rooms : List Room) → length (map (λ (room : Room). room.table) (map without_spare rooms)) ≡ length (map (λ (room : Room). room.table) rooms)
+many_tables [] = refl
+many_tables (room ∷ rooms) = ap suc (many_tables rooms)
+
+many_rooms : (rooms : List Room) → length (map without_spare rooms) ≡ length rooms
+many_rooms [] = refl
+many_rooms (room ∷ rooms) = ap suc (many_rooms rooms)
+
+base_same : (stored : Stored) → base_content (bare stored) ≡ base_content stored
+unfolding base_content
+base_same stored =
+    let many = many_rooms stored.rooms in
+    let flat = flat_same base_room without_spare room_same stored.rooms in
+    rw (many, flat)
+
+tick_same : (uploads : List UploadEntry) (runs : List PlayerRun) (stored : Stored) → tick_content (whole_record uploads runs (bare stored)) ≡ tick_content (whole_record uploads runs stored)
+unfolding tick_content
+tick_same uploads runs stored =
+    let many = many_tables stored.rooms in
+    let flat = tables_same stored.rooms in
+    rw (many, flat)
+
+listing_same : (stored : Stored) → listing_of (bare stored) ≡ listing_of stored
+listing_same stored =
+    let rooms = mapped_same worlds.listed_room without_spare (λ room. refl) stored.rooms in
+    λ i. record { rules = 1; tick = stored.tick; rooms = rooms i; accounts = stored.accounts }
+
+count_same : (stored : Stored) → object_count (bare stored) ≡ object_count stored
+count_same stored = ap (λ (listing : Listing). length (worlds.placed listing)) (listing_same stored)
+
+energy_same : (stored : Stored) → total_energy (bare stored) ≡ total_energy stored
+energy_same stored = ap (λ (listing : Listing). Rattle.std.specs.List.sum_by (λ entry. entry.1.object.energy) (worlds.placed listing)) (listing_same stored)
+
+start_same : (stored : Stored) → start_line (bare stored) ≡ start_line stored
+unfolding start_line
+start_same stored =
+    let many = many_rooms stored.rooms in
+    let count = count_same stored in
+    rw (many, count)
+
+line_same : (stored : Stored) (n : ℕ) → tick_line (bare stored) n ≡ tick_line stored n
+unfolding tick_line
+line_same stored n =
+    let count = count_same stored in
+    let energy = energy_same stored in
+    rw (count, energy)
+
+-- ---- steps
+
+-- a step as it is held, told of its state
+abbrev pub shown : held.Step → Step
+shown step = record { uploads = step.uploads; runs = step.runs; after = state_of step.after }
+
+abbrev AreSound : List held.Step → Type 0
+AreSound steps = AllByRecursion (λ step. IsSound step.after.world) steps
+
+base_shown : (first : Stored) → IsSound first → base_frame (world_of first) ≡ held.base_frame first
+base_shown first s = ap frame (ap base_content (listed_is first s) ∙ base_same first)
+
+step_shown : (step : held.Step) → IsSound step.after.world → step_frame (shown step) ≡ held.step_frame step
+step_shown step s = ap frame (ap (λ (w : Stored). tick_content (whole_record step.uploads step.runs w)) (listed_is step.after.world s) ∙ tick_same step.uploads step.runs step.after.world)
+
+start_shown : (first : Stored) → IsSound first → start_line (listed (world_of first)) ≡ start_line first
+start_shown first s = ap start_line (listed_is first s) ∙ start_same first
+
+lines_shown : (step : held.Step) → IsSound step.after.world → step_lines (shown step) ≡ held.step_lines step
+lines_shown step s =
+    ap (tick_lines step.uploads step.runs) (listed_is step.after.world s)
+    ∙ ap (λ (line : List ℕ). flat_map Rattle.world_run.specs.Lines.upload_line step.uploads ++ flat_map Rattle.world_run.specs.Lines.run_line step.runs ++ line) (line_same step.after.world (length (Rattle.world_rules.specs.Tick.intents_of step.runs)))
+
+all_shown : (f : Step → List ℕ) (h : held.Step → List ℕ) → ((step : held.Step) → IsSound step.after.world → f (shown step) ≡ h step) → (steps : List held.Step) → AreSound steps → flat_map f (map shown steps) ≡ flat_map h steps
+all_shown f h same [] sound = refl
+all_shown f h same (step ∷ steps) sound =
+    let first = same step sound.0 in
+    let rest = all_shown f h same steps sound.1 in
+    λ i. first i ++ rest i
+
+journal_shown : (first : Stored) (steps : List held.Step) → IsSound first → AreSound steps → journal (world_of first) (map shown steps) ≡ held.journal first steps
+journal_shown first steps s sound =
+    let base = base_shown first s in
+    let later = all_shown step_frame held.step_frame step_shown steps sound in
+    λ i. base i ++ later i
+
+output_shown : (first : Stored) (steps : List held.Step) → IsSound first → AreSound steps → output (world_of first) (map shown steps) ≡ held.output first steps
+output_shown first steps s sound =
+    let start = start_shown first s in
+    let later = all_shown step_lines held.step_lines lines_shown steps sound in
+    λ i. start i ++ later i
+
+-- ---- what follows what
+
+hosted_first : (stream : List Upload) (before : Held) (steps : List held.Step) → held.Follow stream before steps → IsHosted before.world
+hosted_first stream before [] f = f
+hosted_first stream before (step ∷ later) f = f.0
+
+sound_steps : (stream : List Upload) (before : Held) (steps : List held.Step) → held.Follow stream before steps → AreSound steps
+sound_steps stream before [] f = tt
+sound_steps stream before (step ∷ later) f = ((hosted_first stream step.after later f.3).sound, sound_steps stream step.after later f.3)
+
+next_at : (stored : Stored) (index : ℕ) (frame : Frame) (found : Option Room) → slice_get stored.rooms index ≡ found → option_map (λ (room : Room). (worlds.listed_room room).frame) found ≡ Some frame
+    → (room : Room) × (slice_get stored.rooms index ≡ Some room) × (room.table.next ≡ frame.next)
+next_at stored index frame None at is = absurd cc
+next_at stored index frame (Some room) at is =
+    let same : (worlds.listed_room room).frame ≡ frame = cc in
+    (room, at, ap (λ (f : Frame). f.next) same)
+
+room_in : (stored : Stored) (index : ℕ) (frame : Frame) → get (world_of stored).rooms index ≡ Some frame → (room : Room) × (slice_get stored.rooms index ≡ Some room) × (room.table.next ≡ frame.next)
+room_in stored index frame is = next_at stored index frame (slice_get stored.rooms index) refl (sym (frame_stored stored index) ∙ is)
+
+next_within : (stored : Stored) (index : ℕ) (room : Room) → HaveSerials stored.rooms → slice_get stored.rooms index ≡ Some room → room.table.next ≤ serials_bound
+next_within stored index room all is = subst (λ (r : Room). r.table.next ≤ serials_bound) (get_or_from_slice_get stored.rooms index room room is) (all index room (slice_get_within stored.rooms index room is))
+
+serials_shown : (stored : Stored) → HaveSerials stored.rooms → HasSerials (world_of stored)
+serials_shown stored all index frame is =
+    let found = room_in stored index frame is in
+    subst (λ (n : ℕ). n ≤ serials_bound) found.2 (next_within stored index found.0 all found.1)
+
+pub exhausted_shown : (stored : Stored) (index : ℕ) → held.IsExhausted stored index → IsExhausted (world_of stored) index
+exhausted_shown stored index e =
+    record {
+      frame = (worlds.listed_room e.room).frame;
+      stands = frame_stored stored index ∙ ap (option_map (λ (room : Room). (worlds.listed_room room).frame)) e.stands;
+      above = e.above;
+      first = λ earlier other below is.
+          let found = room_in stored earlier other is in
+          subst (λ (n : ℕ). n ≤ serials_bound) found.2 (e.first earlier found.0 below found.1);
+    }
+
+pub follow_shown : (stream : List Upload) (before : Held) (steps : List held.Step) → held.Follow stream before steps → Follow stream (state_of before) (map shown steps)
+follow_shown stream before [] f = tt
+follow_shown stream before (step ∷ later) f = (serials_shown before.world f.1, f.2, follow_shown stream step.after later f.3)
+
+pub last_shown : (before : Held) (steps : List held.Step) → last_of (state_of before) (map shown steps) ≡ state_of (held.last_of before steps)
+last_shown before [] = refl
+last_shown before (step ∷ later) = last_shown step.after later
+
+pub many_shown : (steps : List held.Step) → length (map shown steps) ≡ length steps
+many_shown steps = length-map steps shown
+
+-- ---- what is left
+
+module _ (stream : List Upload) (first : Stored) (steps : List held.Step) (f : held.Follow stream (held.opened first) steps) where
+  first_sound : IsSound first
+  first_sound = (hosted_first stream (held.opened first) steps f).sound
+
+  steps_sound : AreSound steps
+  steps_sound = sound_steps stream (held.opened first) steps f
+
+  pub journal_left : (old new : Option (List ℕ)) → Fills old new (held.journal first steps) → Fills old new (journal (world_of first) (map shown steps))
+  journal_left old new fills = subst (Fills old new) (sym (journal_shown first steps first_sound steps_sound)) fills
+
+  pub output_left : (old new : Option (List ℕ)) → Appends old new (held.output first steps) → Appends old new (output (world_of first) (map shown steps))
+  output_left old new given = subst (Appends old new) (sym (output_shown first steps first_sound steps_sound)) given
+
+  front_sound : (earlier : List held.Step) (last : held.Step) → AreSound (earlier ++ last ∷ []) → AreSound earlier × IsSound last.after.world
+  front_sound [] last all = (tt, all.0)
+  front_sound (x ∷ earlier) last all = let rest = front_sound earlier last all.1 in ((all.0, rest.0), rest.1)
+
+  cut_at : (old new : Option (List ℕ)) (earlier : List held.Step) (last : held.Step) → steps ≡ earlier ++ last ∷ [] → AppendsPart old new (held.output first earlier) (held.step_lines last)
+      → (map shown steps ≡ map shown earlier ++ shown last ∷ []) × AppendsPart old new (output (world_of first) (map shown earlier)) (step_lines (shown last))
+  cut_at old new earlier last is part =
+      let both = front_sound earlier last (subst AreSound is steps_sound) in
+      let lines = output_shown first earlier first_sound both.0 in
+      let ending = lines_shown last both.1 in (
+        ap (map shown) is ∙ map-append shown earlier (last ∷ []),
+        (part.0, subst (Appends old new) (λ i. sym lines i ++ take part.0 (sym ending i)) part.1),
+      )
+
+  cuts_as : (old new : Option (List ℕ)) (all : List held.Step) → steps ≡ all → held.CutsLast old new first all → CutsLast old new (world_of first) (map shown all)
+  cuts_as old new [] is cut = subst (AppendsPrefix old new) (sym (start_shown first first_sound)) cut
+  cuts_as old new (x ∷ later) is cut =
+      let found = cut_at old new cut.0 cut.1 (is ∙ cut.2) cut.3 in
+      (map shown cut.0, shown cut.1, sym (ap (map shown) is) ∙ found.0, found.1)
+
+  pub cuts_left : (old new : Option (List ℕ)) → held.CutsLast old new first steps → CutsLast old new (world_of first) (map shown steps)
+  cuts_left old new cut = cuts_as old new steps refl cut

@@ -1,0 +1,156 @@
+-- How a run ends, by its status.
+use Rattle.std.specs.Prelude.{◌≡◌, ◌≢◌, ℕ, suc, ◌^◌, ◌≤◌, ◌⊎◌, List, [], ◌∷◌, ◌++◌, length, Option, Some}
+use Rattle.std.specs.Io.KnownBytes.{Appends}
+use Rattle.world_io.specs.Causes.{Rose}
+use Rattle.world_io.specs.Told.{AppendsPrefix}
+use Rattle.world_rules.specs.World.{World}
+use Rattle.world_form.specs.Files.{WorldForm}
+use Rattle.upload_stream.specs.Streams.{Upload, UploadList}
+use Rattle.world_run.specs.Lines.{start_line}
+use Rattle.world_run.specs.Listed.{listed}
+use Rattle.world_run.specs.Words.{AreRun, Asks, AsksAtLeast}
+use Rattle.world_run.specs.Runs.{Step, Follow, IsExhausted, last_of, opened, journal, output, step_lines, AppendsPart, ReadsWorld, ReadsFault, ReadsUploads, ReadsBad, IsEmpty, IsFilled, Fills}
+use Rattle.world_run.specs.declared.status.Status.{Status}
+use Rattle.world_run.specs.declared.status.Status.TheVariants as statuses
+
+-- What a run works on: what its two sources have left, what its sink was given and the bytes of its disk,
+-- where they tell, and the counts of the faults of each.
+pub record Outside : Type 0 where
+  pub world : Option (List ℕ)
+  pub uploads : Option (List ℕ)
+  pub written : Option (List ℕ)
+  pub disk : Option (List ℕ)
+  pub world_faults : ℕ
+  pub uploads_faults : ℕ
+  pub sink_faults : ℕ
+  pub disk_faults : ℕ
+
+-- The sink was given the opening line, the lines of all steps but the last, and a part of those of the last;
+-- or only a part of the opening line, where there is no step.
+abbrev pub CutsLast : Option (List ℕ) → Option (List ℕ) → World → List Step → Type 0
+CutsLast old new first [] = AppendsPrefix old new (start_line (listed first))
+CutsLast old new first steps =
+    (earlier : List Step) × (last : Step) × (steps ≡ earlier ++ last ∷ [])
+    × AppendsPart old new (output first earlier) (step_lines last)
+
+-- Of the words of a call, and of what is outside before and after it:
+module _ (words : List (List ℕ)) (old new : Outside) where
+  abbrev pub AcceptsWorld : Type 0
+  AcceptsWorld = (world : World) × ReadsWorld old.world new.world world
+
+  abbrev pub AcceptsUploads : Type 0
+  AcceptsUploads = (stream : List Upload) × ReadsUploads old.uploads new.uploads stream
+
+  -- Neither the disk nor the sink was changed.
+  abbrev pub IsUntouched : Type 0
+  IsUntouched = (new.disk ≡ old.disk) × (new.written ≡ old.written)
+
+  -- The inputs are a world and uploads, and these are ticks of them.
+  pub record Makes (first : World) (stream : List Upload) (steps : List Step) : Type 0 where
+    pub world : ReadsWorld old.world new.world first
+    pub uploads : ReadsUploads old.uploads new.uploads stream
+    pub follow : Follow stream (opened first) steps
+
+  -- The disk was empty and has their journal, and the sink was given their lines.
+  pub record Leaves (first : World) (stream : List Upload) (steps : List Step) : Type 0 where
+    pub makes : Makes first stream steps
+    pub journal_is : Fills old.disk new.disk (journal first steps)
+    pub output_is : Appends old.written new.written (output first steps)
+
+  -- The same, but that the sink was given only a part of the last lines.
+  pub record LeavesPart (first : World) (stream : List Upload) (steps : List Step) : Type 0 where
+    pub makes : Makes first stream steps
+    pub journal_is : Fills old.disk new.disk (journal first steps)
+    pub output_is : CutsLast old.written new.written first steps
+
+  -- Some ticks were made of a world and of uploads, of which this is known.
+  abbrev pub Some_made : (World → List Upload → List Step → Type 0) → Type 0
+  Some_made Known = (first : World) × (stream : List Upload) × (steps : List Step) × Known first stream steps
+
+  -- At least so many ticks were asked for.
+  abbrev pub Asked : List Step → Type 0
+  Asked steps = AsksAtLeast words (length steps)
+
+  -- A run ends with this status.
+  abbrev pub Ends : Status → Type 0
+  -- All was done: the journal has the file's world and each tick after it, with what each player's module
+  -- emits of what he sees, and their lines were printed.
+  Ends statuses.Done = Some_made (λ first stream steps. Asks words (length steps) × Leaves first stream steps)
+  -- The words are not those of a run; nothing was read.
+  Ends statuses.Usage =
+      (AreRun words → ⊥) × IsUntouched × (new.world ≡ old.world) × (new.uploads ≡ old.uploads)
+  -- The world file has this fault; the uploads were not read.
+  Ends (statuses.World fault) =
+      AreRun words × ReadsFault old.world new.world fault × IsUntouched × (new.uploads ≡ old.uploads)
+  -- The stream of uploads has its first bad entry there.
+  Ends (statuses.Uploads at) =
+      AreRun words × AcceptsWorld × ReadsBad old.uploads new.uploads at × IsUntouched
+  -- A source failed: that of the world file, or that of the uploads behind an accepted world file.
+  Ends statuses.ReadFault =
+      AreRun words
+      × ((Rose old.world_faults new.world_faults × (new.uploads ≡ old.uploads))
+      ⊎ (Rose old.uploads_faults new.uploads_faults × AcceptsWorld))
+      × IsUntouched
+  -- The disk has bytes already.
+  Ends (statuses.NotAJournal at) =
+      AreRun words × AcceptsWorld × AcceptsUploads × (at ≡ 0) × IsFilled old.disk × IsUntouched
+  -- The disk failed: nothing was printed, or the lines of some ticks. Nothing is said of its bytes.
+  Ends statuses.DiskFault =
+      AreRun words × AcceptsWorld × AcceptsUploads × Rose old.disk_faults new.disk_faults
+      × ((new.written ≡ old.written) ⊎ Some_made (λ first stream steps. Asked steps × Makes first stream steps
+      × Appends old.written new.written (output first steps)))
+  -- The sink failed: the journal has whole ticks, and only the last lines are cut.
+  Ends statuses.WriteFault =
+      Rose old.sink_faults new.sink_faults
+      × Some_made (λ first stream steps. Asked steps × LeavesPart first stream steps)
+  -- Before a further tick this room is the first whose serials are used up; all ticks before it were done.
+  Ends (statuses.IdsExhausted index) =
+      Some_made (λ first stream steps. AsksAtLeast words (suc (length steps)) × Leaves first stream steps
+      × IsExhausted (last_of (opened first) steps).world index)
+  -- Memory was wanted: before anything was written, or behind some ticks, which were done.
+  Ends statuses.Memory =
+      IsUntouched ⊎ Some_made (λ first stream steps. Asked steps × Leaves first stream steps)
+  Ends (statuses.Refused refusal) = ⊥
+
+  -- No failure is passed over: a count stays but where its fault is answered, and none falls.
+  pub record IsSteady (status : Status) : Type 0 where
+    pub read : status ≢ statuses.ReadFault → (new.world_faults ≡ old.world_faults)
+        × (new.uploads_faults ≡ old.uploads_faults)
+    pub written : status ≢ statuses.WriteFault → new.sink_faults ≡ old.sink_faults
+    pub disk : status ≢ statuses.DiskFault → new.disk_faults ≡ old.disk_faults
+    pub world_later : old.world_faults ≤ new.world_faults
+    pub uploads_later : old.uploads_faults ≤ new.uploads_faults
+    pub sink_later : old.sink_faults ≤ new.sink_faults
+    pub disk_later : old.disk_faults ≤ new.disk_faults
+
+  -- Words of a run, good inputs and an empty disk, of which none fails.
+  pub record IsGood : Type 0 where
+    pub run : AreRun words
+    pub world_bytes : List ℕ
+    pub world_left : old.world ≡ Some world_bytes
+    pub world : World
+    pub form : WorldForm world_bytes world
+    pub stream_bytes : List ℕ
+    pub stream_left : old.uploads ≡ Some stream_bytes
+    pub short : length stream_bytes ≤ 2 ^ 28
+    pub stream : List Upload
+    pub list : UploadList stream_bytes stream
+    pub empty : old.disk ≡ Some []
+    pub world_holds : Rose old.world_faults new.world_faults → ⊥
+    pub uploads_hold : Rose old.uploads_faults new.uploads_faults → ⊥
+    pub sink_holds : Rose old.sink_faults new.sink_faults → ⊥
+    pub disk_holds : Rose old.disk_faults new.disk_faults → ⊥
+
+  -- All was done, or memory was wanted, or serials are used up.
+  abbrev pub IsWhole : Status → Type 0
+  IsWhole status =
+      (status ≡ statuses.Done) ⊎ (status ≡ statuses.Memory)
+      ⊎ ((index : ℕ) × (status ≡ statuses.IdsExhausted index))
+
+  -- A run ends so: as its status says; with good inputs and no fault it is whole; a disk that has bytes is
+  -- never changed; and no failure is passed over.
+  pub record Runs (status : Status) : Type 0 where
+    pub ends : Ends status
+    pub whole : IsGood → IsWhole status
+    pub overwrites_nothing : IsEmpty old.disk ⊎ (new.disk ≡ old.disk)
+    pub steady : IsSteady status
