@@ -1,0 +1,117 @@
+#!/usr/bin/env python3
+"""Measures the rules of a tick in the built program: python3 bench/ticks.py PROGRAM [--quick].
+
+Run it in the repository's top folder once the program is built (README.md). A tick's time is that of bench/players.py: the difference of
+runs of several ticks and of one. Where players drop, the same players make the same calls in a second run, each for more than the creep
+carries, so that all are refused by their last check and nothing is recorded: the difference is what the entries take, from the record to the
+last step of upkeep and the journal.
+
+The rows are shapes that a world can have: many objects without entries, one entry in each room, rooms full of creeps on full piles, creeps
+that each make a pile whose id comes behind all others or in front of them, one pile among few and among many objects, and players who all
+see the same rooms. With --quick each row is run once, in fewer ticks.
+"""
+
+import os
+import sys
+import tempfile
+
+from players import Bench, EMPTY, TILES, creep, for_each, of_rooms, players_of, road, together
+from scripts import Script, unkept
+from worlds import SECOND, thing, upload_entry
+
+TICKS = 20
+
+
+def pile(index, serial, tile):
+    x, y = TILES[tile]
+    return thing("pile", index * SECOND + serial, x, y, energy=100_000_000)
+
+
+def carrier(owner, id, tile):
+    x, y = TILES[tile]
+    return thing("creep", id, x, y, owner=owner, body=["carry"] * 2, energy=100, timer=1500)
+
+
+def drops(owned, amount):
+    """The uploads of players who each tick drop so much of each of their creeps."""
+    stream = b""
+    for number, ids in sorted(owned.items()):
+        calls = [instruction for id in ids for instruction in unkept("drop", id, amount)]
+        stream += upload_entry(0, number, Script(calls, pages=None).content)
+    return stream
+
+
+def scattered(with_creeps):
+    """400 rooms of 50 objects, of which one is a creep that stands on a pile or not."""
+    rooms, owned = [], {1: []}
+    for index in range(400):
+        objects = [pile(index, 1, 0), *[road(index, serial) for serial in range(3, 51)]]
+        objects.append(carrier(1, index * SECOND + 2, 0) if with_creeps else road(index, 51))
+        owned[1] += [index * SECOND + 2] if with_creeps else []
+        rooms.append(objects)
+    return of_rooms(rooms, players_of(1)), owned
+
+
+def crowds():
+    """8 rooms of 1,200 creeps on 1,200 piles, of 4 players."""
+    rooms, owned = [], {number: [] for number in range(1, 5)}
+    for index in range(8):
+        objects = []
+        for tile in range(1200):
+            id = index * SECOND + 1201 + tile
+            objects += [pile(index, 1 + tile, tile), carrier(index // 2 + 1, id, tile)]
+            owned[index // 2 + 1].append(id)
+        rooms.append(objects)
+    return of_rooms(rooms, players_of(4)), owned
+
+
+def newcomers(birth):
+    """A room of 2,304 creeps that were born in the room of this index, each on a tile of its own without a pile."""
+    ids = [birth * SECOND + serial for serial in range(1, 2305)]
+    creeps = [carrier(1, id, tile) for tile, id in enumerate(ids)]
+    return of_rooms([creeps, []], players_of(1)), {1: ids}
+
+
+def one_among(objects):
+    """8 rooms of so many objects, in each of which a creep stands on a pile: one room for each player."""
+    rooms, owned = [], {}
+    for index in range(8):
+        it = [pile(index, 1, 0), carrier(index + 1, index * SECOND + 2, 0)]
+        it += [road(index, serial) for serial in range(3, objects + 1)]
+        rooms.append(it)
+        owned[index + 1] = [index * SECOND + 2]
+    return of_rooms(rooms, players_of(8)), owned
+
+
+def row(bench, name, first, objects, owned):
+    entries = sum(len(ids) for ids in owned.values())
+    tick, _ = bench.tick(first, drops(owned, 1) if entries else b"", TICKS)
+    each = ""
+    if entries:
+        refused, _ = bench.tick(first, drops(owned, 1_000_000), TICKS)
+        each = f"{(tick - refused) * 1e9 / entries:13,.0f}"
+    print(f"{name:52}{objects:9,}{entries:9,}{tick * 1e3:10.2f}{tick * 1e9 / objects:14,.0f}{each}", flush=True)
+
+
+def main():
+    words = [word for word in sys.argv[1:] if word != "--quick"]
+    if len(words) != 1 or not os.path.isfile(words[0]):
+        sys.exit("no program: python3 bench/ticks.py PROGRAM [--quick]")
+    place = "/dev/shm" if os.path.isdir("/dev/shm") else None
+    with tempfile.TemporaryDirectory(dir=place) as folder:
+        bench = Bench(os.path.abspath(words[0]), folder, "--quick" in sys.argv)
+        print(f"{'shape':52}{'objects':>9}{'entries':>9}{'tick ms':>10}{'ns an object':>14}{'ns an entry':>13}")
+        row(bench, "400 rooms of 50 objects, nothing dropped", scattered(False)[0], 20_000, {})
+        row(bench, "400 rooms of 50 objects, a drop in each", scattered(True)[0], 20_000, scattered(True)[1])
+        row(bench, "8 rooms of 1,200 creeps on 1,200 piles, all drop", crowds()[0], 19_200, crowds()[1])
+        row(bench, "2,304 creeps, each a new pile behind all ids", newcomers(0)[0], 2_304, newcomers(0)[1])
+        row(bench, "2,304 creeps, each a new pile in front of all ids", newcomers(1)[0], 2_304, newcomers(1)[1])
+        row(bench, "8 rooms of 10 objects, a drop onto a pile in each", one_among(10)[0], 80, one_among(10)[1])
+        row(bench, "8 rooms of 2,300 objects, the same", one_among(2300)[0], 18_400, one_among(2300)[1])
+        idle, _ = bench.tick(together(64, 300), b"", TICKS)
+        seen, _ = bench.tick(together(64, 300), for_each(64, EMPTY), TICKS)
+        print(f"64 players in each of 300 rooms, idle and with empty loops: {idle * 1e3:.2f} and {seen * 1e3:.2f} ms")
+
+
+if __name__ == "__main__":
+    main()
