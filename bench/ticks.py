@@ -8,10 +8,14 @@ last step of upkeep and the journal.
 
 The rows are shapes that a world can have: many objects without entries, one entry in each room, rooms full of creeps on full piles, creeps
 that each make a pile whose id comes behind all others or in front of them, one pile among few and among many objects, and players who all
-see the same rooms. With --quick each row is run once, in fewer ticks.
+see the same rooms. Where valgrind is installed the second table has the allocations of a tick and their bytes, by the difference of runs of
+three ticks and of one. With --quick each row is run once, in fewer ticks, and there is no second table.
 """
 
 import os
+import re
+import shutil
+import subprocess
 import sys
 import tempfile
 
@@ -93,6 +97,21 @@ def row(bench, name, first, objects, owned):
     print(f"{name:52}{objects:9,}{entries:9,}{tick * 1e3:10.2f}{tick * 1e9 / objects:14,.0f}{each}", flush=True)
 
 
+def heap(bench, ticks):
+    """How often a run of so many ticks asked for memory, and for how many bytes."""
+    ran = subprocess.run(["valgrind", *bench.command(ticks)], capture_output=True, text=True, check=True)
+    found = re.search(r"total heap usage: ([0-9,]+) allocs, [0-9,]+ frees, ([0-9,]+) bytes", ran.stderr)
+    return [int(number.replace(",", "")) for number in found.groups()]
+
+
+def allocations(bench, name, first, stream, objects):
+    bench.put("world", first)
+    bench.put("uploads", stream)
+    one, three = heap(bench, 1), heap(bench, 3)
+    times, size = [(more - less) / 2 for less, more in zip(one, three)]
+    print(f"{name:52}{objects:9,}{times:12,.0f}{size / objects:18,.0f}", flush=True)
+
+
 def main():
     words = [word for word in sys.argv[1:] if word != "--quick"]
     if len(words) != 1 or not os.path.isfile(words[0]):
@@ -111,6 +130,13 @@ def main():
         idle, _ = bench.tick(together(64, 300), b"", TICKS)
         seen, _ = bench.tick(together(64, 300), for_each(64, EMPTY), TICKS)
         print(f"64 players in each of 300 rooms, idle and with empty loops: {idle * 1e3:.2f} and {seen * 1e3:.2f} ms")
+        if bench.quick or not shutil.which("valgrind"):
+            return
+        print()
+        print(f"{'shape':52}{'objects':>9}{'allocations':>12}{'bytes an object':>18}")
+        allocations(bench, "400 rooms of 50 objects, nothing dropped", scattered(False)[0], b"", 20_000)
+        allocations(bench, "400 rooms of 50 objects, a drop in each", scattered(True)[0], drops(scattered(True)[1], 1), 20_000)
+        allocations(bench, "8 rooms of 1,200 creeps on 1,200 piles, all drop", crowds()[0], drops(crowds()[1], 1), 19_200)
 
 
 if __name__ == "__main__":

@@ -96,10 +96,9 @@ def defined_calls():
     """The calls of the definitions, in the order of their numbers."""
     text = text_of("crates/host_calls/specs/Calls.antt")
     order = re.findall(r"call\.(\w+)\s*∷", text[text.index("all_calls =") : text.index("call_at")])
-    names = dict(re.findall(r'^call_name call\.(\w+) = codes "(\w+)"', text, re.M))
-    params = {name: re.findall(r"(I32|I64) ∷", types) for name, types in re.findall(r"^call_params call\.(\w+) = (.+)", text, re.M)}
-    answers = dict(re.findall(r"^call_result call\.(\w+) = (\w+)", text, re.M))
-    return [(names[it], params.get(it, []), answers.get(it, "I32")) for it in order]
+    form = r'^row call\.(\w+) = record \{ name = codes "(\w+)"; params = ([^;]+); result = (\w+) \}$'
+    rows = {call: (name, re.findall(r"(I32|I64) ∷", types), answer) for call, name, types, answer in re.findall(form, text, re.M)}
+    return [rows[it] for it in order]
 
 
 def numbers(path, function, value=r"(\d+)"):
@@ -109,21 +108,27 @@ def numbers(path, function, value=r"(\d+)"):
 
 
 def answered_codes():
-    """The codes that some call answers today, by the name in the header."""
+    """The codes that some call answers today, by the name in the header: those of the desk, and those of the checks of actions in force, of
+    which none needs a part or a target yet."""
     codes = numbers(["crates/game_tables/specs/Codes.antt"], "code_number", r"neg_ℤ \(pos (\d+)\)")
-    used = re.search(r"code\.Code\.TheVariants\.\{([\w, ]+)\}", text_of("crates/host_calls/specs/Replies.antt"))[1].split(", ")
+    variants = r"code\.Code\.TheVariants\.\{([\w, ]+)\}"
+    used = re.search(variants, text_of("crates/host_calls/specs/Replies.antt"))[1].split(", ")
+    checks = text_of("crates/world_rules/specs/Checks.antt")
+    in_force = checks[checks.index("creep_checks :") : checks.index("part_checks :")]
+    in_force += checks[checks.index("further_checks :") : checks.index("pub checks :")]
+    used += [it for it in re.search(variants, checks)[1].split(", ") if re.search(rf"\b{it}\b", in_force) and it not in used]
     return {"CODE_OK": 0, **{f"CODE_{snake(name)}": -codes[snake(name)] for name in used if name != "Done"}}
 
 
 def defined_constants():
     """Each constant that the header has to have."""
     wanted = answered_codes()
-    later = re.findall(r"^in_rules (\w+) rules = false", text_of("crates/game_tables/specs/Kinds.antt"), re.M)
+    later = re.findall(r"^is_in_rules (\w+) rules = false", text_of("crates/game_tables/specs/Kinds.antt"), re.M)
     kinds = numbers(["crates/game_tables/specs/Numbers.antt"], "kind_number")
     wanted |= {f"KIND_{name}": number for name, number in kinds.items() if name not in [snake(it) for it in later]}
     wanted |= {f"PART_{name}": number for name, number in numbers(["crates/game_tables/specs/Numbers.antt"], "part_number").items()}
     wanted |= {f"GROUND_{name}": number for name, number in numbers(["crates/room_terrain/specs/Tiles.antt"], "ground_number").items()}
-    return {**wanted, **defined_fields(), "MEMORY_MOST": defined_number("game_tables/specs/Limits.antt", "memory_bound")}
+    return {**wanted, **defined_fields(), "MEMORY_MOST": defined_number("game_tables/specs/Limits.antt", "most_memory")}
 
 
 def defined_number(path, name):
@@ -135,9 +140,9 @@ def defined_number(path, name):
 def defined_fields():
     """The numbers of the fields."""
     text = text_of("crates/visible_view/specs/Fields.antt")
-    named = {"kind_number": "kind", "most_hits": "hits_max", "capacity_as": "capacity", "length": "parts"}
+    named = {"kind_number": "kind", "capacity_as": "capacity", "length": "parts"}
     fields = {}
-    for number, value in re.findall(r"field == (\d+) then Some \(?([\w.]+)", text):
+    for number, value in re.findall(r"field == (\d+)\s+then Some \(?([\w.]+)", text):
         fields[f"FIELD_{named.get(value, value.split('.')[-1]).upper()}"] = int(number)
     fields["FIELD_PART"] = int(re.search(r"nat_lt field (\d+) then None", text)[1])
     return fields
@@ -233,20 +238,20 @@ def check_limits(text, header):
     wanted = [MIB, defined_number(limits, "WithinFunctions"), *(int(it[1]) for it in (nesting, locals_, pages, entries))]
     rows = table_under(text, "| Limit | Most |")
     note("the limits of the table", differ("limits", [whole(most) for _, most in rows], wanted))
-    named = {name: defined_number("game_tables/specs/Limits.antt", name) for name in ("limit_bound", "bucket_bound", "unit_size", "memory_bound")}
+    named = {name: defined_number("game_tables/specs/Limits.antt", name) for name in ("most_limit", "most_bucket", "unit_instructions", "most_memory")}
     named["entries_bound"] = defined_number("intent_book/specs/Records.antt", "entries_bound")
     named |= {name: defined_number("wasm_steps/specs/Program.antt", name) for name in ("most_frames", "most_values")}
     texts = {"docs/players.md": " ".join(text.split()), "players/screeps.h": re.sub(r"[\s*]+", " ", header)}
     sentences = [
-        ("docs/players.md", "up to {bucket_bound}. In a tick he may use"),
-        ("docs/players.md", "but at most {limit_bound} units. A unit is {unit_size} instructions."),
+        ("docs/players.md", "up to {most_bucket}. In a tick he may use"),
+        ("docs/players.md", "but at most {most_limit} units. A unit is {unit_instructions} instructions."),
         ("docs/players.md", "more than {most_frames} calls within one another, or where locals and operands of all calls together would be more than {most_values}."),
-        ("docs/players.md", "It is up to {memory_bound} bytes of any kind"),
-        ("docs/players.md", "`len` is above {memory_bound} or"),
+        ("docs/players.md", "It is up to {most_memory} bytes of any kind"),
+        ("docs/players.md", "`len` is above {most_memory} or"),
         ("docs/players.md", "fewer than {entries_bound} intents are recorded in this tick"),
         ("players/screeps.h", "{entries_bound} intents are recorded in this tick"),
-        ("players/screeps.h", "in this tick, 0 to {limit_bound}. A unit is {unit_size} instructions."),
-        ("players/screeps.h", "saved before this tick, 0 to {bucket_bound}."),
+        ("players/screeps.h", "in this tick, 0 to {most_limit}. A unit is {unit_instructions} instructions."),
+        ("players/screeps.h", "saved before this tick, 0 to {most_bucket}."),
     ]
     for path, sentence in sentences:
         wanted = sentence.format(**{name: f"{number:,}" for name, number in named.items()})
