@@ -3,9 +3,11 @@ mod Chained
 mod Searched
 mod Placed
 mod Changed
+mod Kept
 mod OnTiles
 mod Named
 pub mod Accounts
 pub mod Rising
 pub mod Keyed
 pub mod Moved
+pub mod Capped

@@ -1,5 +1,5 @@
 -- The controller of a room.
-use Rattle.std.specs.Prelude.{ℕ, ◌==◌, ◌||◌, not, Bool, false, List, Option, Some, None}
+use Rattle.std.specs.Prelude.{ℕ, ◌==◌, ◌&&◌, ◌||◌, not, Bool, false, List, Option, Some, None}
 use Rattle.std.specs.List.{find}
 use Rattle.game_tables.specs.Kinds.{is_controller}
 use Rattle.object_store.specs.declared.object.Object.{Object}
@@ -17,3 +17,18 @@ is_taken (Some controller) = not (controller.owner == 0) || not (controller.othe
 abbrev pub level_of : Option Object → ℕ
 level_of None = 0
 level_of (Some controller) = controller.extra
+
+-- Somebody owns this controller.
+abbrev pub is_owned_room : Option Object → Bool
+is_owned_room None = false
+is_owned_room (Some controller) = not (controller.owner == 0)
+
+-- It is a player, and another than this one.
+abbrev pub is_another : ℕ → ℕ → Bool
+is_another player other = not (other == 0) && not (other == player)
+
+-- Another player owns or reserves this controller.
+abbrev pub is_anothers : ℕ → Option Object → Bool
+is_anothers player None = false
+is_anothers player (Some controller) =
+    is_another player controller.owner || is_another player controller.other

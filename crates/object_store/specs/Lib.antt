@@ -3,3 +3,4 @@ pub mod Stored
 pub mod Controllers
 pub mod Lending
 pub mod inner
+pub mod Stores

@@ -1,5 +1,5 @@
 -- The objects of a room as they are stored.
-use Rattle.std.specs.Prelude.{◌≡◌, ℕ, ◌<◌, ◌≤◌, ◌==◌, ◌&&◌, nat_lt, nat_le, if◌then◌else◌, List, [], ◌∷◌, ◌++◌, map, Option, Some, None, not}
+use Rattle.std.specs.Prelude.{◌≡◌, ℕ, ◌<◌, ◌≤◌, ◌==◌, ◌&&◌, nat_lt, nat_le, if◌then◌else◌, List, [], ◌∷◌, ◌++◌, map, Bool, false, Option, Some, None, not}
 use Rattle.std.specs.List.{AllByRecursion, find, filter}
 use Rattle.game_tables.specs.Numbers.{kind_number}
 use Rattle.game_tables.specs.declared.kind.Kind.{Kind}
@@ -56,3 +56,7 @@ without id objects = filter (λ o. not (o.id == id)) objects
 abbrev pub first_on : ℕ → ℕ → Kind → List Object → Option Object
 first_on x y kind objects =
     find (λ o. (o.x == x) && (o.y == y) && (kind_number o.kind == kind_number kind)) objects
+
+-- The tile is barred to a player. Under the first rules no tile is.
+abbrev pub is_barred : ℕ → ℕ → ℕ → List Object → Bool
+is_barred x y player objects = false

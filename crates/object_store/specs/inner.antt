@@ -4,3 +4,4 @@ pub mod Placed
 pub mod Chains
 pub mod Naming
 pub mod Ordered
+pub mod Kept

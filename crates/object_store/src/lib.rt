@@ -10,6 +10,7 @@ mod owners;
 mod room_table;
 mod slots;
 mod standing;
+mod stores;
 #[cfg(test)]
 mod tests;
 mod tile_index;
@@ -17,11 +18,12 @@ mod world;
 
 pub use account::Account;
 pub use bytes::Bytes;
-pub use controller::{is_taken, level_of};
+pub use controller::{is_anothers, is_owned_room, is_taken, level_of};
 pub use game_tables::{Body, Kind, Part};
 pub use object::Object;
 pub use objects::Objects;
 pub use room_table::RoomTable;
 pub use room_terrain::{Ground, NotAName, Place, RoomName, Terrain};
 pub use standing::Standing;
+pub use stores::{capacity, free_room, site_building};
 pub use world::{Room, World};

@@ -3,11 +3,11 @@ ghost use Rattle.std.specs.Prelude.{◌≡◌, ◌==◌, ◌<◌, ◌≤◌, ◌
 ghost use Rattle.std.specs.List.{HoldsAt, list_any};
 ghost use Rattle.std.specs.Map.Iter.{ShowsInOrder, deref};
 ghost use Rattle.object_store.specs.declared.object.Object.{Object};
-ghost use Rattle.object_store.specs.Tables.{Table, IsRising, IsOnTile, HasId, HasNoId, find_object, find_from, with_object, with_new, without, first_on};
+ghost use Rattle.object_store.specs.Tables.{Table, IsRising, IsOnTile, HasId, HasNoId, find_object, find_from, is_barred, with_object, with_new, without, first_on};
 ghost use Rattle.object_store.specs.inner.Owners.{Covers};
 ghost use Rattle.object_store.specs.Controllers.{controller_among};
 
-use crate::controller::controller_among;
+use crate::controller::{controller_slot, kept_or_sought, stays};
 use crate::object::Object;
 use crate::objects::Objects;
 use crate::owners::Owners;
@@ -15,7 +15,7 @@ use crate::slots::{
     copied, has_owned, least_on, numbers, place, position, search, slot_of, tile_of, tiles_of,
 };
 use crate::tile_index::{TILES, TileIndex};
-use game_tables::Kind;
+use game_tables::{Kind, is_controller};
 use std::alloc::{AllocError, Global};
 use std::marker::Model;
 
@@ -25,7 +25,8 @@ use std::marker::Model;
 /// Each object stays in the slot where it was put, and `order` has the slots by rising id. So an id
 /// is found by halving, and a birth and a death move no object. A slot whose object was taken out
 /// stays empty until the table is copied. The objects on a tile are found by its chain, and most
-/// players who own nothing are told without a look at the objects.
+/// players who own nothing are told without a look at the objects. The slot of the room's controller
+/// is kept.
 #[derive(Drop)]
 pub struct RoomTable {
     index: u32,
@@ -35,11 +36,13 @@ pub struct RoomTable {
     tiles: TileIndex,
     spare: u32,
     owners: Owners,
+    controller: Option<u32>,
 }
 
 impl Model for RoomTable {
     ghost use Rattle.std.specs.Prelude.{◌<◌, ◌≤◌, ◌+◌, ◌^◌, length, vec_capacity};
     ghost use Rattle.object_store.specs.Tables.{Table};
+    ghost use Rattle.object_store.specs.inner.Kept.{IsController};
     ghost use Rattle.object_store.specs.inner.Owners.{Covers};
     ghost use Rattle.object_store.specs.inner.Placed.{standing, IsPlaced, HasRoom};
 
@@ -55,7 +58,7 @@ impl Model for RoomTable {
 
     ghost invariant = { λ t. IsPlaced t.slots.items t.order.items t.tiles.tiles
         × HasRoom t.slots t.order t.tiles t.spare × Covers t.owners.remainders
-        (standing t.slots.items t.order.items) };
+        (standing t.slots.items t.order.items) × IsController t.slots.items t.order.items t.controller };
 }
 
 impl RoomTable {
@@ -71,6 +74,7 @@ impl RoomTable {
             tiles: TileIndex::new(alloc),
             spare: 0,
             owners: Owners::none(),
+            controller: None,
         }
     }
 
@@ -109,6 +113,7 @@ impl RoomTable {
         let room = slots.len() + spare as usize;
         let order = numbers(alloc, slots.len(), room)?;
         let tiles = tiles_of(alloc, &slots, room)?;
+        let controller = controller_slot(&slots, &order);
         Ok(RoomTable {
             index,
             next,
@@ -117,6 +122,7 @@ impl RoomTable {
             tiles,
             spare,
             owners,
+            controller,
         })
     }
 
@@ -198,11 +204,20 @@ impl RoomTable {
         }
     }
 
-    /// The controller of the room, that of the least id if there were more.
+    /// The controller of the room, that of the least id if there were more. Its slot is kept, so that
+    /// the answer takes no search.
     pub fn controller(&self) -> Option<&Object>
         ensures { option_map (λ o. o.now) result ≡ controller_among self.now.objects }
     {
-        controller_among(self.objects())
+        let slot = self.controller?;
+        Some(&self.slots[slot as usize])
+    }
+
+    /// Whether a tile is barred to a player. Under the first rules no tile is.
+    pub fn barred(&self, x: u8, y: u8, player: u32) -> bool
+        ensures { result ≡ is_barred x y player self.now.objects }
+    {
+        false
     }
 
     /// Whether a player, or nobody by the number 0, owns an object here.
@@ -267,9 +282,12 @@ impl RoomTable {
         ensures { self.new ≡ record self.old { objects = with_object object self.old.objects } }
     {
         let slot = slot_of(&self.slots, &self.order, object.id);
+        let was = self.slots[slot as usize].kind;
+        let stays = stays(self.controller, slot, was, object.kind);
         self.owners.add(object.owner);
         self.tiles.shift(slot, tile_of(object.x, object.y));
         self.slots[slot as usize] = object;
+        self.controller = kept_or_sought(self.controller, stays, &self.slots, &self.order);
     }
 
     /// Adds an object.
@@ -284,11 +302,13 @@ impl RoomTable {
     {
         let place = place(&self.slots, &self.order, object.id);
         let slot = self.slots.len() as u32;
+        let stays = !is_controller(object.kind);
         self.owners.add(object.owner);
         self.tiles.add(tile_of(object.x, object.y));
         // They have memory for one more, so these are never refused.
         let _full = self.order.insert(place, slot);
         let _full = self.slots.push(object);
+        self.controller = kept_or_sought(self.controller, stays, &self.slots, &self.order);
         self.spare -= 1;
     }
 
@@ -320,7 +340,10 @@ impl RoomTable {
         let place = position(&self.slots, &self.order, id)?;
         let slot = self.order.remove(place);
         self.tiles.take(slot);
-        Some(self.slots[slot as usize])
+        let removed = self.slots[slot as usize];
+        let stays = !is_controller(removed.kind);
+        self.controller = kept_or_sought(self.controller, stays, &self.slots, &self.order);
+        Some(removed)
     }
 }
 

@@ -2,7 +2,10 @@
 ghost use Rattle.std.specs.Prelude.{◌≡◌, IfOk, length};
 ghost use Rattle.object_store.specs.Tables.{IsOnTile};
 
-use crate::{Account, Body, Bytes, Ground, Kind, Object, RoomName, RoomTable, Terrain, World};
+use crate::{
+    Account, Body, Bytes, Ground, Kind, Object, Part, RoomName, RoomTable, Terrain, World,
+    capacity, free_room, is_anothers, is_owned_room, site_building,
+};
 use std::alloc::{AllocError, Global};
 use std::test::Fail;
 
@@ -229,6 +232,42 @@ fn an_object_off_the_tiles_is_found_too(rt: HostRuntime) -> Result<(), Fail> {
     Ok(())
 }
 
+fn controller_id(table: &RoomTable) -> u64 {
+    table.controller().map_or(0, |object| object.id)
+}
+
+#[test]
+fn the_controller_is_kept(rt: HostRuntime) -> Result<(), Fail> {
+    let mut table = RoomTable::new(rt.alloc(), 4, 50);
+    assert_eq!(rt; controller_id(&table), 0);
+    table.reserve(9)?;
+    // Added (a), put in their places (r) and taken out (t).
+    for (act, id, kind, found) in [
+        ('a', 5, Kind::Pile, 0),
+        ('a', 7, Kind::Controller, 7),
+        ('r', 7, Kind::Controller, 7),
+        ('a', 9, Kind::Controller, 7),
+        ('a', 3, Kind::Controller, 3),
+        ('r', 3, Kind::Road, 7),
+        ('r', 5, Kind::Controller, 5),
+        ('r', 3, Kind::Controller, 3),
+        ('t', 3, Kind::Controller, 5),
+        ('t', 9, Kind::Controller, 5),
+        ('r', 5, Kind::Pile, 7),
+        ('t', 5, Kind::Pile, 7),
+        ('t', 7, Kind::Controller, 0),
+        ('a', 7, Kind::Controller, 7),
+    ] {
+        assert!(rt; change(&mut table, act, thing(id, kind, 1)), "{id}");
+        assert_eq!(rt; controller_id(&table), found, "{id}");
+        let copy = table.copy(rt.alloc(), 0)?;
+        assert_eq!(rt; controller_id(&copy), found, "{id}");
+    }
+    assert!(rt; replace(&mut table, thing(7, Kind::Controller, 44)));
+    assert_eq!(rt; table.controller().map_or(0, |object| object.energy), 44);
+    Ok(())
+}
+
 fn add(table: &mut RoomTable, object: Object) -> bool
     requires { IsOnTile object }
 {
@@ -365,6 +404,140 @@ fn objects_are_replaced_and_taken_out(rt: HostRuntime) -> Result<(), Fail> {
     assert_eq!(rt; id_at(&table, 0), 2);
     assert_eq!(rt; id_at(&table, 1), 3);
     assert_eq!(rt; table.spare(), 1);
+    Ok(())
+}
+
+// The controller of a room of this level, of these players.
+fn controller(level: u32, owner: u32, other: u32) -> Object {
+    Object {
+        owner,
+        other,
+        extra: level,
+        ..thing(1, Kind::Controller, 0)
+    }
+}
+
+// A creep of three CARRY parts and a MOVE part, the last of them a CARRY part.
+fn carrier(hits: u32, energy: u64) -> Object {
+    let mut body = Body::new();
+    for part in [Part::Carry, Part::Move, Part::Carry, Part::Carry] {
+        if body.len() < 50 {
+            body.push(part);
+        }
+    }
+    Object {
+        hits,
+        body,
+        ..thing(2, Kind::Creep, energy)
+    }
+}
+
+#[test]
+fn each_kind_holds_its_energy(rt: HostRuntime) -> Result<(), Fail> {
+    for (level, extension) in [(0, 50), (6, 50), (7, 100), (8, 200), (263, 50), (264, 50)] {
+        let controller = controller(level, 3, 0);
+        for (kind, energy) in [
+            (Kind::Source, 3_000),
+            (Kind::Controller, 0),
+            (Kind::Creep, 0),
+            (Kind::Spawn, 300),
+            (Kind::Extension, extension),
+            (Kind::Storage, 1_000_000),
+            (Kind::Container, 2_000),
+            (Kind::Road, 0),
+            (Kind::Pile, 0),
+            (Kind::Site, 0),
+            (Kind::Tower, 0),
+        ] {
+            let object = thing(2, kind, 40);
+            let told = (capacity(&object, Some(&controller)), kind);
+            assert_eq!(rt; told, (energy, kind), "{level}");
+        }
+    }
+    assert_eq!(rt; capacity(&thing(2, Kind::Extension, 0), None), 50);
+    Ok(())
+}
+
+#[test]
+fn sources_and_creeps_hold_energy(rt: HostRuntime) -> Result<(), Fail> {
+    let source = thing(2, Kind::Source, 0);
+    for (owner, other, energy) in [(0, 0, 1_500), (3, 0, 3_000), (0, 4, 3_000)] {
+        let controller = controller(1, owner, other);
+        assert_eq!(rt; capacity(&source, Some(&controller)), energy, "{owner}");
+    }
+    assert_eq!(rt; capacity(&source, None), 1_500);
+    // The first parts lose their hits first.
+    for (hits, energy) in [
+        (400, 150),
+        (301, 150),
+        (300, 100),
+        (150, 100),
+        (100, 50),
+        (0, 0),
+    ] {
+        assert_eq!(rt; capacity(&carrier(hits, 0), None), energy, "{hits}");
+    }
+    Ok(())
+}
+
+#[test]
+fn an_object_takes_what_it_has_room_for(rt: HostRuntime) -> Result<(), Fail> {
+    let taken = controller(7, 3, 0);
+    for (kind, energy, room) in [
+        (Kind::Spawn, 0, 300),
+        (Kind::Spawn, 299, 1),
+        (Kind::Spawn, 300, 0),
+        (Kind::Extension, 30, 70),
+        (Kind::Extension, 200, 0),
+        (Kind::Pile, 5, 0),
+    ] {
+        let object = thing(2, kind, energy);
+        assert_eq!(rt; free_room(&object, Some(&taken)), room, "{energy}");
+    }
+    assert_eq!(rt; free_room(&carrier(100, 20), None), 30);
+    assert_eq!(rt; free_room(&carrier(100, 150), None), 0);
+    Ok(())
+}
+
+#[test]
+fn a_site_is_of_a_building(rt: HostRuntime) -> Result<(), Fail> {
+    for (number, building) in [
+        (3, None),
+        (4, Some(Kind::Spawn)),
+        (5, Some(Kind::Extension)),
+        (6, Some(Kind::Storage)),
+        (7, Some(Kind::Container)),
+        (8, Some(Kind::Road)),
+        (9, None),
+    ] {
+        let site = Object {
+            extra: number,
+            ..thing(2, Kind::Site, 0)
+        };
+        assert_eq!(rt; site_building(&site), building, "{number}");
+    }
+    Ok(())
+}
+
+#[test]
+fn a_room_is_owned_or_anothers(rt: HostRuntime) -> Result<(), Fail> {
+    for (owner, other, owned, anothers) in [
+        (0, 0, false, false),
+        (3, 0, true, false),
+        (0, 3, false, false),
+        (4, 0, true, true),
+        (0, 4, false, true),
+    ] {
+        let controller = controller(1, owner, other);
+        let told = (
+            is_owned_room(Some(&controller)),
+            is_anothers(Some(&controller), 3),
+        );
+        assert_eq!(rt; told, (owned, anothers), "{owner} {other}");
+    }
+    assert!(rt; !is_owned_room(None));
+    assert!(rt; !is_anothers(None, 3));
+    assert!(rt; !two_piles(rt.alloc())?.barred(20, 20, 3));
     Ok(())
 }
 

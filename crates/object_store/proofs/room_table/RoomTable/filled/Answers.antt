@@ -5,6 +5,7 @@ use Rattle.std.proofs.lemmas.List.FromFn.{length-range_with_len}
 use Rattle.object_store.specs.inner.Owners.{Covers}
 use Rattle.object_store.specs.inner.Placed.{tile_of_object}
 use Rattle.object_store.proofs.Changed.{standing_equal, placed_equal}
+use Rattle.object_store.proofs.Kept.{kept_equal, known_equal}
 use Rattle.object_store.proofs.Placed.{all_slots, standing_all, placed_all}
 use Rattle.object_store.proofs.room_table.RoomTable.filled.Goals as goal
 
@@ -27,6 +28,7 @@ invariant_of-result c =
         heads = λ _. c.in_ok-tiles.ensures.heads;
       },
       subst (Covers c.args.owners.remainders) (sym (standing_equal refl new_order ∙ standing_all slots)) c.requires.owners,
+      kept_equal (sym c.deref-2.ensures.value) (sym c.deref-3.ensures.value) c.controller_slot-controller.ensures,
     )
 
 pub returns : goal.returns
@@ -35,3 +37,10 @@ returns c =
     let count : c.len-2.result ≡ length slots = omega (arith, c.len-2.ensures, c.args.slots.ok.0) in
     let new_order : c.in_ok-order.order.items ≡ all_slots slots = c.in_ok-order.ensures.numbers ∙ ap (range_with_len 0) count in
     rw (standing_equal refl new_order ∙ standing_all slots) refl
+
+pub controller_slot-controller-requires : goal.controller_slot-controller-requires
+controller_slot-controller-requires c =
+    let slots = c.args.slots.items in
+    let count : c.len-2.result ≡ length slots = omega (arith, c.len-2.ensures, c.args.slots.ok.0) in
+    let new_order : c.in_ok-order.order.items ≡ all_slots slots = c.in_ok-order.ensures.numbers ∙ ap (range_with_len 0) count in
+    known_equal c.deref-2.ensures.value (c.deref-3.ensures.value ∙ new_order) (placed_all slots c.requires.rising).known

@@ -1,13 +1,14 @@
 use Rattle.std.proofs.Common.{◌≡◌, ◌<◌, ◌≤◌, ◌∷◌, [], ◌++◌, length, sym, ap, subst, refl, ◌∙◌, arith}
 use Rattle.std.specs.List.{insert}
 use Rattle.std.specs.Vec.{vec_len, vec_capacity}
-use Rattle.std.proofs.lemmas.Bool.{cond-true}
+use Rattle.std.proofs.lemmas.Bool.{cond-true, not-true}
 use Rattle.std.proofs.lemmas.List.{length_push}
 use Rattle.std.proofs.lemmas.List.Edits.{length-insert}
 use Rattle.object_store.specs.inner.Owners.{Covers}
 use Rattle.object_store.specs.inner.Placed.{standing, tile_of_object}
 use Rattle.object_store.specs.Tables.{Table, HasNoId}
 use Rattle.object_store.proofs.Changed.{standing_equal, placed_equal, inserted}
+use Rattle.object_store.proofs.Kept.{kept_equal, kept_insert, known_equal}
 use Rattle.object_store.proofs.Owned.{covers_insert}
 use Rattle.object_store.proofs.room_table.RoomTable.insert.Goals as goal
 
@@ -41,6 +42,7 @@ invariant_of-self c =
         heads = λ _. c.add-2.ensures.heads;
       },
       subst (Covers c.add.new.self.remainders) (sym (standing_equal new_slots new_order ∙ done.stands)) (covers_insert _ _ object c.add.ensures.added c.add.ensures.kept (standing slots order) c.self.invariant.2 place),
+      kept_equal (sym c.deref-3.ensures.value) (sym c.deref-4.ensures.value) c.kept_or_sought-self-inside.ensures,
     )
 
 pub returns : goal.returns
@@ -60,3 +62,23 @@ returns c =
     let new_slots : c.push-full.new.self.items ≡ slots ++ object ∷ [] = c.push-full.ensures.items ∙ cond-true _ _ _ (c.push-full.ensures.succeeds slots_room) in
     let new_order : c.insert-full.new.self.items ≡ insert order place (length slots) = c.insert-full.ensures.items ∙ cond-true _ _ _ (c.insert-full.ensures.succeeds order_room) ∙ ap (insert order place) long in
     rw (standing_equal new_slots new_order ∙ done.stands ∙ done.objects, ← c.self.view_is) refl
+
+pub kept_or_sought-self-inside-requires : goal.kept_or_sought-self-inside-requires
+kept_or_sought-self-inside-requires c =
+    let was = c.self.inside in
+    let object = c.args.object in
+    let place = c.place-place.result in
+    let slots = was.slots.items in
+    let order = was.order.items in
+    let room = c.self.invariant.1 in
+    let absent = subst (HasNoId object.id) (sym (ap (λ (t : Table). t.objects) c.self.view_is)) c.requires.absent in
+    let done = inserted slots order was.tiles.tiles place object _ (standing_equal c.deref.ensures.value c.deref-2.ensures.value) c.self.invariant.0 c.place-place.ensures.within c.place-place.ensures.between absent in
+    let one : 1 ≤ was.spare = omega (arith, ap (λ (t : Table). t.spare) c.self.view_is, c.requires.room) in
+    let long : c.len-slot.result ≡ length slots = omega (arith, c.len-slot.ensures, was.slots.ok.0) in
+    let slots_room : vec_len was.slots < vec_capacity was.slots = omega (arith, room.slots_room, one, was.slots.ok.0) in
+    let order_room : vec_len was.order < vec_capacity was.order = omega (arith, room.order_room, one, was.order.ok.0) in
+    let new_slots : c.push-full.new.self.items ≡ slots ++ object ∷ [] = c.push-full.ensures.items ∙ cond-true _ _ _ (c.push-full.ensures.succeeds slots_room) in
+    let new_order : c.insert-full.new.self.items ≡ insert order place (length slots) = c.insert-full.ensures.items ∙ cond-true _ _ _ (c.insert-full.ensures.succeeds order_room) ∙ ap (insert order place) long in record {
+      known = known_equal (c.deref-3.ensures.value ∙ new_slots) (c.deref-4.ensures.value ∙ new_order) done.placed.known;
+      kept = λ stays. kept_equal (c.deref-3.ensures.value ∙ new_slots) (c.deref-4.ensures.value ∙ new_order) (kept_insert slots order was.tiles.tiles place object was.controller c.self.invariant.0 done.within c.self.invariant.3 (sym c.is_controller-stays.ensures ∙ not-true c.is_controller-stays.result stays));
+    }

@@ -1,4 +1,5 @@
 use Rattle.std.proofs.Common.{◌≡◌, ◌<◌, ◌+◌, ℕ, Some, List, length, get_or, set, sym, ap, subst, refl, ◌∙◌, arith, length-set}
+use Rattle.std.proofs.lemmas.Bool.{not-true}
 use Rattle.std.proofs.lemmas.List.{get_or_read}
 use Rattle.std.proofs.lemmas.List.Edits.{length-remove}
 use Rattle.object_store.specs.inner.Chains.{Chained}
@@ -7,6 +8,7 @@ use Rattle.object_store.specs.inner.Placed.{no_object, object_in, standing}
 use Rattle.object_store.specs.Tables.{Table, HasNoId, find_object}
 use Rattle.object_store.proofs.Changed.{standing_equal, placed_equal, taken}
 use Rattle.object_store.proofs.Keyed.{id_of}
+use Rattle.object_store.proofs.Kept.{is_it, kept_equal, kept_remove}
 use Rattle.object_store.proofs.Owned.{covers_filter}
 use Rattle.object_store.proofs.Placed.{known_at}
 use Rattle.object_store.proofs.Rising.{is_other, others-absent}
@@ -41,6 +43,7 @@ invariant_of-self c =
         heads = λ some. ap (λ (t : Chained). t.heads) c.take.ensures ∙ room.heads some;
       },
       subst (Covers was.owners.remainders) (sym (standing_equal refl c.remove-slot.ensures.items ∙ done.objects)) (covers_filter was.owners.remainders (is_other id_of c.args.id) (standing slots order) c.self.invariant.2),
+      kept_equal (sym c.deref-3.ensures.value) (sym c.deref-4.ensures.value) c.kept_or_sought-self-inside.ensures,
     )
 
 pub returns-clause-removed : goal.returns-clause-removed
@@ -54,7 +57,7 @@ returns-clause-removed c =
     let done = taken slots order was.tiles.tiles place c.args.id _ (standing_equal c.deref.ensures.value c.deref-2.ensures.value) placed within c.in_ok-place.ensures.found.1 in
     let slot : c.remove-slot.result ≡ get_or order place 0 = get_or_read order place c.remove-slot.result within c.remove-slot.ensures.value 0 in
     let known : c.remove-slot.result < length slots = subst (λ n. n < length slots) (sym slot) (known_at slots order place placed.known within) in
-    let read = get_or_read slots c.remove-slot.result c.index.result.now known c.index.ensures no_object ∙ ap (object_in slots) slot in
+    let read = get_or_read slots c.remove-slot.result c.index-removed.result.now known c.index-removed.ensures no_object ∙ ap (object_in slots) slot in
     ap Some read ∙ sym done.found ∙ ap (λ (t : Table). find_object c.args.id t.objects) c.self.view_is
 
 pub returns-clause-table : goal.returns-clause-table
@@ -65,3 +68,16 @@ returns-clause-table c =
     let within : place < length order = subst (λ (xs : List ℕ). place < length xs) c.deref-2.ensures.value c.in_ok-place.ensures.found.0 in
     let done = taken was.slots.items order was.tiles.tiles place c.args.id _ (standing_equal c.deref.ensures.value c.deref-2.ensures.value) c.self.invariant.0 within c.in_ok-place.ensures.found.1 in
     rw (standing_equal refl c.remove-slot.ensures.items ∙ done.objects, ← c.self.view_is) refl
+
+pub kept_or_sought-self-inside-requires-clause-kept : goal.kept_or_sought-self-inside-requires-clause-kept
+kept_or_sought-self-inside-requires-clause-kept c =
+    let was = c.self.inside in
+    let slots = was.slots.items in
+    let order = was.order.items in
+    let place = c.in_ok-place.place in
+    let placed = c.self.invariant.0 in
+    let within : place < length order = subst (λ (xs : List ℕ). place < length xs) c.deref-2.ensures.value c.in_ok-place.ensures.found.0 in
+    let slot : c.remove-slot.result ≡ get_or order place 0 = get_or_read order place c.remove-slot.result within c.remove-slot.ensures.value 0 in
+    let known : c.remove-slot.result < length slots = subst (λ n. n < length slots) (sym slot) (known_at slots order place placed.known within) in
+    let read = get_or_read slots c.remove-slot.result c.index-removed.result.now known c.index-removed.ensures no_object ∙ ap (object_in slots) slot in
+    λ stays. kept_equal c.deref-3.ensures.value (c.deref-4.ensures.value ∙ c.remove-slot.ensures.items) (kept_remove slots order was.tiles.tiles place was.controller placed within c.self.invariant.3 (ap is_it (sym read) ∙ sym c.is_controller-stays.ensures ∙ not-true c.is_controller-stays.result stays))

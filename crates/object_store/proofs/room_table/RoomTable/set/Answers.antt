@@ -1,8 +1,12 @@
-use Rattle.std.proofs.Common.{◌≡◌, length, set, sym, ap, subst, refl, ◌∙◌, arith, length-set}
+use Rattle.std.proofs.Common.{◌≡◌, ◌<◌, List, length, set, sym, ap, subst, refl, ◌∙◌, arith, length-set}
+use Rattle.std.proofs.lemmas.List.{get_or_read}
+use Rattle.object_store.specs.declared.object.Object.{Object}
 use Rattle.object_store.specs.inner.Chains.{Chained}
+use Rattle.object_store.specs.inner.Kept.{Stays}
 use Rattle.object_store.specs.inner.Owners.{Covers}
-use Rattle.object_store.specs.inner.Placed.{standing, tile_of_object, StandsIn}
+use Rattle.object_store.specs.inner.Placed.{no_object, standing, tile_of_object, StandsIn}
 use Rattle.object_store.proofs.Changed.{placed_equal, replaced}
+use Rattle.object_store.proofs.Kept.{kept_equal, kept_set}
 use Rattle.object_store.proofs.Owned.{covers_set}
 use Rattle.object_store.proofs.room_table.RoomTable.set.Goals as goal
 
@@ -29,6 +33,7 @@ invariant_of-self c =
         heads = λ some. ap (λ (t : Chained). t.heads) c.shift.ensures ∙ room.heads some;
       },
       subst (Covers c.add.new.self.remainders) (sym done.stands) (covers_set _ _ object c.add.ensures.added c.add.ensures.kept (standing slots order) c.self.invariant.2 done.place),
+      kept_equal (sym c.deref-3.ensures.value) (sym c.deref-4.ensures.value) c.kept_or_sought-self-inside.ensures,
     )
 
 pub returns : goal.returns
@@ -41,3 +46,15 @@ returns c =
     let stands = subst (λ os. StandsIn object.id slots os slot) c.deref-2.ensures.value (subst (λ ss. StandsIn object.id ss c.deref-2.result.now slot) c.deref.ensures.value c.slot_of-slot.ensures.stands) in
     let done = replaced slots order was.tiles.tiles slot object c.self.invariant.0 stands in
     rw (done.stands ∙ done.objects, ← c.self.view_is) refl
+
+pub kept_or_sought-self-inside-requires-clause-kept : goal.kept_or_sought-self-inside-requires-clause-kept
+kept_or_sought-self-inside-requires-clause-kept c =
+    let was = c.self.inside in
+    let object = c.args.object in
+    let slot = c.slot_of-slot.result in
+    let slots = was.slots.items in
+    let order = was.order.items in
+    let stands = subst (λ os. StandsIn object.id slots os slot) c.deref-2.ensures.value (subst (λ ss. StandsIn object.id ss c.deref-2.result.now slot) c.deref.ensures.value c.slot_of-slot.ensures.stands) in
+    let known : slot < length slots = subst (λ (os : List Object). slot < length os) c.deref.ensures.value c.slot_of-slot.ensures.known in
+    let kind = ap (λ (o : Object). o.kind) (get_or_read slots slot c.index.result.now known c.index.ensures no_object) in
+    λ stays. kept_equal c.deref-3.ensures.value c.deref-4.ensures.value (kept_set slots order was.tiles.tiles slot object c.self.invariant.0 stands was.controller c.self.invariant.3 (subst (λ k. Stays was.controller slot k object.kind) kind (c.stays-stays.ensures.0 stays)))
