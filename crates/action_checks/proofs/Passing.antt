@@ -1,5 +1,5 @@
 -- The first check that fails, of checks that are made in two parts.
-use Rattle.std.proofs.Common.{◌≡◌, ◌≢◌, ℕ, Option, Some, None, Bool, true, false, List, [], ◌∷◌, ◌++◌, ◌&&◌, inl, inr, refl, sym, ap, ◌∙◌}
+use Rattle.std.proofs.Common.{◌≡◌, ◌≢◌, ℕ, Option, Some, None, Result, Ok, Err, Bool, true, false, List, [], ◌∷◌, ◌++◌, ◌&&◌, inl, inr, refl, sym, ap, ◌∙◌}
 use Rattle.std.proofs.lemmas.Bool.{and_parts, cases_Bool, cond-true, cond-false}
 use Rattle.std.specs.List.{AllByRecursion}
 use Rattle.game_tables.specs.declared.code.Code.{Code}
@@ -7,7 +7,8 @@ use Rattle.game_tables.specs.declared.code.Code.TheVariants.{Done}
 use Rattle.game_tables.specs.Actions.{max_range, needed_part}
 use Rattle.game_tables.specs.declared.action.Action.{Action}
 use Rattle.game_tables.specs.declared.kind.Part.{Part}
-use Rattle.game_tables.specs.declared.action.Action.TheVariants.{DropLoad}
+use Rattle.game_tables.specs.declared.action.Action.TheVariants.{DropLoad, Transfer, Withdraw, Pickup, Harvest, Repair, Build}
+use Rattle.action_checks.specs.inner.Passing.{Passes}
 use Rattle.world_rules.specs.Checks.{Check, Scene, all_hold, amount_checks, checks, creep_checks, first_failing, further_checks, part_checks, target_checks}
 
 -- All of both parts hold.
@@ -36,6 +37,11 @@ fails_late (check ∷ early) late holds =
     let rest = fails_late early late both.1 in
     (cond-true _ _ _ both.0 ∙ rest.0, ap (λ (b : Bool). b && all_hold (early ++ late)) both.0 ∙ rest.1)
 
+-- What comes of the second part, where the first holds, comes of all.
+pub passes_later : (early late : List Check) (result : Result (Unit {0}) Code) → all_hold early ≡ true → Passes result late → Passes result (early ++ late)
+passes_later early late (Ok done) holds passes = hold_both early late holds passes
+passes_later early late (Err code) holds passes = let rest = fails_late early late holds in (rest.0 ∙ passes.0, rest.1 ∙ passes.1)
+
 -- Where all hold, none is the first that fails.
 pub done_where_all : (list : List Check) → all_hold list ≡ true → first_failing list ≡ Done
 done_where_all [] holds = refl
@@ -62,6 +68,12 @@ target_codes (Some range) action scene = (λ e. cc, (λ e. cc, tt))
 
 further_codes : (action : Action) (scene : Scene) → HaveCodes (further_checks action scene)
 further_codes DropLoad scene = (λ e. cc, tt)
+further_codes Transfer scene = (λ e. cc, (λ e. cc, tt))
+further_codes Withdraw scene = (λ e. cc, (λ e. cc, (λ e. cc, tt)))
+further_codes Pickup scene = (λ e. cc, tt)
+further_codes Harvest scene = (λ e. cc, (λ e. cc, tt))
+further_codes Repair scene = (λ e. cc, tt)
+further_codes Build scene = (λ e. cc, (λ e. cc, (λ e. cc, tt)))
 further_codes _ scene = tt
 
 have_codes : (action : Action) (scene : Scene) → HaveCodes (checks action scene)

@@ -1,12 +1,16 @@
 // The checks of an action.
-ghost use Rattle.std.specs.Prelude.{◌≡◌, ◌==◌, option_map, Some, not};
+ghost use Rattle.std.specs.Prelude.{◌≡◌, ◌==◌, [], ◌∷◌, option_map, Some, not};
+ghost use Rattle.std.specs.Option.{unwrap_or};
+ghost use Rattle.object_store.specs.Controllers.{is_anothers as is_anothers_room};
 ghost use Rattle.world_rules.specs.World.{shown};
-ghost use Rattle.world_rules.specs.Checks.{all_hold, amount_checks, are_near as near, checks, creep_checks, first_failing, further_checks, holds_of, may_be_target as target_of, part_checks, reaches_itself as itself, target_checks};
+ghost use Rattle.world_rules.specs.Checks.{all_hold, amount_checks, are_near as near, checks, controller_around as around_controller, creep_checks, first_failing, further_checks, holds_least, holds_of, is_in_the_way, is_reachable, may_be_target as target_of, part_checks, reaches_itself as itself, takes_least, target_checks};
 ghost use Rattle.action_checks.specs.Scenes.{scene_view};
 ghost use Rattle.action_checks.specs.inner.Passing.{Passes};
 
-use game_tables::{Action, Code, Part, is_creep, is_target, max_range, needed_part};
-use object_store::{Object, Standing};
+use game_tables::{
+    Action, Code, Kind, Part, is_creep, is_target, max_range, needed_part, obstructs,
+};
+use object_store::{Object, RoomTable, Standing, free_room, is_anothers, site_building};
 
 /// What the checks of an action read: the player who acts, and what stands under the ids of the actor and
 /// of the target, as he sees it or as it stands in the room.
@@ -15,6 +19,8 @@ pub struct Scene<'a> {
     pub player: u32,
     pub actor: Option<Standing<'a>>,
     pub target: Option<Standing<'a>>,
+    /// What stands in the room of the actor, and none where there is no actor.
+    pub around: Option<&'a RoomTable>,
     /// The amount, and none where it is negative.
     pub amount: Option<u64>,
     /// How much there has to be at least.
@@ -112,19 +118,155 @@ fn check_further(action: Action, scene: &Scene) -> Result<(), Code>
     ensures { Passes result (further_checks action (scene_view scene.now)) }
 {
     match action {
-        Action::DropLoad => check_energy(scene),
+        Action::DropLoad => check_holds(scene.least, scene.actor),
+        Action::Transfer => check_transfer(scene),
+        Action::Withdraw => check_withdraw(scene),
+        Action::Pickup => check_takes(1, scene.actor, scene),
+        Action::Harvest => check_harvest(scene),
+        Action::Repair => check_holds(1, scene.actor),
+        Action::Build => check_build(scene),
         _ => Ok(()),
     }
 }
 
-// The creep carries the least that is wanted.
-fn check_energy(scene: &Scene) -> Result<(), Code>
-    ensures { Passes result (further_checks Action.DropLoad (scene_view scene.now)) }
+// The creep carries what is wanted, and the target has room for it.
+fn check_transfer(scene: &Scene) -> Result<(), Code>
+    ensures { Passes result (further_checks Action.Transfer (scene_view scene.now)) }
 {
-    match scene.actor {
-        Some(creep) if scene.least <= creep.object.energy => Ok(()),
+    check_holds(scene.least, scene.actor)?;
+    check_takes(scene.least, scene.target, scene)
+}
+
+// The target may be reached and holds what is wanted, and the creep has room for it.
+fn check_withdraw(scene: &Scene) -> Result<(), Code>
+    ensures { Passes result (further_checks Action.Withdraw (scene_view scene.now)) }
+{
+    check_reachable(scene)?;
+    check_holds(scene.least, scene.target)?;
+    check_takes(scene.least, scene.actor, scene)
+}
+
+// No other player owns or reserves the room, and the source holds some energy.
+fn check_harvest(scene: &Scene) -> Result<(), Code>
+    ensures { Passes result (further_checks Action.Harvest (scene_view scene.now)) }
+{
+    check_room(scene)?;
+    check_holds(1, scene.target)
+}
+
+// The site is the player's, the creep carries something, and no creep is in the way.
+fn check_build(scene: &Scene) -> Result<(), Code>
+    ensures { Passes result (further_checks Action.Build (scene_view scene.now)) }
+{
+    check_owned(scene)?;
+    check_holds(1, scene.actor)?;
+    check_way(scene)
+}
+
+// The object holds at least so much.
+fn check_holds(least: u64, holder: Option<Standing>) -> Result<(), Code>
+    ensures { Passes result (holds_least least (option_map shown holder.entry) ∷ []) }
+{
+    match holder {
+        Some(standing) if least <= standing.object.energy => Ok(()),
         _ => Err(Code::NotEnoughResources),
     }
+}
+
+// The object takes at least so much more.
+fn check_takes(least: u64, taker: Option<Standing>, scene: &Scene) -> Result<(), Code>
+    ensures { Passes result (takes_least least (option_map shown taker.entry) (scene_view scene.now) ∷ []) }
+{
+    match taker {
+        Some(standing) if least <= free_room(standing.object, controller_around(scene)) => Ok(()),
+        _ => Err(Code::Full),
+    }
+}
+
+// The tile of the target is not barred to the player.
+fn check_reachable(scene: &Scene) -> Result<(), Code>
+    ensures { Passes result ((
+      holds_of (scene_view scene.now).target
+          (is_reachable (scene_view scene.now)),
+      Code.NotOwner,
+    ) ∷ []) }
+{
+    match (scene.target, scene.around) {
+        (Some(target), Some(around)) => {
+            let object = target.object;
+            if around.barred(object.x, object.y, scene.player) {
+                Err(Code::NotOwner)
+            } else {
+                Ok(())
+            }
+        }
+        (Some(_), None) => Ok(()),
+        (None, _) => Err(Code::NotOwner),
+    }
+}
+
+// No other player owns or reserves the controller of the room.
+fn check_room(scene: &Scene) -> Result<(), Code>
+    ensures { Passes result ((
+      not (is_anothers_room (scene_view scene.now).player
+          (around_controller (scene_view scene.now))),
+      Code.NotOwner,
+    ) ∷ []) }
+{
+    if is_anothers(controller_around(scene), scene.player) {
+        Err(Code::NotOwner)
+    } else {
+        Ok(())
+    }
+}
+
+// The target is the player's.
+fn check_owned(scene: &Scene) -> Result<(), Code>
+    ensures { Passes result ((
+      holds_of (scene_view scene.now).target
+          (λ site. site.owner == (scene_view scene.now).player),
+      Code.NotOwner,
+    ) ∷ []) }
+{
+    match scene.target {
+        Some(target) if target.object.owner == scene.player => Ok(()),
+        _ => Err(Code::NotOwner),
+    }
+}
+
+// No creep stands where the building of the target would obstruct it.
+fn check_way(scene: &Scene) -> Result<(), Code>
+    ensures { Passes result ((
+      holds_of (scene_view scene.now).target
+          (λ site. not (is_in_the_way (scene_view scene.now).around site)),
+      Code.InvalidTarget,
+    ) ∷ []) }
+{
+    match scene.target {
+        Some(target) if !is_in_the_way(scene.around, target.object) => Ok(()),
+        _ => Err(Code::InvalidTarget),
+    }
+}
+
+// Whether a creep stands where the building of a site would obstruct it.
+fn is_in_the_way(around: Option<&RoomTable>, site: &Object) -> bool
+    ensures { result
+        ≡ is_in_the_way (unwrap_or (option_map (λ table. table.now.objects) around.entry) []) site.now }
+{
+    let Some(kind) = site_building(site) else {
+        return false;
+    };
+    match around {
+        Some(table) => obstructs(kind) && table.at(site.x, site.y, Kind::Creep).is_some(),
+        None => false,
+    }
+}
+
+// The controller of the room of the actor.
+fn controller_around<'a>(scene: &Scene<'a>) -> Option<&'a Object>
+    ensures { option_map (λ object. object.now) result ≡ around_controller (scene_view scene.now) }
+{
+    scene.around?.controller()
 }
 
 // Whether the creep itself may be its target.

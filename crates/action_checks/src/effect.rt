@@ -4,13 +4,13 @@ ghost use Rattle.room_terrain.specs.declared.terrain.Ground.{Ground};
 ghost use Rattle.object_store.specs.Tables.{find_object};
 ghost use Rattle.world_rules.specs.World.{shown};
 ghost use Rattle.world_rules.specs.RoomParts.{table_part};
-ghost use Rattle.world_rules.specs.Checks.{holds_of, may_take_effect};
+ghost use Rattle.world_rules.specs.Checks.{both_of, holds_of, may_take_effect, parties};
 ghost use Rattle.action_checks.specs.inner.Passing.{placed_at};
 
 use crate::checks::{Scene, all_hold};
 use game_tables::Action;
 use intent_book::Intent;
-use object_store::{RoomTable, Standing};
+use object_store::{Object, RoomTable, Standing};
 
 /// Whether the rule of an action does something with an entry: its checks hold in the room, and the actor
 /// has hits.
@@ -18,14 +18,38 @@ pub fn takes_effect(action: Action, room: &RoomTable, intent: &Intent) -> bool
     ensures { (grounds : List Ground)
         → result ≡ may_take_effect action intent.now (table_part grounds room.now) }
 {
+    // The objects rise by their ids, so that those of the room's part are those of its table.
+    let _rising = room.objects();
     let scene = Scene {
         player: intent.player,
         actor: standing(room, intent.actor),
         target: standing(room, intent.target),
+        around: Some(room),
         amount: Some(intent.amount),
         least: 1,
     };
     all_hold(action, &scene) && has_hits(scene.actor)
+}
+
+/// The creep and the target of an entry, as they stand in the room, where the rule of the action does
+/// something with it.
+pub fn parties(action: Action, room: &RoomTable, intent: &Intent) -> Option<(Object, Object)>
+    ensures { (grounds : List Ground)
+        → result ≡ parties action intent.now (table_part grounds room.now) }
+{
+    if takes_effect(action, room, intent) {
+        both_of(room.get(intent.actor), room.get(intent.target))
+    } else {
+        None
+    }
+}
+
+// Two objects, where both are there.
+fn both_of(creep: Option<&Object>, target: Option<&Object>) -> Option<(Object, Object)>
+    ensures { result ≡ both_of (option_map (λ object. object.now) creep.entry)
+        (option_map (λ object. object.now) target.entry) }
+{
+    Some((*creep?, *target?))
 }
 
 // The object of an id in a room.

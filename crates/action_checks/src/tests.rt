@@ -40,6 +40,7 @@ fn scene<'a>(
         player,
         actor: actor.map(|object| Standing { room: 0, object }),
         target: target.map(|(room, object)| Standing { room, object }),
+        around: None,
         amount,
         least,
     }

@@ -1,5 +1,5 @@
 -- Energy that falls, and what a creep drops, keep the rules of a room.
-use Rattle.std.proofs.Common.{◌≡◌, ℕ, ◌+◌, ◌-◌, ◌≤◌, ◌==◌, ◌&&◌, min, nat_lt, if◌then◌else◌, Bool, true, false, cond, List, [], ◌∷◌, map, Option, Some, None, refl, sym, ap, subst, ◌∙◌, inl, inr, arith}
+use Rattle.std.proofs.Common.{◌≡◌, ℕ, ◌+◌, ◌-◌, ◌≤◌, ◌==◌, ◌&&◌, min, if◌then◌else◌, Bool, true, false, cond, List, [], ◌∷◌, map, Option, Some, None, refl, sym, ap, subst, ◌∙◌, inl, inr, arith}
 use Rattle.std.specs.List as lists
 use Rattle.std.specs.Ordering.{nat_cmp, eq_by_cmp}
 use Rattle.std.specs.Cmp.{unsigned_tied}
@@ -21,15 +21,15 @@ use Rattle.world_rules.proofs.Checked.{and_left, and_right, creep_acts}
 use Rattle.world_rules.proofs.Keys.{AreKeysOnce, once_of_sorted}
 use Rattle.room_rules.specs.Within.{IsInRangeIn}
 use Rattle.room_rules.specs.RoomRules.{Holds, KeepsRoomRules}
-use Rattle.room_rules.proofs.Keeps.{IsSame, keeps_object, keeps_new}
+use Rattle.room_rules.proofs.Keeps.{keeps_changed, keeps_new}
 
 -- ---- tests
 
-both_true : (a b : Bool) → a ≡ true → b ≡ true → (a && b) ≡ true
+pub both_true : (a b : Bool) → a ≡ true → b ≡ true → (a && b) ≡ true
 both_true true b one other = other
 both_true false b one other = absurd (cc)
 
-is_creep_kind : (k : Kind) → is_creep k ≡ true → k ≡ Creep
+pub is_creep_kind : (k : Kind) → is_creep k ≡ true → k ≡ Creep
 is_creep_kind Creep is = refl
 is_creep_kind k is = absurd (cc)
 
@@ -62,7 +62,7 @@ found_of_entries test (e ∷ es) o once is =
     both_found : (o : Object) (found : Option Object) → found ≡ None → found ≡ Some o → ⊥
     both_found o found none some = cc
 
-none_of_entries : (test : Object → Bool) (es : List (ℕ × Object)) (m : ℕ) (q : Object) → lists.find test (map (λ (e : ℕ × Object). e.1) es) ≡ None → find nat_cmp m es ≡ Some q → test q ≡ false
+pub none_of_entries : (test : Object → Bool) (es : List (ℕ × Object)) (m : ℕ) (q : Object) → lists.find test (map (λ (e : ℕ × Object). e.1) es) ≡ None → find nat_cmp m es ≡ Some q → test q ≡ false
 none_of_entries test [] m q none is = absurd (cc)
 none_of_entries test (e ∷ es) m q none is =
     elim (test e.1) as (λ b. test e.1 ≡ b → cond b (Some e.1) (lists.find test (map (λ (e : ℕ × Object). e.1) es)) ≡ None → test q ≡ false) [
@@ -129,14 +129,8 @@ module _ (players : ℕ → Bool) (within : Bool) where
       let at = pile_there x y part pile is in
       let kind = is_pile_kind pile.kind (pile_parts x y pile at.2).0 in
       let grown : Object = record pile { energy = min pile_bound (pile.energy + amount) } in
-      keeps_object players within part k grown (λ old there.
-      (let here : Holds part pile.id pile = subst (λ (n : ℕ). Holds part n pile) (sym (k.ids at.0 pile at.1)) at.1 in
-      let one : pile ≡ old = only_one pile old (get part.objects pile.id) here there in
-      subst (λ (o : Object). IsSame o grown × (IsInRangeIn o.kind within o → IsInRangeIn grown.kind within grown)) one
-      (record { id = refl; kind = refl; x = refl; y = refl; owner = refl; other = refl }, grown_range within pile amount kind)))
-    where
-      only_one : (one other : Object) (found : Option Object) → found ≡ Some one → found ≡ Some other → one ≡ other
-      only_one one other found is at = cc
+      keeps_changed players within part k at.0 pile grown at.1
+      (record { id = refl; kind = refl; x = refl; y = refl; owner = refl; other = refl }) (grown_range within pile amount kind)
   on_keeps part k x y amount tile some None is =
       let new : Object = pile_of (next_id part) x y (min pile_bound amount) in
       keeps_new players within part k (λ id. pile_of id x y (min pile_bound amount)) (record {
@@ -183,16 +177,11 @@ module _ (players : ℕ → Bool) (within : Bool) where
 
   lessened : (part : RoomPart) → Kept part → (id : ℕ) (c : Object) → Holds part id c → is_creep c.kind ≡ true → (amount : ℕ) → Kept (with_object (record c { energy = c.energy - amount }) part)
   lessened part k id c there creep amount =
-      keeps_object players within part k (record c { energy = c.energy - amount }) (λ old found.
-      (let here : Holds part c.id c = subst (λ (n : ℕ). Holds part n c) (sym (k.ids id c there)) there in
-      let one : c ≡ old = only_one c old (get part.objects c.id) here found in
-      subst (λ (o : Object). IsSame o (record c { energy = c.energy - amount }) × (IsInRangeIn o.kind within o → IsInRangeIn c.kind within (record c { energy = c.energy - amount }))) one
-      (record { id = refl; kind = refl; x = refl; y = refl; owner = refl; other = refl }, less_range c amount creep)))
-    where
-      only_one : (one other : Object) (found : Option Object) → found ≡ Some one → found ≡ Some other → one ≡ other
-      only_one one other found is at = cc
+      keeps_changed players within part k id c (record c { energy = c.energy - amount }) there
+      (record { id = refl; kind = refl; x = refl; y = refl; owner = refl; other = refl }) (less_range c amount creep)
 
-  open_still : (part : RoomPart) (object : Object) (found : Option Object) (x y : ℕ) → get part.objects object.id ≡ found → IsOpen part.grounds x y → IsOpen (with_object object part).grounds x y
+  -- a tile stays open where an object was put in the place of its own
+  pub open_still : (part : RoomPart) (object : Object) (found : Option Object) (x y : ℕ) → get part.objects object.id ≡ found → IsOpen part.grounds x y → IsOpen (with_object object part).grounds x y
   open_still part object found x y is tile = subst (λ (g : List Ground). IsOpen g x y) (sym (same_grounds (get part.objects object.id))) tile
     where
       same_grounds : (old : Option Object) → (put object part old).grounds ≡ part.grounds

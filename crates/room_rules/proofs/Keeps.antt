@@ -39,6 +39,14 @@ right_owner players one other same right = record {
   other = λ some. (let r = right.other (λ none. some (same.other ∙ none)) in (ap players same.other ∙ r.0, ap is_controller same.kind ∙ r.1));
 }
 
+-- An object that is found after one was put is that, or was found before.
+pub put_or_before : {P : Type 0} (part : RoomPart) (key : ℕ) (o : Object) (id : ℕ) (p : Object) → get (insert part.objects key o) id ≡ Some p → (id ≡ key → o ≡ p → P) → (Holds part id p → P) → P
+put_or_before {P} part key o id p is put before =
+    elim (id == key) as (λ b. (id == key) ≡ b → cond b (Some o) (get part.objects id) ≡ Some p → P) [
+      | true ↦ λ same got. (let one : o ≡ p = cc in put (eqb-true id key same) one)
+      | false ↦ λ apart got. before got
+    ] refl (sym (get-insert nat_cmp_total part.objects key o id ∙ ap (λ (b : Bool). cond b (Some o) (get part.objects id)) (unsigned_tied id key)) ∙ is)
+
 module _ (players : ℕ → Bool) (within : Bool) where
   abbrev Kept : RoomPart → Type 0
   Kept part = KeepsRoomRules players within part
@@ -73,14 +81,6 @@ module _ (players : ℕ → Bool) (within : Bool) where
 
   -- ---- an object in the place of one
 
-  -- an object that is found after one was put is that, or was found before
-  pub put_or_before : {P : Type 0} (part : RoomPart) (key : ℕ) (o : Object) (id : ℕ) (p : Object) → get (insert part.objects key o) id ≡ Some p → (id ≡ key → o ≡ p → P) → (Holds part id p → P) → P
-  put_or_before {P} part key o id p is put before =
-      elim (id == key) as (λ b. (id == key) ≡ b → cond b (Some o) (get part.objects id) ≡ Some p → P) [
-        | true ↦ λ same got. (let one : o ≡ p = cc in put (eqb-true id key same) one)
-        | false ↦ λ apart got. before got
-      ] refl (sym (get-insert nat_cmp_total part.objects key o id ∙ ap (λ (b : Bool). cond b (Some o) (get part.objects id)) (unsigned_tied id key)) ∙ is)
-
   put_keeps : (part : RoomPart) → Kept part → (object : Object) (found : Option Object) → get part.objects object.id ≡ found
       → ((old : Object) → Holds part object.id old → IsSame old object × (IsInRangeIn old.kind within old → IsInRangeIn object.kind within object)) → Kept (put object part found)
   put_keeps part k object None is alike = k
@@ -94,6 +94,17 @@ module _ (players : ℕ → Bool) (within : Bool) where
   pub keeps_object : (part : RoomPart) → Kept part → (object : Object)
       → ((old : Object) → Holds part object.id old → IsSame old object × (IsInRangeIn old.kind within old → IsInRangeIn object.kind within object)) → Kept (with_object object part)
   keeps_object part k object alike = put_keeps part k object (get part.objects object.id) refl alike
+
+  -- An object of the room changes, and stays in its ranges.
+  pub keeps_changed : (part : RoomPart) → Kept part → (id : ℕ) (old new : Object) → Holds part id old → IsSame old new → (IsInRangeIn old.kind within old → IsInRangeIn new.kind within new) → Kept (with_object new part)
+  keeps_changed part k id old new h same range =
+      keeps_object part k new (λ other there.
+      (let here : Holds part new.id old = subst (λ (n : ℕ). Holds part n old) (sym (same.id ∙ k.ids id old h)) h in
+      let one : old ≡ other = only_one old other (get part.objects new.id) here there in
+      subst (λ (o : Object). IsSame o new × (IsInRangeIn o.kind within o → IsInRangeIn new.kind within new)) one (same, range)))
+    where
+      only_one : (one other : Object) (found : Option Object) → found ≡ Some one → found ≡ Some other → one ≡ other
+      only_one one other found is at = cc
 
   -- ---- an object less
 
@@ -177,13 +188,7 @@ module _ (players : ℕ → Bool) (within : Bool) where
     left_keeps object part h k None is = keeps_without part k object.id
     left_keeps object part h k (Some after) is =
         let alike = same object after is in
-        keeps_object part k after (λ old there.
-        (let got : Holds part object.id old = subst (λ (n : ℕ). Holds part n old) alike.0.id there in
-        let one : object ≡ old = only_one object old (get part.objects object.id) h got in
-        subst (λ (o : Object). IsSame o after × (IsInRangeIn o.kind within o → IsInRangeIn after.kind within after)) one alike))
-      where
-        only_one : (one other : Object) (found : Option Object) → found ≡ Some one → found ≡ Some other → one ≡ other
-        only_one one other found is at = cc
+        keeps_changed part k object.id object after h alike.0 alike.1
 
     pub keeps_each : (part : RoomPart) → Kept part → Kept (each change part)
     keeps_each = keeps_over (λ object part. with_left object.id part (change object)) (λ object part h k. left_keeps object part h k (change object) refl)

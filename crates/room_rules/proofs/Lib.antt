@@ -3,4 +3,11 @@ pub mod Falls
 pub mod Steps
 pub mod Sound
 pub mod Followed
+pub mod Changed
+pub mod Amounts
+pub mod Loads
+pub mod Work
+pub mod Sites
+pub mod Built
 pub mod Rules
+pub mod Calls

@@ -61,7 +61,7 @@ last_turned false false false true false = refl
 last_turned false false false false true = refl
 last_turned false false false false false = refl
 
-clash_turned : (one other : Kind) → clash one other ≡ clash other one
+pub clash_turned : (one other : Kind) → clash one other ≡ clash other one
 clash_turned one other =
     (λ i. and_comm (is_creep one) (is_creep other) i || and_comm (is_pile one) (is_pile other) i || and_comm (stands_fixed one) (stands_fixed other) i || and_comm (is_creep one) (obstructs other) i || and_comm (obstructs one) (is_creep other) i)
     ∙ last_turned (is_creep other && is_creep one) (is_pile other && is_pile one) (stands_fixed other && stands_fixed one) (obstructs other && is_creep one) (is_creep other && obstructs one)

@@ -4,9 +4,9 @@ use Rattle.game_tables.specs.declared.kind.Kind.{Kind}
 use Rattle.game_tables.specs.declared.kind.Kind.TheVariants.{Source, Pile}
 use Rattle.game_tables.specs.Kinds.{source_capacity, renewal_ticks, pile_decay}
 use Rattle.object_store.specs.declared.object.Object.{Object}
-use Rattle.world_rules.specs.RoomParts.{RoomPart}
+use Rattle.world_rules.specs.RoomParts.{RoomPart, controller_of}
 use Rattle.object_store.specs.Controllers.{is_taken}
-use Rattle.world_rules.specs.Upkeep.{controller_of, source_renewed, renewed_as, renewed, decayed_as, decayed}
+use Rattle.world_rules.specs.Upkeep.{source_renewed, renewed_as, renewed, decayed_as, decayed}
 use Rattle.world_rules.specs.Rules.{IsSource, IsPile}
 use Rattle.room_rules.specs.Within.{IsInRangeIn}
 use Rattle.room_rules.specs.RoomRules.{KeepsRoomRules}

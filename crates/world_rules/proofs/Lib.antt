@@ -12,3 +12,4 @@ pub mod Checked
 pub mod Orderly
 pub mod Listed
 pub mod Roomless
+pub mod TableParts

@@ -1,23 +1,27 @@
 -- The rules in force stay in their rooms.
-use Rattle.std.proofs.Common.{ℕ, ◌+◌, ◌-◌, ◌==◌, min, List, Option, Some, None}
+use Rattle.std.proofs.Common.{ℕ, ◌+◌, ◌-◌, ◌*◌, ◌==◌, min, nat_lt, List, Option, Some, None}
 use Rattle.std.specs.List.{filter, find}
 use Rattle.std.specs.FinMap.{get, values}
 use Rattle.game_tables.specs.Kinds.{source_capacity}
+use Rattle.game_tables.specs.declared.kind.Kind.{Kind}
 use Rattle.game_tables.specs.declared.action.Action.{Action}
-use Rattle.game_tables.specs.declared.action.Action.TheVariants.{DropLoad}
+use Rattle.game_tables.specs.declared.action.Action.TheVariants.{DropLoad, Transfer, Withdraw, Pickup, Harvest, Repair, Build}
 use Rattle.object_store.specs.Controllers.{is_taken}
+use Rattle.object_store.specs.Stores.{building_of, free_room}
 use Rattle.object_store.specs.declared.object.Object.{Object}
 use Rattle.intent_book.specs.declared.intent.Intent.{Intent}
-use Rattle.world_rules.specs.RoomParts.{RoomPart}
-use Rattle.world_rules.specs.Changes.{with_object}
+use Rattle.world_rules.specs.RoomParts.{RoomPart, controller_of}
+use Rattle.world_rules.specs.Changes.{with_object, without, with_new}
 use Rattle.world_rules.specs.RuleBook.{Sums, Follows, StaysInRoom, IsOrderly}
-use Rattle.world_rules.specs.Checks.{may_take_effect}
+use Rattle.world_rules.specs.Checks.{may_take_effect, parties, between, by_parties}
 use Rattle.world_rules.specs.Drops.{pile_bound, pile_on, pile_of, fallen_on, fallen, wanted_of, dropped_by, dropped_of}
+use Rattle.world_rules.specs.Loads.{with_more, with_less, handed_over, transferred_by, withdrawn_by, taken_from, picked_up_by}
+use Rattle.world_rules.specs.Work.{live_work, harvested_by, hits_gained, repair_cost, repaired_by, total_of, work_put, building_on, advanced, built_as, built_by}
 use Rattle.world_rules.specs.Steps.{over_objects}
 use Rattle.world_rules.specs.Movement.{Mover, movers, has_mover, stepped, worn_as, moved_by}
-use Rattle.world_rules.specs.Upkeep.{controller_of, renewed_as, decayed_as}
+use Rattle.world_rules.specs.Upkeep.{renewed_as, decayed_as}
 use Rattle.world_rules.specs.Tick.{rule_of, book}
-use Rattle.world_rules.proofs.Follows.{follows_self, follows_trans, follows_if, follows_object, follows_new, follows_over, follows_each}
+use Rattle.world_rules.proofs.Follows.{follows_self, follows_trans, follows_if, follows_object, follows_without, follows_new, follows_over, follows_each}
 
 on_follows : (pile : Option Object) (x y amount : ℕ) (part : RoomPart) → Follows part (fallen_on pile x y amount part)
 on_follows None x y amount part = follows_new (λ id. pile_of id x y (min pile_bound amount)) part
@@ -35,8 +39,65 @@ of_follows : (entry : Intent) (creep : Option Object) (part : RoomPart) → Foll
 of_follows entry None part = follows_self part
 of_follows entry (Some creep) part = follows_if (may_take_effect DropLoad entry part) part (dropped_by creep (wanted_of entry.amount creep.energy) part) part (by_follows creep (wanted_of entry.amount creep.energy) part) (follows_self part)
 
+-- ---- what a creep does with a target
+
+module _ (action : Action) (change : Object → Object → RoomPart → RoomPart) (stays : (creep target : Object) → StaysInRoom (change creep target)) where
+  between_follows : (found : Option (Object × Object)) → StaysInRoom (between change found)
+  between_follows None part = follows_self part
+  between_follows (Some found) part = stays found.0 found.1 part
+
+  follows_parties : (entry : Intent) → StaysInRoom (by_parties action change entry)
+  follows_parties entry part = between_follows (parties action entry part) part
+
+-- two objects put one after the other
+two_follow : (one other : Object) → StaysInRoom (λ part. with_object one (with_object other part))
+two_follow one other part = follows_trans part (with_object other part) (with_object one (with_object other part)) (follows_object other part) (follows_object one (with_object other part))
+
+hand_follows : (amount : ℕ) (giver taker : Object) → StaysInRoom (handed_over amount giver taker)
+hand_follows amount giver taker = two_follow (with_more amount taker) (with_less amount giver)
+
+taken_follows : (pile : Object) (amount : ℕ) → StaysInRoom (taken_from pile amount)
+taken_follows pile amount part = follows_if (amount == pile.energy) part (without pile.id part) (with_object (with_less amount pile) part) (follows_without pile.id part) (follows_object (with_less amount pile) part)
+
+pick_follows : (creep pile : Object) → StaysInRoom (picked_up_by creep pile)
+pick_follows creep pile part =
+    let amount : ℕ = min pile.energy (free_room (controller_of part) creep) in
+    let less : RoomPart = taken_from pile amount part in
+    follows_trans part less (with_object (with_more amount creep) less) (taken_follows pile amount part) (follows_object (with_more amount creep) less)
+
+harvest_follows : (creep source : Object) → StaysInRoom (harvested_by creep source)
+harvest_follows creep source part =
+    let amount : ℕ = min (2 * live_work creep) source.energy in
+    let taken : ℕ = min amount (free_room (controller_of part) creep) in
+    let less : RoomPart = with_object (with_more taken creep) (with_object (with_less amount source) part) in
+    follows_trans part less (harvested_by creep source part) (two_follow (with_more taken creep) (with_less amount source) part) (follows_fallen creep.x creep.y (amount - taken) less)
+
+repair_follows : (creep building : Object) → StaysInRoom (repaired_by creep building)
+repair_follows creep building = two_follow (record building { hits = building.hits + hits_gained creep building }) (with_less (repair_cost (hits_gained creep building)) creep)
+
+advance_follows : (kind : Kind) (site : Object) → StaysInRoom (advanced kind site)
+advance_follows kind site part =
+    let gone : RoomPart = without site.id part in
+    follows_if (nat_lt site.progress (total_of kind)) part (with_object site part) (with_new (building_on kind part site) gone) (follows_object site part)
+    (follows_trans part gone (with_new (building_on kind part site) gone) (follows_without site.id part) (follows_new (building_on kind part site) gone))
+
+build_follows : (creep site : Object) (kind : Option Kind) → StaysInRoom (built_as kind creep site)
+build_follows creep site None part = follows_self part
+build_follows creep site (Some kind) part =
+    let work : ℕ = work_put kind creep site in
+    let less : RoomPart = with_object (with_less work creep) part in
+    follows_trans part less (built_as (Some kind) creep site part) (follows_object (with_less work creep) part) (advance_follows kind (record site { progress = site.progress + work }) less)
+
+-- ---- all rules
+
 rule_follows : (action : Action) (entry : Intent) → StaysInRoom (λ part. (rule_of action entry part).part)
 rule_follows DropLoad entry part = of_follows entry (get part.objects entry.actor) part
+rule_follows Transfer entry part = follows_parties Transfer (transferred_by entry.amount) (λ creep target now. hand_follows (min (wanted_of entry.amount creep.energy) (free_room (controller_of now) target)) creep target now) entry part
+rule_follows Withdraw entry part = follows_parties Withdraw (withdrawn_by entry.amount) (λ creep store now. hand_follows (min (wanted_of entry.amount store.energy) (free_room (controller_of now) creep)) store creep now) entry part
+rule_follows Pickup entry part = follows_parties Pickup picked_up_by pick_follows entry part
+rule_follows Harvest entry part = follows_parties Harvest harvested_by harvest_follows entry part
+rule_follows Repair entry part = follows_parties Repair repaired_by repair_follows entry part
+rule_follows Build entry part = follows_parties Build built_by (λ creep site. build_follows creep site (building_of site)) entry part
 rule_follows _ entry part = follows_self part
 
 rests : (sums : Sums) → StaysInRoom (λ part. part)

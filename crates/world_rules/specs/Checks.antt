@@ -3,16 +3,21 @@
 -- action reads them of the room.
 use Rattle.std.specs.Prelude.{ℕ, ◌==◌, ◌&&◌, ◌||◌, not, max, nat_lt, nat_le, Bool, true, false, if◌then◌else◌, List, [], ◌∷◌, ◌++◌, Option, Some, None, option_map}
 use Rattle.std.specs.Option.{is_some, unwrap_or}
-use Rattle.std.specs.FinMap.{get}
+use Rattle.std.specs.FinMap.{get, values}
 use Rattle.game_tables.specs.Actions.{is_target, max_range, needed_part}
 use Rattle.game_tables.specs.Bodies.{live_count}
-use Rattle.game_tables.specs.Kinds.{is_creep}
+use Rattle.game_tables.specs.Kinds.{is_creep, obstructs}
 use Rattle.game_tables.specs.declared.action.Action.{Action}
-use Rattle.game_tables.specs.declared.action.Action.TheVariants.{DropLoad, Heal, RangedHeal}
+use Rattle.game_tables.specs.declared.action.Action.TheVariants.{DropLoad, Transfer, Withdraw, Pickup, Heal, RangedHeal, Harvest, Repair, Build}
 use Rattle.game_tables.specs.declared.code.Code.{Code}
-use Rattle.game_tables.specs.declared.code.Code.TheVariants.{Done, NotOwner, NotFound, NotEnoughResources, InvalidTarget, NotInRange, InvalidArgs, NoBodypart}
+use Rattle.game_tables.specs.declared.code.Code.TheVariants.{Done, NotOwner, NotFound, NotEnoughResources, InvalidTarget, Full, NotInRange, InvalidArgs, NoBodypart}
+use Rattle.game_tables.specs.declared.kind.Kind.{Kind}
+use Rattle.game_tables.specs.declared.kind.Kind.TheVariants.{Creep}
 use Rattle.game_tables.specs.declared.kind.Part.{Part}
 use Rattle.room_terrain.specs.Geometry.{distance}
+use Rattle.object_store.specs.Controllers.{controller_among, is_anothers}
+use Rattle.object_store.specs.Stores.{building_of, free_room}
+use Rattle.object_store.specs.Tables.{first_on, is_barred}
 use Rattle.object_store.specs.declared.object.Object.{Object}
 use Rattle.intent_book.specs.declared.intent.Intent.{Intent}
 use Rattle.world_rules.specs.World.{Placed}
@@ -36,12 +41,14 @@ all_hold (check ∷ later) = check.0 && all_hold later
 
 -- ---- what a check reads
 
--- The player who acts, and what stands under the ids of the actor and of the target. The amount is none where
--- it is negative; the least is how much there has to be.
+-- The player who acts, what stands under the ids of the actor and of the target, and all that stands in the
+-- room of the actor, by rising id. The amount is none where it is negative; the least is how much there has
+-- to be.
 pub record Scene : Type 0 where
   pub player : ℕ
   pub actor : Option Placed
   pub target : Option Placed
+  pub around : List Object
   pub amount : Option ℕ
   pub least : ℕ
 
@@ -103,10 +110,49 @@ target_checks (Some range) action scene =
     ∷ (are_near range scene.actor scene.target, NotInRange)
     ∷ []
 
--- The further checks of each action that is in force.
+-- ---- the further checks of each action that is in force
+
+-- the controller of the room of the actor
+abbrev pub controller_around : Scene → Option Object
+controller_around scene = controller_among scene.around
+
+-- The object holds at least so much.
+abbrev pub holds_least : ℕ → Option Placed → Check
+holds_least least holder = (holds_of holder (λ object. nat_le least object.energy), NotEnoughResources)
+
+-- It takes at least so much more.
+abbrev pub takes_least : ℕ → Option Placed → Scene → Check
+takes_least least taker scene =
+    (holds_of taker (λ object. nat_le least (free_room (controller_around scene) object)), Full)
+
+-- The tile of the target is not barred to the player.
+abbrev pub is_reachable : Scene → Object → Bool
+is_reachable scene target = not (is_barred target.x target.y scene.player scene.around)
+
+-- A building of this kind obstructs.
+abbrev pub would_obstruct : Option Kind → Bool
+would_obstruct None = false
+would_obstruct (Some kind) = obstructs kind
+
+-- A creep stands where the building of a site would obstruct it.
+abbrev pub is_in_the_way : List Object → Object → Bool
+is_in_the_way around site = would_obstruct (building_of site) && is_some (first_on site.x site.y Creep around)
+
 abbrev pub further_checks : Action → Scene → List Check
-further_checks DropLoad scene =
-    (holds_of scene.actor (λ creep. nat_le scene.least creep.energy), NotEnoughResources) ∷ []
+further_checks DropLoad scene = holds_least scene.least scene.actor ∷ []
+further_checks Transfer scene =
+    holds_least scene.least scene.actor ∷ takes_least scene.least scene.target scene ∷ []
+further_checks Withdraw scene =
+    (holds_of scene.target (is_reachable scene), NotOwner)
+    ∷ holds_least scene.least scene.target ∷ takes_least scene.least scene.actor scene ∷ []
+further_checks Pickup scene = takes_least 1 scene.actor scene ∷ []
+further_checks Harvest scene =
+    (not (is_anothers scene.player (controller_around scene)), NotOwner) ∷ holds_least 1 scene.target ∷ []
+further_checks Repair scene = holds_least 1 scene.actor ∷ []
+further_checks Build scene =
+    (holds_of scene.target (λ site. site.owner == scene.player), NotOwner)
+    ∷ holds_least 1 scene.actor
+    ∷ (holds_of scene.target (λ site. not (is_in_the_way scene.around site)), InvalidTarget) ∷ []
 further_checks _ scene = []
 
 abbrev pub checks : Action → Scene → List Check
@@ -121,18 +167,47 @@ abbrev pub standing_at : RoomPart → ℕ → Option Placed
 standing_at part id =
     option_map (λ object. record { room = part.index; object = object }) (get part.objects id)
 
--- What a rule reads: at least 1 has to be there, whatever the amount.
-abbrev pub scene_of : Intent → Option Placed → Option Placed → Scene
-scene_of entry actor target =
-    record { player = entry.player; actor = actor; target = target; amount = Some entry.amount; least = 1 }
+-- What a rule reads, with all that stands in the room: at least 1 has to be there, whatever the amount.
+abbrev pub scene_of : Intent → List Object → Option Placed → Option Placed → Scene
+scene_of entry around actor target = record {
+  player = entry.player;
+  actor = actor;
+  target = target;
+  around = around;
+  amount = Some entry.amount;
+  least = 1;
+}
 
--- The rule of an action does something with an entry, where these are its actor and its target: the checks
--- hold, and the actor has hits.
-abbrev pub takes_effect : Action → Intent → Option Placed → Option Placed → Bool
-takes_effect action entry actor target =
-    all_hold (checks action (scene_of entry actor target))
+-- The rule of an action does something with an entry, where this stands in the room, and these are its actor
+-- and its target: the checks hold, and the actor has hits.
+abbrev pub takes_effect : Action → Intent → List Object → Option Placed → Option Placed → Bool
+takes_effect action entry around actor target =
+    all_hold (checks action (scene_of entry around actor target))
     && holds_of actor (λ creep. nat_lt 0 creep.hits)
 
 abbrev pub may_take_effect : Action → Intent → RoomPart → Bool
 may_take_effect action entry part =
-    takes_effect action entry (standing_at part entry.actor) (standing_at part entry.target)
+    takes_effect action entry (values part.objects)
+    (standing_at part entry.actor) (standing_at part entry.target)
+
+-- ---- the creep and the target of an entry
+
+-- two objects, where both are there
+abbrev pub both_of : Option Object → Option Object → Option (Object × Object)
+both_of (Some creep) (Some target) = Some (creep, target)
+both_of _ _ = None
+
+-- the creep and the target of an entry, where the rule of the action does something with it
+abbrev pub parties : Action → Intent → RoomPart → Option (Object × Object)
+parties action entry part =
+    if may_take_effect action entry part
+    then both_of (get part.objects entry.actor) (get part.objects entry.target) else None
+
+-- a change by a creep and its target, where they are there
+abbrev pub between : (Object → Object → RoomPart → RoomPart) → Option (Object × Object) → RoomPart → RoomPart
+between change None part = part
+between change (Some found) part = change found.0 found.1 part
+
+-- what the rule of an action makes of a part, by what it makes of it with the creep and the target
+abbrev pub by_parties : Action → (Object → Object → RoomPart → RoomPart) → Intent → RoomPart → RoomPart
+by_parties action change entry part = between change (parties action entry part) part

@@ -5,6 +5,8 @@ pub mod Steps
 pub mod RuleBook
 pub mod Checks
 pub mod Drops
+pub mod Loads
+pub mod Work
 pub mod Intents
 pub mod Upkeep
 pub mod Tick

@@ -2,8 +2,9 @@
 use Rattle.std.specs.Prelude.{ℕ, ◌==◌, not, if◌then◌else◌, List, [], ◌∷◌, ◌++◌, map, Option, Some, None, option_map}
 use Rattle.std.specs.List.{filter, filter_map}
 use Rattle.std.specs.Ordering.{nat_cmp}
-use Rattle.std.specs.FinMap.{FinMap, get, insert, keys, from_entries, entries}
+use Rattle.std.specs.FinMap.{FinMap, get, insert, keys, values, from_entries, entries}
 use Rattle.room_terrain.specs.declared.terrain.Ground.{Ground}
+use Rattle.object_store.specs.Controllers.{controller_among}
 use Rattle.object_store.specs.declared.object.Object.{Object}
 use Rattle.object_store.specs.Tables.{Table}
 use Rattle.world_rules.specs.World.{Placed, Frame, World, stands_in}
@@ -26,6 +27,10 @@ table_part grounds table = record {
   next = table.next;
   objects = from_entries (map (λ object. (object.id, object)) table.objects);
 }
+
+-- the controller of a room
+abbrev pub controller_of : RoomPart → Option Object
+controller_of part = controller_among (values part.objects)
 
 -- the object of an entry, where it stands in this room
 abbrev pub standing_in : ℕ → ℕ × Placed → Option (ℕ × Object)

@@ -4,12 +4,14 @@ use Rattle.std.specs.List.{filter, find, filter_map, flat_map, sum_by}
 use Rattle.std.specs.FinMap.{from_entries, entries}
 use Rattle.std.specs.Option.{option_to_list}
 use Rattle.game_tables.specs.declared.action.Action.{Action}
-use Rattle.game_tables.specs.declared.action.Action.TheVariants.{DropLoad, Move}
+use Rattle.game_tables.specs.declared.action.Action.TheVariants.{DropLoad, Transfer, Withdraw, Pickup, Harvest, Repair, Build, Move}
 use Rattle.game_tables.specs.Limits.{most_bucket, most_points, unit_instructions}
 use Rattle.object_store.specs.declared.account.Account.{Account}
 use Rattle.intent_book.specs.declared.intent.Intent.{Intent}
 use Rattle.intent_book.specs.declared.player_run.PlayerRun.{PlayerRun}
 use Rattle.world_rules.specs.Drops.{dropped}
+use Rattle.world_rules.specs.Loads.{transferred, withdrawn, picked_up}
+use Rattle.world_rules.specs.Work.{harvested, repaired, built}
 use Rattle.world_rules.specs.Upkeep.{steps}
 use Rattle.world_rules.specs.World.{World}
 use Rattle.world_rules.specs.RoomParts.{RoomPart, part_at, in_room, in_every_room}
@@ -144,6 +146,12 @@ gained book world list player = points_of player (inner book world list).gains
 -- the rule of each action
 abbrev pub rule_of : Action → Intent → RoomPart → Effect
 rule_of DropLoad entry part = changes_to (dropped entry part)
+rule_of Transfer entry part = changes_to (transferred entry part)
+rule_of Withdraw entry part = changes_to (withdrawn entry part)
+rule_of Pickup entry part = changes_to (picked_up entry part)
+rule_of Harvest entry part = changes_to (harvested entry part)
+rule_of Repair entry part = changes_to (repaired entry part)
+rule_of Build entry part = changes_to (built entry part)
 rule_of action entry part = changes_to part
 
 abbrev pub book : RuleBook

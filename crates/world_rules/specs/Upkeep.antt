@@ -1,21 +1,15 @@
 -- The steps of upkeep at the end of a tick. Each is a change of a room's part, over its objects in rising id.
-use Rattle.std.specs.Prelude.{ℕ, ◌-◌, ◌==◌, ◌||◌, not, max, Bool, false, nat_lt, if◌then◌else◌, List, [], ◌∷◌, Option, Some, None}
-use Rattle.std.specs.List.{find}
-use Rattle.std.specs.FinMap.{values}
-use Rattle.game_tables.specs.Kinds.{source_capacity, renewal_ticks, pile_decay, is_controller}
+use Rattle.std.specs.Prelude.{ℕ, ◌-◌, ◌==◌, max, nat_lt, if◌then◌else◌, List, [], ◌∷◌, Option, Some, None}
+use Rattle.game_tables.specs.Kinds.{source_capacity, renewal_ticks, pile_decay}
 use Rattle.game_tables.specs.declared.kind.Kind.{Kind}
 use Rattle.game_tables.specs.declared.kind.Kind.TheVariants.{Source, Pile}
-use Rattle.object_store.specs.Controllers.{controller_among, is_taken}
+use Rattle.object_store.specs.Controllers.{is_taken}
 use Rattle.object_store.specs.declared.object.Object.{Object}
-use Rattle.world_rules.specs.RoomParts.{RoomPart}
+use Rattle.world_rules.specs.RoomParts.{RoomPart, controller_of}
 use Rattle.world_rules.specs.RuleBook.{Step}
 use Rattle.world_rules.specs.Steps.{each}
 
 -- ---- sources
-
--- the controller of a room
-abbrev pub controller_of : RoomPart → Option Object
-controller_of part = controller_among (values part.objects)
 
 -- A timer above 0 falls by 1, and at 0 the energy becomes at least the capacity. A source with timer 0 and
 -- less than its capacity gets the timer to its renewal.

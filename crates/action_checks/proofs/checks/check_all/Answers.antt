@@ -4,7 +4,7 @@ use Rattle.game_tables.specs.Actions.{max_range, needed_part}
 use Rattle.game_tables.specs.declared.kind.Part.{Part}
 use Rattle.world_rules.specs.Checks.{all_hold, amount_checks, creep_checks, first_failing, further_checks, part_checks, target_checks}
 use Rattle.action_checks.specs.Scenes.{scene_view}
-use Rattle.action_checks.proofs.Passing.{fails_between, hold_both}
+use Rattle.action_checks.proofs.Passing.{fails_between, hold_both, passes_later}
 use Rattle.action_checks.proofs.checks.check_all.Goals as goal
 
 pub returns-in_err-check_target : goal.returns-in_err-check_target
@@ -19,3 +19,14 @@ returns-in_err-check_target c =
     let live = subst (λ (needed : Option Part). all_hold (part_checks needed scene) ≡ true) c.needed_part.ensures c.in_ok-check_part.ensures in
     let first = hold_both (creep_checks scene ++ amount_checks scene) part (hold_both (creep_checks scene) (amount_checks scene) c.in_ok-check_creep.ensures c.in_ok-check_amount.ensures) live in
     rw (p.1, p.2) (fails_between (creep_checks scene ++ amount_checks scene ++ part) target (further_checks action scene) code first fails)
+
+pub returns : goal.returns
+returns c =
+    let action = c.args.action in
+    let scene = scene_view c.args.scene.now in
+    let live = subst (λ (needed : Option Part). all_hold (part_checks needed scene) ≡ true) c.needed_part.ensures c.in_ok-check_part.ensures in
+    let near = subst (λ (range : Option ℕ). all_hold (target_checks range action scene) ≡ true) c.max_range.ensures c.in_ok-check_target.ensures in
+    let part = part_checks (needed_part action) scene in
+    let first = hold_both (creep_checks scene ++ amount_checks scene) part (hold_both (creep_checks scene) (amount_checks scene) c.in_ok-check_creep.ensures c.in_ok-check_amount.ensures) live in
+    let front = creep_checks scene ++ amount_checks scene ++ part in
+    passes_later (front ++ target_checks (max_range action) action scene) (further_checks action scene) c.check_further.result (hold_both front (target_checks (max_range action) action scene) first near) c.check_further.ensures

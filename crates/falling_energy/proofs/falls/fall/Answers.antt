@@ -3,9 +3,9 @@ use Rattle.object_store.specs.declared.object.Object.{Object}
 use Rattle.object_store.specs.Tables.{IsOnTile, with_object, with_new}
 use Rattle.world_rules.specs.RoomParts.{table_part}
 use Rattle.world_rules.specs.Drops.{is_pile_on, pile_bound, pile_of}
-use Rattle.falling_energy.proofs.Piles.{found_by_id, found_on_tile}
+use Rattle.world_rules.proofs.TableParts.{found_by_id, found_on_tile, tiles_new, tiles_replaced}
 use Rattle.room_rules.specs.Calls.{Keeps}
-use Rattle.falling_energy.proofs.Parts.{fallen_grown, fallen_made, tiles_new, tiles_replaced}
+use Rattle.falling_energy.proofs.Parts.{fallen_grown, fallen_made}
 use Rattle.falling_energy.proofs.falls.fall.Goals as goal
 
 pub set-requires-clause-tile : goal.set-requires-clause-tile

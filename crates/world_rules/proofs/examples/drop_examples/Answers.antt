@@ -1,9 +1,9 @@
 -- What the definitions of what a creep drops give in worked examples.
-use Rattle.std.proofs.Common.{◌≡◌, ℕ, ◌+◌, ◌-◌, ◌==◌, min, Bool, true, false, if◌then◌else◌, nat_lt, List, [], ◌∷◌, map, Option, Some, None, option_map, refl, ap, ◌∙◌}
+use Rattle.std.proofs.Common.{◌≡◌, ℕ, ◌+◌, ◌-◌, ◌==◌, min, Bool, true, false, if◌then◌else◌, List, [], ◌∷◌, map, Option, Some, None, option_map, refl, ap, ◌∙◌}
 use Rattle.std.specs.List.{find}
 use Rattle.std.specs.Ordering.{nat_cmp}
 use Rattle.std.specs.Cmp.{nat_cmp_total}
-use Rattle.std.specs.FinMap.{get, put, insert, entries, get-insert, get-from_entries, entries-insert}
+use Rattle.std.specs.FinMap.{get, put, insert, entries, values, get-insert, get-from_entries, entries-insert}
 use Rattle.object_store.specs.declared.object.Object.{Object}
 use Rattle.game_tables.specs.declared.action.Action.TheVariants.{DropLoad}
 use Rattle.world_rules.specs.World.{Placed}
@@ -50,14 +50,14 @@ in_room part object = record { room = part.index; object = object }
 
 -- an entry of this player takes effect, where this is the creep
 abbrev takes : ℕ → Object → ℕ → RoomPart → Bool
-takes player creep amount part = takes_effect DropLoad (drop_of player amount) (Some (in_room part creep)) (standing_at part 0)
+takes player creep amount part = takes_effect DropLoad (drop_of player amount) (values part.objects) (Some (in_room part creep)) (standing_at part 0)
 
 -- what is dropped falls on what lies on the tile
 falls_so : (part : RoomPart) (load amount all : ℕ) (found : Option Object) → get part.objects 3 ≡ Some (creep_with load) → takes 1 (creep_with load) amount part ≡ true → wanted_of amount load ≡ all → (all == 0) ≡ false → pile_on 30 30 (taken load all part) ≡ found
     → dropped (drop_of 1 amount) part ≡ fallen_on found 30 30 all (taken load all part)
 falls_so part load amount all found there some wanted falls lies =
     ap (λ (o : Option Object). dropped_of (drop_of 1 amount) o part) there
-    ∙ ap (λ (o : Option Object). if takes_effect DropLoad (drop_of 1 amount) (option_map (in_room part) o) (standing_at part 0) then dropped_by (creep_with load) (wanted_of amount load) part else part) there
+    ∙ ap (λ (o : Option Object). if takes_effect DropLoad (drop_of 1 amount) (values part.objects) (option_map (in_room part) o) (standing_at part 0) then dropped_by (creep_with load) (wanted_of amount load) part else part) there
     ∙ ap (λ (b : Bool). if b then dropped_by (creep_with load) (wanted_of amount load) part else part) some
     ∙ ap (λ (n : ℕ). dropped_by (creep_with load) n part) wanted
     ∙ ap (λ (p : RoomPart). fallen 30 30 all p) (held (creep_with (load - all)) (creep_with load) part there)
@@ -96,7 +96,7 @@ drops_nothing player hits load no_drop =
     let part : RoomPart = room_with (creep ∷ []) in
     let there = get-from_entries nat_cmp_total ((3, creep) ∷ []) 3 in
     ap (λ (o : Option Object). dropped_of (drop_of player 5) o part) there
-    ∙ ap (λ (o : Option Object). if takes_effect DropLoad (drop_of player 5) (option_map (in_room part) o) (standing_at part 0) then dropped_by creep (wanted_of 5 load) part else part) there
+    ∙ ap (λ (o : Option Object). if takes_effect DropLoad (drop_of player 5) (values part.objects) (option_map (in_room part) o) (standing_at part 0) then dropped_by creep (wanted_of 5 load) part else part) there
     ∙ ap (λ (b : Bool). if b then dropped_by creep (wanted_of 5 load) (room_with (creep ∷ [])) else room_with (creep ∷ [])) no_drop
 
 -- ---- the examples
