@@ -1,1 +1,4 @@
+pub mod Handed
 pub mod Loads
+pub mod Standing
+pub mod Taken

@@ -1,15 +1,15 @@
 -- What an entry to drop makes of a room's table and of the room's part.
-use Rattle.std.proofs.Common.{◌≡◌, ℕ, ◌-◌, Bool, true, false, if◌then◌else◌, List, Option, Some, None, sym, ap, ◌∙◌}
+use Rattle.std.proofs.Common.{◌≡◌, ◌-◌, Bool, true, false, if◌then◌else◌, List, Option, Some, None, sym, ap, ◌∙◌}
 use Rattle.room_terrain.specs.declared.terrain.Ground.{Ground}
 use Rattle.object_store.specs.declared.object.Object.{Object}
-use Rattle.object_store.specs.Tables.{Table, HasId, find_object, with_object}
+use Rattle.object_store.specs.Tables.{Table, find_object, with_object}
 use Rattle.intent_book.specs.declared.intent.Intent.{Intent}
 use Rattle.world_rules.specs.RoomParts.{RoomPart, table_part}
 use Rattle.game_tables.specs.declared.action.Action.TheVariants.{DropLoad}
 use Rattle.world_rules.specs.Checks.{may_take_effect}
 use Rattle.world_rules.specs.Drops.{dropped, dropped_by, dropped_of, fallen, wanted_of}
-use Rattle.falling_energy.proofs.Piles.{has_the_id}
-use Rattle.falling_energy.proofs.Parts.{get_table_part, part_replaced}
+use Rattle.world_rules.proofs.TableParts.{get_table_part, part_replaced}
+use Rattle.creep_logistics.proofs.Standing.{stands}
 
 -- the creep without what it drops
 abbrev pub emptied : Intent → Object → Object
@@ -18,10 +18,6 @@ emptied intent creep = record creep { energy = creep.energy - wanted_of intent.a
 -- the table with it
 abbrev pub left : Intent → Object → Table → Table
 left intent creep table = record table { objects = with_object (emptied intent creep) table.objects }
-
--- an object that is found stands there under its own id
-pub stands : (id : ℕ) (objects : List Object) (found : Object) → find_object id objects ≡ Some found → HasId found.id objects
-stands id objects found is = (found, ap (λ (n : ℕ). find_object n objects) (has_the_id id objects found is) ∙ is)
 
 module _ (grounds : List Ground) (table : Table) (intent : Intent) where
   abbrev part : RoomPart
@@ -44,4 +40,4 @@ module _ (grounds : List Ground) (table : Table) (intent : Intent) where
     dropped_by_creep may =
         of_actor (Some creep) is
         ∙ ap (λ (b : Bool). if b then dropped_by creep (wanted_of intent.amount creep.energy) part else part) may
-        ∙ ap (fallen creep.x creep.y (wanted_of intent.amount creep.energy)) (sym (part_replaced grounds table (emptied intent creep) (stands intent.actor table.objects creep is)))
+        ∙ ap (fallen creep.x creep.y (wanted_of intent.amount creep.energy)) (sym (part_replaced grounds table (emptied intent creep) (creep, stands intent.actor table.objects creep is)))

@@ -1,8 +1,13 @@
-// The rules of what creeps carry: dropping it.
+// The rules of what creeps carry: dropping it, handing it over, taking it and picking it up.
 #![tactic(auto)]
 
+mod amounts;
+mod handing;
 mod load;
+mod picking;
 #[cfg(test)]
 mod tests;
 
+pub use handing::{transfer, withdraw};
 pub use load::drop_load;
+pub use picking::pickup;

@@ -2,9 +2,10 @@
 ghost use Rattle.std.specs.Prelude.{◌≡◌, List};
 ghost use Rattle.room_terrain.specs.declared.terrain.Ground.{Ground};
 ghost use Rattle.world_rules.specs.RoomParts.{table_part};
-ghost use Rattle.world_rules.specs.Drops.{dropped, wanted_of};
+ghost use Rattle.world_rules.specs.Drops.{dropped};
 ghost use Rattle.room_rules.specs.Calls.{IsReady, Keeps};
 
+use crate::amounts::wanted;
 use action_checks::takes_effect;
 use falling_energy::fall;
 use game_tables::Action;
@@ -34,11 +35,4 @@ pub fn drop_load(room: &mut RoomTable, intent: &Intent)
         ..creep
     });
     fall(room, x, y, amount);
-}
-
-// What is wanted of so much: all of it where no amount is named.
-fn wanted(amount: u64, all: u64) -> u64
-    ensures { result ≡ wanted_of amount all }
-{
-    if amount == 0 { all } else { amount.min(all) }
 }

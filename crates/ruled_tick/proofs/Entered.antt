@@ -23,7 +23,7 @@ use Rattle.room_rules.specs.Followed.{part_stored, FollowsRoom, FollowsAt, Follo
 use Rattle.room_rules.proofs.Sound.{sound_keeps}
 use Rattle.room_rules.proofs.Followed.{followed_sound}
 use Rattle.room_rules.proofs.Rules.{rule_keeps}
-use Rattle.falling_energy.proofs.Parts.{get_table_part}
+use Rattle.world_rules.proofs.TableParts.{get_table_part}
 use Rattle.ruled_tick.specs.inner.Entered.{IsRuled}
 
 abbrev pub frame_at : Option Room → Option Frame

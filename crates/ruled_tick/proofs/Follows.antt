@@ -15,7 +15,8 @@ use Rattle.intent_book.specs.declared.player_run.PlayerRun.{PlayerRun}
 use Rattle.world_rules.specs.World.{world_of}
 use Rattle.world_rules.specs.RuleBook.{Follows}
 use Rattle.object_store.specs.Controllers.{is_taken}
-use Rattle.world_rules.specs.Upkeep.{controller_of, renewed_as, renewed, decayed_as, decayed}
+use Rattle.world_rules.specs.RoomParts.{controller_of}
+use Rattle.world_rules.specs.Upkeep.{renewed_as, renewed, decayed_as, decayed}
 use Rattle.world_rules.specs.Tick.{account_after, run_of}
 use Rattle.world_rules.specs.Sound.{IsSound}
 use Rattle.world_rules.proofs.Follows.{follows_trans, follows_each}

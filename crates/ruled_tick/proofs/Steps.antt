@@ -9,13 +9,13 @@ use Rattle.object_store.specs.declared.world.Room.{Room}
 use Rattle.object_store.specs.Tables.{Table, IsRising}
 use Rattle.object_store.specs.Stored.{Stored, HaveRisingTables}
 use Rattle.world_rules.specs.World.{World, ListedRoom, listed_room, world_listed, world_of}
-use Rattle.world_rules.specs.RoomParts.{in_every_room}
+use Rattle.world_rules.specs.RoomParts.{in_every_room, controller_of}
 use Rattle.world_rules.specs.RuleBook.{Sums, Step}
 use Rattle.world_rules.specs.Steps.{each}
 use Rattle.object_store.specs.Controllers.{controller_among, is_taken}
 use Rattle.kept_entries.specs.declared.entries.Entry.{Entry}
 use Rattle.kept_entries.specs.Turns.{in_turn, placed, placed_in, AreKept}
-use Rattle.world_rules.specs.Upkeep.{unchanged, renewed, decayed, controller_of, steps}
+use Rattle.world_rules.specs.Upkeep.{unchanged, renewed, decayed, steps}
 use Rattle.world_rules.specs.Intents.{kept}
 use Rattle.world_rules.specs.Tick.{Course, acted, movement, sums_in, after_steps, ruled, book, crossed}
 use Rattle.world_rules.specs.Sound.{IsSound}

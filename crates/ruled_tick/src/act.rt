@@ -7,14 +7,16 @@ ghost use Rattle.world_rules.specs.Tick.{book};
 ghost use Rattle.room_rules.specs.Calls.{IsReady, Keeps};
 ghost use Rattle.ruled_tick.specs.inner.Entered.{many_in, widened, AreCounts, IsRuled, IsRuledIn};
 
-use creep_logistics::drop_load;
+use creep_logistics::{drop_load, pickup, transfer, withdraw};
+use creep_work::{build, harvest, repair};
 use game_tables::Action;
 use intent_book::Intent;
 use kept_entries::Entry;
 use object_store::{Room, RoomTable};
 use std::alloc::{AllocError as NoMemory, Global};
 
-/// Copies the table of each room, with memory for what its entries and a step of upkeep may make.
+/// Gives the table of each room memory for what its entries and a step of upkeep may make. A table that has
+/// as much is left as it is, and another is copied.
 pub fn widen_all(alloc: Global, rooms: &mut [Room], entries: &[Entry]) -> Result<(), NoMemory>
     requires few { length entries.now ≤ 2 ^ 18 }
     ensures { OnOk result ((index : ℕ) → slice_get rooms.new index
@@ -54,13 +56,17 @@ fn counts_of(alloc: Global, rooms: usize, entries: &[Entry]) -> Result<Vec<u32>,
     Ok(counts)
 }
 
-// Copies the table of a room that has so many entries. Where its objects and that memory come to 2^32, it is
-// refused as one without memory; a room that keeps the rules has at most 7,500 objects.
+// Gives the table of a room that has so many entries the memory that it may need, by a copy where it hasn't
+// as much. Where its objects and that memory come to 2^32, it is refused as one without memory; a room that
+// keeps the rules has at most 7,500 objects.
 fn widen(alloc: Global, room: &mut Room, entries: u32) -> Result<(), NoMemory>
     ensures { OnOk result (room.new ≡ widened entries room.old) }
 {
     let len = u64::from(room.table.len());
     let spare = u64::from(entries) + (4 * len + 196);
+    if spare <= u64::from(room.table.spare()) {
+        return Ok(());
+    }
     if len + spare > u64::from(u32::MAX) {
         return Err(NoMemory);
     }
@@ -86,6 +92,12 @@ fn rule(table: &mut RoomTable, intent: &Intent)
 {
     match intent.action {
         Action::DropLoad => drop_load(table, intent),
+        Action::Transfer => transfer(table, intent),
+        Action::Withdraw => withdraw(table, intent),
+        Action::Pickup => pickup(table, intent),
+        Action::Harvest => harvest(table, intent),
+        Action::Repair => repair(table, intent),
+        Action::Build => build(table, intent),
         _ => {}
     }
 }
@@ -204,7 +216,7 @@ pub mod tests {
             ),
             // Another action, whose rule is not in force, and a room that there is not.
             (
-                (0, 1, Action::Harvest, 3, 0),
+                (0, 1, Action::Suicide, 3, 0),
                 (2, 1, Action::DropLoad, 3, 5),
                 (20, 20, None, 205),
                 (20, 20, None, 204),

@@ -38,8 +38,9 @@ pub fn tick_plain(alloc: Global, world: &World, intents: &[Intent]) -> Result<Wo
     tick_taken(alloc, world.copy(alloc)?, &entries)
 }
 
-/// The same as `tick_plain` of a world that is taken: no terrain is copied, and each table once, with room
-/// for what its entries may make. `entries` are those that count (`kept_entries`), each with its room.
+/// The same as `tick_plain` of a world that is taken: no terrain is copied, and a table once where it has not
+/// as much memory as its entries may need, else not at all. `entries` are those that count (`kept_entries`), each
+/// with its room.
 pub fn tick_taken(alloc: Global, world: World, entries: &[Entry]) -> Result<World, NoMemory>
     requires tick { world.tick < 2 ^ 64 - 1 }
     requires sound { IsSound world }

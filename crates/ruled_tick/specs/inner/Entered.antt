@@ -1,5 +1,5 @@
 -- What the entries of a tick make of what is stored.
-use Rattle.std.specs.Prelude.{◌≡◌, ℕ, ◌+◌, ◌*◌, ◌<◌, ◌≤◌, ◌==◌, List, [], ◌∷◌, length, map, Option, Some, None, slice_get, slice_set, slice_index}
+use Rattle.std.specs.Prelude.{◌≡◌, ℕ, ◌+◌, ◌*◌, ◌<◌, ◌≤◌, ◌==◌, max, List, [], ◌∷◌, length, map, Option, Some, None, slice_get, slice_set, slice_index}
 use Rattle.std.specs.List.{count_by}
 use Rattle.room_terrain.specs.declared.terrain.Ground.{Ground}
 use Rattle.object_store.specs.declared.world.Room.{Room}
@@ -37,10 +37,12 @@ pub record AreCounts (rooms : ℕ) (entries : List Entry) (counts : List ℕ) : 
   pub long : length counts ≡ rooms
   pub each : (room : ℕ) → room < rooms → slice_index counts room ≡ many_in room entries
 
--- a room with memory for what so many entries and a step of upkeep may make
+-- a room with memory for what so many entries and a step of upkeep may make, or with what it has, where that
+-- is more
 abbrev pub widened : ℕ → Room → Room
 widened count room =
-    record room { table = record room.table { spare = count + (4 * length room.table.objects + 196) } }
+    let wanted : ℕ = count + (4 * length room.table.objects + 196) in
+    record room { table = record room.table { spare = max room.table.spare wanted } }
 
 -- ---- rooms
 

@@ -2,7 +2,7 @@ use Rattle.std.proofs.Common.{Some, None, is_some, sym, ap, subst, ◌∙◌}
 use Rattle.std.specs.List.{AllByRecursion}
 use Rattle.object_store.specs.Tables.{Table, IsRising, IsOnTile}
 use Rattle.object_store.proofs.Rising.{all_filter}
-use Rattle.falling_energy.proofs.Parts.{tiles_replaced}
+use Rattle.world_rules.proofs.TableParts.{tiles_replaced}
 use Rattle.ruled_tick.specs.inner.Ticked.{left_of}
 use Rattle.ruled_tick.proofs.Objects.{upkept-id}
 use Rattle.ruled_tick.proofs.Upkeeping.{all_read, changes, found_there, goes, left_then, stays, upkept_on_tile}
