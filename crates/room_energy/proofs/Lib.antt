@@ -1,0 +1,6 @@
+pub mod Totals
+pub mod Parts
+pub mod Piles
+pub mod Handed
+pub mod Worked
+pub mod Taken

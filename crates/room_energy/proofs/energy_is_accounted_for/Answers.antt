@@ -1,0 +1,6 @@
+-- Each rule of an entry takes out of its room what is said of its action.
+use Rattle.room_energy.proofs.Taken.{rule_takes}
+use Rattle.room_energy.proofs.energy_is_accounted_for.Goals as goal
+
+pub returns : goal.returns
+returns c = λ players within part entry k room. rule_takes players within part k room entry entry.action
