@@ -6,7 +6,7 @@ use Rattle.std.proofs.lemmas.List.{length-take}
 use Rattle.game_tables.specs.Codes.{code_number}
 use Rattle.game_tables.specs.Limits.{most_memory}
 use Rattle.game_tables.specs.declared.action.Action.{Action}
-use Rattle.game_tables.specs.declared.action.Action.TheVariants.{DropLoad}
+use Rattle.game_tables.specs.declared.action.Action.TheVariants.{DropLoad, Transfer, Withdraw, Pickup, Harvest, Repair, Build}
 use Rattle.game_tables.specs.declared.code.Code.{Code}
 use Rattle.game_tables.specs.declared.code.Code.TheVariants.{Done, InvalidArgs}
 use Rattle.intent_book.specs.declared.intent.Intent.{Intent}
@@ -39,6 +39,18 @@ reply_of_size call.MemoryWrite desk memory args =
     cond_both _ _ _ (KeepsSize memory) (λ _. (refl, refl)) (λ _. (refl, refl))
 reply_of_size call.DropLoad desk memory args =
     act_size DropLoad desk memory (argument args 0) (pos 0) (argument args 1)
+reply_of_size call.Transfer desk memory args =
+    act_size Transfer desk memory (argument args 0) (argument args 1) (argument args 2)
+reply_of_size call.Withdraw desk memory args =
+    act_size Withdraw desk memory (argument args 0) (argument args 1) (argument args 2)
+reply_of_size call.Pickup desk memory args =
+    act_size Pickup desk memory (argument args 0) (argument args 1) (pos 0)
+reply_of_size call.Harvest desk memory args =
+    act_size Harvest desk memory (argument args 0) (argument args 1) (pos 0)
+reply_of_size call.Repair desk memory args =
+    act_size Repair desk memory (argument args 0) (argument args 1) (pos 0)
+reply_of_size call.Build desk memory args =
+    act_size Build desk memory (argument args 0) (argument args 1) (pos 0)
 reply_of_size _ desk memory args = (refl, refl)
 
 reply_to_size : (found : Option Call) (desk : Desk) (memory : Memory) (args : List ℤ) → KeepsSize memory (reply_to found desk memory args)
@@ -85,6 +97,18 @@ reply_of_unchanged call.MemoryRead desk memory args = read_unchanged desk memory
 reply_of_unchanged call.MemoryWrite desk memory args = write_unchanged desk memory (unsigned_32 (argument args 0)) (unsigned_32 (argument args 1))
 reply_of_unchanged call.DropLoad desk memory args =
     act_unchanged DropLoad desk memory (argument args 0) (pos 0) (argument args 1)
+reply_of_unchanged call.Transfer desk memory args =
+    act_unchanged Transfer desk memory (argument args 0) (argument args 1) (argument args 2)
+reply_of_unchanged call.Withdraw desk memory args =
+    act_unchanged Withdraw desk memory (argument args 0) (argument args 1) (argument args 2)
+reply_of_unchanged call.Pickup desk memory args =
+    act_unchanged Pickup desk memory (argument args 0) (argument args 1) (pos 0)
+reply_of_unchanged call.Harvest desk memory args =
+    act_unchanged Harvest desk memory (argument args 0) (argument args 1) (pos 0)
+reply_of_unchanged call.Repair desk memory args =
+    act_unchanged Repair desk memory (argument args 0) (argument args 1) (pos 0)
+reply_of_unchanged call.Build desk memory args =
+    act_unchanged Build desk memory (argument args 0) (argument args 1) (pos 0)
 reply_of_unchanged _ desk memory args = λ _. (refl, refl)
 
 reply_to_unchanged : (found : Option Call) (desk : Desk) (memory : Memory) (args : List ℤ) → ChangesOnlyAt0 desk memory (reply_to found desk memory args)

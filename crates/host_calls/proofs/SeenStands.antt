@@ -4,14 +4,14 @@ use Rattle.std.specs.Prelude.{slice_get}
 use Rattle.std.specs.List.{filter}
 use Rattle.std.specs.Ordering.{nat_cmp}
 use Rattle.std.specs.Cmp.{nat_cmp_total, unsigned_tied}
-use Rattle.std.specs.FinMap.{find, get, entries, entries_sorted, get-entries, get-from_entries}
+use Rattle.std.specs.FinMap.{find, get, values, entries, entries_sorted, get-entries, get-from_entries}
 use Rattle.std.proofs.lemmas.Bool.{eq-eqb, eqb-true, ne_eqb}
 use Rattle.object_store.specs.declared.account.Account.{Account}
 use Rattle.object_store.specs.declared.object.Object.{Object}
 use Rattle.object_store.specs.declared.world.Room.{Room}
 use Rattle.object_store.specs.Stored.{Stored}
 use Rattle.world_rules.specs.World.{Frame, Placed, World, listed_room, placed, listing_of, world_of}
-use Rattle.world_rules.specs.RoomParts.{part_at, part_of}
+use Rattle.world_rules.specs.RoomParts.{objects_in, part_at, part_of}
 use Rattle.world_rules.specs.Checks.{standing_at}
 use Rattle.world_rules.specs.Sound.{IsSound}
 use Rattle.world_rules.proofs.Keys.{AreKeysOnce, keyed, once_of_sorted}
@@ -19,8 +19,9 @@ use Rattle.world_rules.proofs.Lifting.{found_in_table, frame_stored, stands_in_r
 use Rattle.world_rules.proofs.Parts.{get_objects_in, only}
 use Rattle.world_rules.proofs.Same.{once}
 use Rattle.visible_view.specs.Sights.{Sight, sees_room, sight_of}
-use Rattle.visible_view.specs.Fields.{place_of}
-use Rattle.host_calls.specs.Replies.{id_of, seen}
+use Rattle.visible_view.specs.Fields.{objects_at, place_of}
+use Rattle.visible_view.proofs.Tables.{around_seen}
+use Rattle.host_calls.specs.Replies.{id_of, objects_around, seen}
 
 -- ---- lists of objects
 
@@ -66,6 +67,19 @@ found_seen keep (e ∷ es) alone ids n p is =
       | false ↦ later
     ] is
 
+-- What is seen of some entries is kept of them.
+seen_kept : (keep : Placed → Bool) (es : List (ℕ × Placed)) (n : ℕ) (p : Placed) → seen_in n (map (λ (e : ℕ × Placed). e.1) (filter (λ (e : ℕ × Placed). keep e.1) es)) ≡ Some p → keep p ≡ true
+seen_kept keep [] n p is = absurd cc
+seen_kept keep (e ∷ es) n p is =
+    let rest : List Placed = map (λ (f : ℕ × Placed). f.1) (filter (λ (f : ℕ × Placed). keep f.1) es) in
+    elim (keep e.1) as (λ b. keep e.1 ≡ b → seen_in n (map (λ (f : ℕ × Placed). f.1) (cond b (e ∷ filter (λ (f : ℕ × Placed). keep f.1) es) (filter (λ (f : ℕ × Placed). keep f.1) es))) ≡ Some p → keep p ≡ true) [
+      | true ↦ λ kept it. elim (e.1.object.id == n) as (λ b. cond b (Some e.1) (seen_in n rest) ≡ Some p → keep p ≡ true) [
+        | true ↦ λ this. let same : e.1 ≡ p = cc in sym (ap keep same) ∙ kept
+        | false ↦ λ more. seen_kept keep es n p more
+      ] (sym (seen_first n e.1 rest) ∙ it)
+      | false ↦ λ out more. seen_kept keep es n p more
+    ] refl is
+
 -- ---- a sound world
 
 id_found : (q : ℕ) (objects : List Object) (object : Object) → find nat_cmp q (keyed (λ o. o.id) objects) ≡ Some object → object.id ≡ q
@@ -102,6 +116,20 @@ module _ (stored : Stored) (sound : IsSound stored) where
       get-entries world.objects n
       ∙ found_seen (λ entry. sees_room world account.player entry.1.room) (entries world.objects) (once_of_sorted _ (entries_sorted world.objects)) ids n p
       (sym (ap (λ (s : Sight). seen s (pos n)) is) ∙ found)
+
+  -- The room of what is seen is seen.
+  room_sees : (sight : Sight) (account : Account) → sight ≡ sight_of world account → (id : ℤ) (p : Placed) → seen sight id ≡ Some p → sees_room world account.player p.room ≡ true
+  room_sees sight account is (negsuc n) p found = absurd cc
+  room_sees sight account is (pos n) p found =
+      seen_kept (λ (q : Placed). sees_room world account.player q.room) (entries world.objects) n p (sym (ap (λ (s : Sight). seen s (pos n)) is) ∙ found)
+
+  -- What is seen around an object that is seen is what stands in its room.
+  pub around_stands : (sight : Sight) (account : Account) → sight ≡ sight_of world account → (id : ℤ) (p : Placed) → seen sight id ≡ Some p → objects_around sight (seen sight id) ≡ values (objects_in world p.room)
+  around_stands sight account is id p found =
+      ap (objects_around sight) found
+      ∙ ap (λ (s : Sight). objects_at s p.room) is
+      ∙ around_seen world account p.room
+      ∙ ap (λ (b : Bool). cond b (values (objects_in world p.room)) []) (room_sees sight account is id p found)
 
   -- The room of what stands is in the world.
   pub its_part : (q : ℕ) (p : Placed) → get world.objects q ≡ Some p → (frame : Frame) × (part_at world p.room ≡ Some (part_of world p.room frame))

@@ -1,5 +1,6 @@
 -- A call of an action that is answered 0 fails no check of the action's rule on the same world.
 use Rattle.std.specs.Prelude.{◌≡◌, ℕ, ℤ, pos, true, Some}
+use Rattle.std.specs.FinMap.{values}
 use Rattle.game_tables.specs.declared.action.Action.{Action}
 use Rattle.object_store.specs.declared.account.Account.{Account}
 use Rattle.object_store.specs.Stored.{Stored}
@@ -15,11 +16,13 @@ use Rattle.visible_view.specs.Sights.{sight_of}
 use Rattle.host_calls.specs.Desks.{Desk}
 use Rattle.host_calls.specs.Replies.{act_reply, wish_of}
 
--- All checks of the entry's action hold in a room's part, of the actor and the target as they stand there.
+-- All checks of the entry's action hold in a room's part, of the actor, the target and all else as they stand
+-- there.
 abbrev pub PassesIn : RoomPart → Intent → Type 0
 PassesIn part entry =
     all_hold
-    (checks entry.action (scene_of entry (standing_at part entry.actor) (standing_at part entry.target)))
+    (checks entry.action
+    (scene_of entry (values part.objects) (standing_at part entry.actor) (standing_at part entry.target)))
     ≡ true
 
 -- They hold in the part of the room in which the actor stands.

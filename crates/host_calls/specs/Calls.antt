@@ -11,7 +11,8 @@ abbrev pub all_calls : List Call
 all_calls =
     call.Tick ∷ call.Me ∷ call.Allowance ∷ call.Bucket ∷ call.Points ∷ call.Level ∷ call.Rooms ∷ call.Room
     ∷ call.RoomName ∷ call.Terrain ∷ call.Count ∷ call.Find ∷ call.Get
-    ∷ call.MemoryLength ∷ call.MemoryRead ∷ call.MemoryWrite ∷ call.DropLoad ∷ []
+    ∷ call.MemoryLength ∷ call.MemoryRead ∷ call.MemoryWrite ∷ call.DropLoad ∷ call.Transfer ∷ call.Withdraw
+    ∷ call.Pickup ∷ call.Harvest ∷ call.Repair ∷ call.Build ∷ []
 
 -- the call of a number
 abbrev pub call_at : ℕ → Option Call
@@ -42,6 +43,12 @@ row call.MemoryLength = record { name = codes "memory_length"; params = []; resu
 row call.MemoryRead = record { name = codes "memory_read"; params = I32 ∷ []; result = I32 }
 row call.MemoryWrite = record { name = codes "memory_write"; params = I32 ∷ I32 ∷ []; result = I32 }
 row call.DropLoad = record { name = codes "drop"; params = I64 ∷ I32 ∷ []; result = I32 }
+row call.Transfer = record { name = codes "transfer"; params = I64 ∷ I64 ∷ I32 ∷ []; result = I32 }
+row call.Withdraw = record { name = codes "withdraw"; params = I64 ∷ I64 ∷ I32 ∷ []; result = I32 }
+row call.Pickup = record { name = codes "pickup"; params = I64 ∷ I64 ∷ []; result = I32 }
+row call.Harvest = record { name = codes "harvest"; params = I64 ∷ I64 ∷ []; result = I32 }
+row call.Repair = record { name = codes "repair"; params = I64 ∷ I64 ∷ []; result = I32 }
+row call.Build = record { name = codes "build"; params = I64 ∷ I64 ∷ []; result = I32 }
 
 -- The signature is that of the call.
 pub record IsSignature (sig : HostSig) (of : Call) : Type 0 where

@@ -4,15 +4,16 @@ use Rattle.std.specs.Option.{unwrap_or}
 use Rattle.game_tables.specs.Codes.{code_number}
 use Rattle.game_tables.specs.Limits.{most_memory}
 use Rattle.game_tables.specs.declared.action.Action.{Action}
-use Rattle.game_tables.specs.declared.action.Action.TheVariants.{DropLoad}
+use Rattle.game_tables.specs.declared.action.Action.TheVariants.{DropLoad, Transfer, Withdraw, Pickup, Harvest, Repair, Build}
 use Rattle.game_tables.specs.declared.code.Code.{Code}
 use Rattle.game_tables.specs.declared.code.Code.TheVariants.{Done, NotFound, Full, InvalidArgs}
 use Rattle.room_terrain.specs.Tiles.{ground_number}
 use Rattle.room_terrain.specs.declared.name.RoomName.{RoomName}
+use Rattle.object_store.specs.declared.object.Object.{Object}
 use Rattle.world_rules.specs.World.{Placed}
 use Rattle.world_rules.specs.Checks.{Check, Scene, checks, first_failing, least_of}
 use Rattle.visible_view.specs.Sights.{SeenRoom, Sight}
-use Rattle.visible_view.specs.Fields.{field_at, ground_at, place_of, room_at}
+use Rattle.visible_view.specs.Fields.{field_at, ground_at, objects_at, place_of, room_at}
 use Rattle.intent_book.specs.Records.{accepts, put_last}
 use Rattle.intent_book.specs.declared.intent.Intent.{Intent}
 use Rattle.wasm_store.specs.Memory.{Memory, span, written}
@@ -105,6 +106,11 @@ abbrev pub seen : Sight → ℤ → Option Placed
 seen sight id =
     option_and_then (λ n. option_and_then (slice_get sight.objects) (place_of n sight.objects)) (as_index id)
 
+-- all that is seen in the room of an object that is seen, in rising id
+abbrev pub objects_around : Sight → Option Placed → List Object
+objects_around sight None = []
+objects_around sight (Some placed) = objects_at sight placed.room
+
 -- the number of an id, where it is one
 abbrev pub id_of : ℤ → ℕ
 id_of value = unwrap_or (as_index value) 0
@@ -124,12 +130,14 @@ wish_of action player id target amount = record {
   body = [];
 }
 
--- what the checks of such a call read: what the player sees of its creep and of its target
+-- what the checks of such a call read: what the player sees of its creep, of its target and of the room of
+-- its creep
 abbrev pub scene_seen : Sight → ℤ → ℤ → ℤ → Scene
 scene_seen sight id target amount = record {
   player = sight.account.player;
   actor = seen sight id;
   target = seen sight target;
+  around = objects_around sight (seen sight id);
   amount = amount_of amount;
   least = least_of (amount_of amount);
 }
@@ -166,6 +174,32 @@ act_reply action desk memory id target amount =
 abbrev pub drop_reply : Desk → Memory → ℤ → ℤ → Reply
 drop_reply desk memory id amount = act_reply DropLoad desk memory id (pos 0) amount
 
+-- transfer: an amount of 0 wants all that the creep carries and the target takes, and at least 1 has to be
+-- there
+abbrev pub transfer_reply : Desk → Memory → ℤ → ℤ → ℤ → Reply
+transfer_reply desk memory id target amount = act_reply Transfer desk memory id target amount
+
+-- withdraw: an amount of 0 wants all that the target holds and the creep takes, and at least 1 has to be
+-- there
+abbrev pub withdraw_reply : Desk → Memory → ℤ → ℤ → ℤ → Reply
+withdraw_reply desk memory id target amount = act_reply Withdraw desk memory id target amount
+
+-- pickup: a creep and a pile, and no amount
+abbrev pub pickup_reply : Desk → Memory → ℤ → ℤ → Reply
+pickup_reply desk memory id target = act_reply Pickup desk memory id target (pos 0)
+
+-- harvest: a creep and a source, and no amount
+abbrev pub harvest_reply : Desk → Memory → ℤ → ℤ → Reply
+harvest_reply desk memory id target = act_reply Harvest desk memory id target (pos 0)
+
+-- repair: a creep and a building, and no amount
+abbrev pub repair_reply : Desk → Memory → ℤ → ℤ → Reply
+repair_reply desk memory id target = act_reply Repair desk memory id target (pos 0)
+
+-- build: a creep and a site, and no amount
+abbrev pub build_reply : Desk → Memory → ℤ → ℤ → Reply
+build_reply desk memory id target = act_reply Build desk memory id target (pos 0)
+
 -- ---- all calls
 
 abbrev pub reply_of : Call → Desk → Memory → List ℤ → Reply
@@ -188,6 +222,14 @@ reply_of call.MemoryRead desk memory args = read_reply desk memory (unsigned_32 
 reply_of call.MemoryWrite desk memory args =
     write_reply desk memory (unsigned_32 (argument args 0)) (unsigned_32 (argument args 1))
 reply_of call.DropLoad desk memory args = drop_reply desk memory (argument args 0) (argument args 1)
+reply_of call.Transfer desk memory args =
+    transfer_reply desk memory (argument args 0) (argument args 1) (argument args 2)
+reply_of call.Withdraw desk memory args =
+    withdraw_reply desk memory (argument args 0) (argument args 1) (argument args 2)
+reply_of call.Pickup desk memory args = pickup_reply desk memory (argument args 0) (argument args 1)
+reply_of call.Harvest desk memory args = harvest_reply desk memory (argument args 0) (argument args 1)
+reply_of call.Repair desk memory args = repair_reply desk memory (argument args 0) (argument args 1)
+reply_of call.Build desk memory args = build_reply desk memory (argument args 0) (argument args 1)
 
 -- the reply to a call with as many arguments as its type has, and to any other
 abbrev pub reply_to : Option Call → Desk → Memory → List ℤ → Reply

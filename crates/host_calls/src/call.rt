@@ -22,9 +22,15 @@ pub enum Call {
     MemoryRead,
     MemoryWrite,
     DropLoad,
+    Transfer,
+    Withdraw,
+    Pickup,
+    Harvest,
+    Repair,
+    Build,
 }
 
-static CALLS: [Call; 17] = [
+static CALLS: [Call; 23] = [
     Call::Tick,
     Call::Me,
     Call::Allowance,
@@ -42,6 +48,12 @@ static CALLS: [Call; 17] = [
     Call::MemoryRead,
     Call::MemoryWrite,
     Call::DropLoad,
+    Call::Transfer,
+    Call::Withdraw,
+    Call::Pickup,
+    Call::Harvest,
+    Call::Repair,
+    Call::Build,
 ];
 
 impl Call {
@@ -49,7 +61,10 @@ impl Call {
     pub fn of_number(number: u32) -> Option<Call>
         ensures { result ≡ call_at number }
     {
-        calls().get(number as usize).copied()
+        match calls().get(number as usize) {
+            Some(call) => Some(*call),
+            None => None,
+        }
     }
 }
 

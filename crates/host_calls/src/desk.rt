@@ -130,6 +130,12 @@ impl<'a, 'v> Desk<'a, 'v> {
                 told(self.memory_write(unsigned_32(first), unsigned_32(second), pages))
             }
             Call::DropLoad => told(self.act(Action::DropLoad, first, 0, second)),
+            Call::Transfer => told(self.act(Action::Transfer, first, second, third)),
+            Call::Withdraw => told(self.act(Action::Withdraw, first, second, third)),
+            Call::Pickup => told(self.act(Action::Pickup, first, second, 0)),
+            Call::Harvest => told(self.act(Action::Harvest, first, second, 0)),
+            Call::Repair => told(self.act(Action::Repair, first, second, 0)),
+            Call::Build => told(self.act(Action::Build, first, second, 0)),
         }
     }
 

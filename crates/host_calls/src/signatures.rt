@@ -4,7 +4,7 @@ ghost use Rattle.host_calls.specs.Calls.{AreSignatures, all_calls, call_at, row}
 
 use wasm_module::{HostSig, ValType};
 
-static SIGNATURES: [HostSig; 17] = [
+static SIGNATURES: [HostSig; 23] = [
     HostSig {
         name: "tick",
         params: &[],
@@ -88,6 +88,36 @@ static SIGNATURES: [HostSig; 17] = [
     HostSig {
         name: "drop",
         params: &[ValType::I64, ValType::I32],
+        result: Some(ValType::I32),
+    },
+    HostSig {
+        name: "transfer",
+        params: &[ValType::I64, ValType::I64, ValType::I32],
+        result: Some(ValType::I32),
+    },
+    HostSig {
+        name: "withdraw",
+        params: &[ValType::I64, ValType::I64, ValType::I32],
+        result: Some(ValType::I32),
+    },
+    HostSig {
+        name: "pickup",
+        params: &[ValType::I64, ValType::I64],
+        result: Some(ValType::I32),
+    },
+    HostSig {
+        name: "harvest",
+        params: &[ValType::I64, ValType::I64],
+        result: Some(ValType::I32),
+    },
+    HostSig {
+        name: "repair",
+        params: &[ValType::I64, ValType::I64],
+        result: Some(ValType::I32),
+    },
+    HostSig {
+        name: "build",
+        params: &[ValType::I64, ValType::I64],
         result: Some(ValType::I32),
     },
 ];

@@ -1,8 +1,9 @@
 -- What is gathered of one room more.
-use Rattle.std.proofs.Common.{◌≡◌, ℕ, suc, ◌+◌, ◌<◌, ◌==◌, ◌&&◌, ◌||◌, Bool, true, false, cond, if◌then◌else◌, List, [], ◌∷◌, ◌++◌, map, length, Option, Some, None, option_map, option_and_then, refl, sym, ap, subst, ◌∙◌, arith, append_assoc}
+use Rattle.std.proofs.Common.{◌≡◌, ℕ, zero, suc, ◌+◌, ◌<◌, ◌==◌, ◌&&◌, ◌||◌, Bool, true, false, cond, if◌then◌else◌, List, [], ◌∷◌, ◌++◌, map, length, Option, Some, None, option_map, option_and_then, refl, sym, ap, subst, ◌∙◌, inl, inr, arith, append_assoc}
 use Rattle.std.specs.List.{AllByRecursion, count_by, find, list_any}
 use Rattle.std.specs.Option.{option_or}
-use Rattle.std.proofs.lemmas.Bool.{eqb-true, ne_eqb}
+use Rattle.std.proofs.lemmas.Bool.{cases_eq, eq-eqb, ne_eqb}
+use Rattle.std.specs.Prelude.{slice_get}
 use Rattle.std.proofs.lemmas.List.{map-append, append-nil, length-append}
 use Rattle.std.proofs.lemmas.List.Folds.{find-append}
 use Rattle.std.proofs.lemmas.List.Sums.{sum_by-cons, sum_by_push}
@@ -11,9 +12,8 @@ use Rattle.object_store.specs.declared.world.Room.{Room}
 use Rattle.object_store.proofs.Accounts.{all_push}
 use Rattle.object_store.proofs.Rising.{Rises, all_weaker}
 use Rattle.game_tables.specs.Kinds.{is_building, is_controller, is_creep, is_site}
-use Rattle.world_rules.specs.World.{Placed}
 use Rattle.visible_view.specs.Sights.{SeenRoom, gives_sight}
-use Rattle.visible_view.specs.inner.Gathered.{shown_room, controller_in, is_seen, is_site_of, placed_at, from_each, objects_if_seen, room_if_seen, sites_at, is_controller_at, kept_controller, HaveControllers, KeepsRoom, KeepsRoomIf, IsAdded, IsGathered}
+use Rattle.visible_view.specs.inner.Gathered.{shown_room, is_seen, is_site_of, from_each, kept_objects, objects_if_seen, room_if_seen, sites_at, KeepsRoomIf, IsAdded, IsGathered}
 use Rattle.visible_view.specs.declared.gather.RoomInView.{RoomInView}
 use Rattle.visible_view.specs.declared.gather.Gathered.{Gathered}
 
@@ -37,52 +37,74 @@ none_of_index index (room ∷ rooms) below =
     let less : room.index < index = below.0 in
     rw (ne_eqb room.index index (λ same. omega arith)) (none_of_index index rooms below.1)
 
--- ---- controllers
+-- ---- tables
 
-found_placed : (index q : ℕ) (b : Bool) → (index == q) ≡ b → (objects : List Object) → option_map (λ (p : Placed). p.object) (find (is_controller_at q) (placed_at index objects)) ≡ cond b (find (λ (o : Object). is_controller o.kind) objects) None
-found_placed index q true is [] = refl
-found_placed index q false is [] = refl
-found_placed index q true is (object ∷ objects) =
-    let rest = found_placed index q true is objects in
-    let placed : Placed = record { room = index; object = object } in
-    ap (λ (b : Bool). option_map (λ (p : Placed). p.object) (cond (b && is_controller object.kind) (Some placed) (find (is_controller_at q) (placed_at index objects)))) is
-    ∙ elim (is_controller object.kind) as (λ b. option_map (λ (p : Placed). p.object) (cond b (Some placed) (find (is_controller_at q) (placed_at index objects))) ≡ cond b (Some object) (find (λ (o : Object). is_controller o.kind) objects)) [ true ↦ refl | false ↦ rest ]
-found_placed index q false is (object ∷ objects) =
-    let rest = found_placed index q false is objects in
-    let placed : Placed = record { room = index; object = object } in
-    ap (λ (b : Bool). option_map (λ (p : Placed). p.object) (cond (b && is_controller object.kind) (Some placed) (find (is_controller_at q) (placed_at index objects)))) is ∙ rest
+push_here : (taken : List Room) (room : Room) → slice_get (taken ++ room ∷ []) (length taken) ≡ Some room
+push_here [] room = refl
+push_here (first ∷ taken) room = push_here taken room
 
-map_or : (one other : Option Placed) → option_map (λ (p : Placed). p.object) (option_or one other) ≡ option_or (option_map (λ (p : Placed). p.object) one) (option_map (λ (p : Placed). p.object) other)
-map_or None other = refl
-map_or (Some p) other = refl
+push_there : (taken : List Room) (room : Room) (q : ℕ) → (q ≡ length taken → ⊥) → slice_get (taken ++ room ∷ []) q ≡ slice_get taken q
+push_there [] room zero apart = absurd (apart refl)
+push_there [] room (suc q) apart = refl
+push_there (first ∷ taken) room zero apart = refl
+push_there (first ∷ taken) room (suc q) apart = push_there taken room q (λ same. apart (ap suc same))
 
 or_none : {X : Type 0} (one : Option X) → option_or one None ≡ one
 or_none None = refl
 or_none (Some x) = refl
 
-module _ (index : ℕ) (room : Room) (rooms new : List RoomInView) (objects : List Placed) (below : AllByRecursion (λ r. r.index < index) rooms) (have : HaveControllers rooms objects) (keeps : KeepsRoom index room rooms new) where
-  -- the controller of a room, with one room more
-  here_or_before : (q : ℕ) (b : Bool) → (index == q) ≡ b → option_or (kept_controller q rooms) (cond b (controller_in keeps.kept) None) ≡ kept_controller q new
-  here_or_before q b is =
-      let last : cond (keeps.kept.index == q) (Some keeps.kept) None ≡ cond b (Some keeps.kept) None = ap (λ (n : ℕ). cond (n == q) (Some keeps.kept) None) keeps.place ∙ ap (λ (c : Bool). cond c (Some keeps.kept) None) is in
-      let all : find (λ (r : RoomInView). r.index == q) new ≡ option_or (find (λ (r : RoomInView). r.index == q) rooms) (cond b (Some keeps.kept) None) =
-      ap (find (λ (r : RoomInView). r.index == q)) keeps.last ∙ find-append (λ (r : RoomInView). r.index == q) rooms (keeps.kept ∷ []) ∙ ap (option_or (find (λ (r : RoomInView). r.index == q) rooms)) last in
-      elim b as (λ c. (index == q) ≡ c → option_or (kept_controller q rooms) (cond c (controller_in keeps.kept) None) ≡ option_and_then controller_in (option_or (find (λ (r : RoomInView). r.index == q) rooms) (cond c (Some keeps.kept) None))) [
-        | true ↦ λ here.
-            let same = eqb-true index q here in
-            let none : find (λ (r : RoomInView). r.index == q) rooms ≡ None = none_of_index q rooms (subst (λ (n : ℕ). AllByRecursion (λ (r : RoomInView). r.index < n) rooms) same below) in
-            rw none refl
-        | false ↦ λ here. or_none (kept_controller q rooms) ∙ ap (option_and_then controller_in) (sym (or_none (find (λ (r : RoomInView). r.index == q) rooms)))
-      ] is ∙ ap (option_and_then controller_in) (sym all)
+abbrev has_index : ℕ → RoomInView → Bool
+has_index q room = room.index == q
 
-  controllers_more : HaveControllers new (objects ++ placed_at index room.table.objects)
-  controllers_more q =
-      let test : Placed → Bool = is_controller_at q in
-      ap (option_map (λ (p : Placed). p.object)) (find-append test objects (placed_at index room.table.objects))
-      ∙ map_or (find test objects) (find test (placed_at index room.table.objects))
-      ∙ (λ i. option_or (have q i) (found_placed index q (index == q) refl room.table.objects i))
-      ∙ ap (λ (found : Option Object). option_or (kept_controller q rooms) (cond (index == q) found None)) (sym keeps.controller)
-      ∙ here_or_before q (index == q) refl
+abbrev objects_of : RoomInView → List Object
+objects_of room = room.room.now.table.objects
+
+kept_push : (q : ℕ) (old : List RoomInView) (kept : RoomInView) (b : Bool) → (kept.index == q) ≡ b → kept_objects q (old ++ kept ∷ []) ≡ option_map objects_of (option_or (find (has_index q) old) (cond b (Some kept) None))
+kept_push q old kept b is =
+    ap (option_map objects_of) (find-append (has_index q) old (kept ∷ []) ∙ ap (λ (c : Bool). option_or (find (has_index q) old) (cond c (Some kept) None)) is)
+
+-- The tables that are kept are those of the rooms that are seen.
+abbrev HaveSeen : ℕ → List RoomInView → List Room → Type 0
+HaveSeen player kept rooms = (q : ℕ) → kept_objects q kept ≡ option_and_then (objects_if_seen player) (slice_get rooms q)
+
+abbrev told_if : Bool → Room → Option (List Object)
+told_if b room = if b then Some room.table.objects else None
+
+-- at the index of the room that is added
+table_here : (index : ℕ) (room : Room) (b : Bool) (old new : List RoomInView) → AllByRecursion (λ r. r.index < index) old → KeepsRoomIf b index room old new → kept_objects index new ≡ told_if b room
+table_here index room true old new below keeps =
+    let kept = keeps.kept in
+    let at : (kept.index == index) ≡ true = eq-eqb kept.index index keeps.place in
+    ap (kept_objects index) keeps.last
+    ∙ kept_push index old kept true at
+    ∙ ap (λ (found : Option RoomInView). option_map objects_of (option_or found (Some kept))) (none_of_index index old below)
+    ∙ ap (λ (r : Room). Some r.table.objects) keeps.stored
+table_here index room false old new below same =
+    ap (kept_objects index) same ∙ ap (option_map objects_of) (none_of_index index old below)
+
+-- at any other
+table_there : (q index : ℕ) (room : Room) (b : Bool) (old new : List RoomInView) → (q ≡ index → ⊥) → KeepsRoomIf b index room old new → kept_objects q new ≡ kept_objects q old
+table_there q index room true old new apart keeps =
+    let kept = keeps.kept in
+    let at : (kept.index == q) ≡ false = ne_eqb kept.index q (λ same. apart (sym same ∙ keeps.place)) in
+    ap (kept_objects q) keeps.last
+    ∙ kept_push q old kept false at
+    ∙ ap (option_map objects_of) (or_none (find (has_index q) old))
+table_there q index room false old new apart same = ap (kept_objects q) same
+
+tables_more : (player index : ℕ) (taken : List Room) (room : Room) (old new : List RoomInView) → index ≡ length taken → AllByRecursion (λ r. r.index < index) old → HaveSeen player old taken
+    → KeepsRoomIf (is_seen player room) index room old new → HaveSeen player new (taken ++ room ∷ [])
+tables_more player index taken room old new place below have keeps q =
+    elim (cases_eq q index) [
+      | inl same ↦
+          ap (λ (n : ℕ). kept_objects n new) same
+          ∙ table_here index room (is_seen player room) old new below keeps
+          ∙ ap (option_and_then (objects_if_seen player)) (sym (ap (slice_get (taken ++ room ∷ [])) (same ∙ place) ∙ push_here taken room))
+      | inr apart ↦
+          table_there q index room (is_seen player room) old new apart keeps
+          ∙ have q
+          ∙ ap (option_and_then (objects_if_seen player)) (sym (push_there taken room q (λ same. apart (same ∙ sym place))))
+    ]
 
 -- ---- one room more
 
@@ -114,13 +136,6 @@ below_more index room true old new below keeps =
 below_more index room false old new below same =
     subst (AllByRecursion (λ (r : RoomInView). r.index < suc index)) (sym same) (all_weaker (λ (r : RoomInView). r.index < index) (λ (r : RoomInView). r.index < suc index) (λ r less. omega arith) old below)
 
-controllers_if : (player index : ℕ) (room : Room) (b : Bool) (old new : List RoomInView) (objects : List Placed) → is_seen player room ≡ b → AllByRecursion (λ r. r.index < index) old → HaveControllers old objects → KeepsRoomIf b index room old new → HaveControllers new (objects ++ objects_if_seen player index room)
-controllers_if player index room true old new objects is below have keeps =
-    subst (HaveControllers new) (ap (λ (c : Bool). objects ++ (if c then placed_at index room.table.objects else [])) (sym is)) (controllers_more index room old new objects below have keeps)
-controllers_if player index room false old new objects is below have same =
-    subst (HaveControllers new) (sym (append-nil objects) ∙ ap (λ (c : Bool). objects ++ (if c then placed_at index room.table.objects else [])) (sym is))
-    (subst (λ (rooms : List RoomInView). HaveControllers rooms objects) (sym same) have)
-
 pub gathered_more : (player index : ℕ) (taken : List Room) (room : Room) (old new : Gathered) → index ≡ length taken → IsGathered player taken old → IsAdded player index room old new → IsGathered player (taken ++ room ∷ []) new
 gathered_more player index taken room old new place so added =
     let below = subst (λ (n : ℕ). AllByRecursion (λ (r : RoomInView). r.index < n) old.rooms.items) (sym place) so.below in
@@ -132,9 +147,7 @@ gathered_more player index taken room old new place so added =
       sites = added.sites ∙ ap (λ (n : ℕ). n + sites_at player room) so.sites ∙ sym (sum_by_push (sites_at player) taken room);
       rising = rising_more index room (is_seen player room) old.rooms.items new.rooms.items below so.rising added.rooms;
       below = subst (λ (n : ℕ). AllByRecursion (λ (r : RoomInView). r.index < n) new.rooms.items) (ap suc place ∙ sym (grown taken room)) (below_more index room (is_seen player room) old.rooms.items new.rooms.items below added.rooms);
-      controllers = subst (HaveControllers new.rooms.items)
-          ((λ i. from_each (objects_if_seen player) 0 taken ++ objects_if_seen player (place i) room) ∙ sym (from_each_push (objects_if_seen player) 0 taken room ∙ ap (λ (n : ℕ). from_each (objects_if_seen player) 0 taken ++ objects_if_seen player n room) (omega arith)))
-          (controllers_if player index room (is_seen player room) old.rooms.items new.rooms.items (from_each (objects_if_seen player) 0 taken) refl below so.controllers added.rooms);
+      tables = tables_more player index taken room old.rooms.items new.rooms.items place below so.tables added.rooms;
     }
 
 -- ---- a room in which the player owns nothing

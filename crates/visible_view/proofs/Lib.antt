@@ -1,4 +1,5 @@
 pub mod Gathering
 pub mod Seen
 pub mod Told
+pub mod Tables
 pub mod Few

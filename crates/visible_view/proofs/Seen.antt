@@ -1,20 +1,18 @@
 -- What is gathered, and the objects of the rooms that are flagged, are what the player sees of the world.
-use Rattle.std.proofs.Common.{Less, Equal, Greater, ◌≡◌, ℕ, zero, suc, ◌+◌, ◌<◌, ◌≤◌, ◌==◌, ◌&&◌, ◌||◌, Bool, true, false, cond, if◌then◌else◌, T, List, [], ◌∷◌, ◌++◌, map, length, get_or, Option, Some, None, option_map, refl, sym, ap, subst, ◌∙◌, inl, inr, arith}
+use Rattle.std.proofs.Common.{Less, Equal, Greater, ◌≡◌, ℕ, zero, suc, ◌+◌, ◌<◌, ◌≤◌, ◌==◌, ◌&&◌, ◌||◌, Bool, true, false, cond, if◌then◌else◌, T, List, [], ◌∷◌, ◌++◌, map, length, get_or, Some, None, option_map, refl, sym, ap, subst, ◌∙◌, arith}
 use Rattle.std.specs.Prelude.{slice_get}
-use Rattle.std.specs.List as lists
 use Rattle.std.specs.List.{AllByRecursion, Contains, count_by, filter, list_any, sum_by}
 use Rattle.std.specs.List.Sorted.{IsPermutation}
 use Rattle.std.specs.declared.cmp.Ordering.{Ordering}
 use Rattle.std.specs.Ordering.{nat_cmp, is_eq, is_lt}
 use Rattle.std.specs.Cmp.{nat_cmp_total, ranked}
-use Rattle.std.specs.FinMap.{find, empty, from_entries, entries, entries_sorted, entries-insert, get-entries, get-from_entries, is_sorted, len-empty, len-entries}
+use Rattle.std.specs.FinMap.{find, empty, from_entries, entries, entries-insert, get-entries, get-from_entries, is_sorted, len-empty, len-entries}
 use Rattle.std.specs.FinMap.Entries.{by_order, put, below_all}
-use Rattle.std.proofs.lemmas.Bool.{cases_eq, eq-eqb, eqb-true, ne_eqb}
-use Rattle.std.proofs.lemmas.List.{length-map, map-append, nil_from_length}
-use Rattle.std.proofs.lemmas.List.Elements.{filter-append}
+use Rattle.std.proofs.lemmas.Bool.{eq-eqb, ne_eqb}
+use Rattle.std.proofs.lemmas.List.{length-map, nil_from_length}
 use Rattle.std.proofs.lemmas.List.Folds.{list_any-append}
 use Rattle.std.proofs.lemmas.List.Sums.{count_by-le-length, length-filter, sum_by-append, sum_by-cons}
-use Rattle.std.proofs.lemmas.List.Sorted.{IsPermutation-cons, IsPermutation-middle, IsPermutation-refl, IsPermutation-sym, IsPermutation-trans, Contains-permutation, length_permutation, list_any-IsPermutation, sum_by-IsPermutation}
+use Rattle.std.proofs.lemmas.List.Sorted.{IsPermutation-cons, IsPermutation-middle, IsPermutation-refl, IsPermutation-trans, length_permutation, list_any-IsPermutation, sum_by-IsPermutation}
 use Rattle.object_store.specs.declared.account.Account.{Account}
 use Rattle.object_store.specs.declared.object.Object.{Object}
 use Rattle.object_store.specs.declared.world.Room.{Room}
@@ -23,8 +21,6 @@ use Rattle.object_store.proofs.Rising.{Rises, rises-filter}
 use Rattle.object_store.specs.declared.standing.Standing.{Standing}
 use Rattle.world_rules.specs.World.{Placed, World, shown, placed, placed_from, listed_room, listing_of, world_of, framed_from}
 use Rattle.world_rules.proofs.Lifting.{frames_stored}
-use Rattle.world_rules.specs.declared.rule.Rule.TheVariants.{Controllers}
-use Rattle.game_tables.specs.Kinds.{is_controller}
 use Rattle.world_rules.specs.Rules.{Stands}
 use Rattle.world_rules.specs.Sound.{IsSound}
 use Rattle.world_rules.proofs.Entries.{Entries, times, times_cons, no_times}
@@ -32,9 +28,9 @@ use Rattle.world_rules.proofs.Same.{once}
 use Rattle.visible_view.specs.Sights.{SeenRoom, Sight, sight_of, gives_sight, sees_room, seen_rooms, seen_objects, site_count}
 use Rattle.world_roster.specs.Rosters.{id_in, shown_entry}
 use Rattle.world_roster.proofs.Known.{find_as}
-use Rattle.visible_view.specs.inner.Gathered.{shown_room, is_flagged, is_seen, is_site_of, placed_at, from_each, objects_if_seen, room_if_seen, sites_at, is_controller_at, HaveControllers}
+use Rattle.visible_view.specs.inner.Gathered.{shown_room, is_flagged, is_seen, is_site_of, from_each, room_if_seen, sites_at}
 use Rattle.visible_view.specs.declared.gather.RoomInView.{RoomInView}
-use Rattle.object_store.proofs.Moved.{all_from_within, count_head, passed, failed, find_only, find_moved}
+use Rattle.object_store.proofs.Moved.{find_only}
 
 -- ---- the entries of a map that is made of entries whose keys stand once
 
@@ -114,7 +110,7 @@ flag_as player (suc r) index (room ∷ rooms) =
 -- ---- rooms, sites and objects, room by room
 
 -- what is told of each room from an index on
-abbrev Tells : (ℕ → Bool) → ℕ → ℕ → List Room → Type 0
+abbrev pub Tells : (ℕ → Bool) → ℕ → ℕ → List Room → Type 0
 Tells seen player index rooms = (k : ℕ) (room : Room) → slice_get rooms k ≡ Some room → seen (index + k) ≡ is_seen player room
 
 first_told : (seen : ℕ → Bool) (player index : ℕ) (room : Room) (rooms : List Room) → Tells seen player index (room ∷ rooms) → seen index ≡ is_seen player room
@@ -149,34 +145,9 @@ sites_stored player index (room ∷ rooms) =
     ∙ (λ i. sites_here player index room.table.objects i + sites_stored player (suc index) rooms i)
     ∙ sym (sum_by-cons (sites_at player) room rooms)
 
--- an object by its id
-abbrev keyed : Placed → ℕ × Placed
-keyed p = (p.object.id, p)
-
-values_keyed : (ps : List Placed) → map (λ (e : ℕ × Placed). e.1) (map keyed ps) ≡ ps
-values_keyed [] = refl
-values_keyed (p ∷ ps) = ap (λ (more : List Placed). p ∷ more) (values_keyed ps)
-
-filter_here : (seen : ℕ → Bool) (index : ℕ) (b : Bool) → seen index ≡ b → (objects : List Object) → filter (λ (e : ℕ × Placed). seen e.1.room) (map (entry_at index) objects) ≡ map keyed (if b then placed_at index objects else [])
-filter_here seen index true is [] = refl
-filter_here seen index false is [] = refl
-filter_here seen index true is (object ∷ objects) =
-    let rest : Entries = filter (λ (e : ℕ × Placed). seen e.1.room) (map (entry_at index) objects) in
-    ap (λ (b : Bool). cond b (entry_at index object ∷ rest) rest) is ∙ ap (λ (more : Entries). entry_at index object ∷ more) (filter_here seen index true is objects)
-filter_here seen index false is (object ∷ objects) =
-    let rest : Entries = filter (λ (e : ℕ × Placed). seen e.1.room) (map (entry_at index) objects) in
-    ap (λ (b : Bool). cond b (entry_at index object ∷ rest) rest) is ∙ filter_here seen index false is objects
-
-objects_stored : (seen : ℕ → Bool) (player index : ℕ) (rooms : List Room) → Tells seen player index rooms → filter (λ (e : ℕ × Placed). seen e.1.room) (placed_from index (map listed_room rooms)) ≡ map keyed (from_each (objects_if_seen player) index rooms)
-objects_stored seen player index [] tells = refl
-objects_stored seen player index (room ∷ rooms) tells =
-    filter-append (λ (e : ℕ × Placed). seen e.1.room) (map (entry_at index) room.table.objects) (placed_from (suc index) (map listed_room rooms))
-    ∙ (λ i. filter_here seen index (is_seen player room) (first_told seen player index room rooms tells) room.table.objects i ++ objects_stored seen player (suc index) rooms (later_told seen player index room rooms tells) i)
-    ∙ sym (map-append keyed (objects_if_seen player index room) (from_each (objects_if_seen player) (suc index) rooms))
-
 -- ---- entries that rise
 
-both : (a b : Bool) → T (a && b) → T a × T b
+pub both : (a b : Bool) → T (a && b) → T a × T b
 both true b h = (tt, h)
 both false b h = absurd h
 
@@ -201,59 +172,6 @@ filter_shown seen (s ∷ listed) =
     let rest = filter_shown seen listed in
     elim (seen s.room) as (λ b. map shown (cond b (s ∷ filter (λ s. seen s.room) listed) (filter (λ s. seen s.room) listed)) ≡ map (λ (e : ℕ × Placed). e.1) (cond b (shown_entry s ∷ filter (λ (e : ℕ × Placed). seen e.1.room) (map shown_entry listed)) (filter (λ (e : ℕ × Placed). seen e.1.room) (map shown_entry listed)))) [ true ↦ ap (λ (ps : List Placed). shown s ∷ ps) rest | false ↦ rest ]
 
--- ---- the controller of a room
-
--- It is the entry of a controller in the room of this index.
-abbrev controls : ℕ → ℕ × Placed → Bool
-controls index e = is_controller_at index e.1
-
-find_values : (index : ℕ) (es : Entries) → lists.find (is_controller_at index) (map (λ (e : ℕ × Placed). e.1) es) ≡ option_map (λ (e : ℕ × Placed). e.1) (lists.find (controls index) es)
-find_values index [] = refl
-find_values index (e ∷ es) =
-    let rest = find_values index es in
-    elim (controls index e) as (λ b. cond b (Some e.1) (lists.find (is_controller_at index) (map (λ (f : ℕ × Placed). f.1) es)) ≡ option_map (λ (f : ℕ × Placed). f.1) (cond b (Some e) (lists.find (controls index) es))) [ true ↦ refl | false ↦ rest ]
-
-module _ (seen : ℕ → Bool) (index : ℕ) where
-  abbrev is_in : ℕ × Placed → Bool
-  is_in e = seen e.1.room
-
-  abbrev found_in : Entries → Option (ℕ × Placed)
-  found_in es = lists.find (controls index) es
-
-  module _ (e : ℕ × Placed) (es : Entries) (rest : found_in (filter is_in es) ≡ cond (seen index) (found_in es) None) where
-    here : (b : Bool) → seen e.1.room ≡ b → e.1.room ≡ index → found_in (filter is_in (e ∷ es)) ≡ cond (seen index) (found_in (e ∷ es)) None
-    here true is same =
-        let seen_here : seen index ≡ true = ap seen (sym same) ∙ is in
-        ap (λ (b : Bool). found_in (cond b (e ∷ filter is_in es) (filter is_in es))) is
-        ∙ ap (λ (found : Option (ℕ × Placed)). cond (controls index e) (Some e) found) (rest ∙ ap (λ (b : Bool). cond b (found_in es) None) seen_here)
-        ∙ sym (ap (λ (b : Bool). cond b (found_in (e ∷ es)) None) seen_here)
-    here false is same =
-        let unseen : seen index ≡ false = ap seen (sym same) ∙ is in
-        ap (λ (b : Bool). found_in (cond b (e ∷ filter is_in es) (filter is_in es))) is
-        ∙ rest
-        ∙ ap (λ (b : Bool). cond b (found_in es) None) unseen
-        ∙ sym (ap (λ (b : Bool). cond b (found_in (e ∷ es)) None) unseen)
-
-    there : (e.1.room ≡ index → ⊥) → found_in (filter is_in (e ∷ es)) ≡ cond (seen index) (found_in (e ∷ es)) None
-    there apart =
-        let other : controls index e ≡ false = ap (λ (b : Bool). b && is_controller e.1.object.kind) (ne_eqb e.1.room index apart) in
-        let past : (later : Entries) → found_in (e ∷ later) ≡ found_in later = λ later. ap (λ (b : Bool). cond b (Some e) (found_in later)) other in
-        let back = ap (λ (found : Option (ℕ × Placed)). cond (seen index) found None) (sym (past es)) in
-        elim (seen e.1.room) as (λ b. found_in (cond b (e ∷ filter is_in es) (filter is_in es)) ≡ cond (seen index) (found_in (e ∷ es)) None) [ true ↦ past (filter is_in es) ∙ rest ∙ back | false ↦ rest ∙ back ]
-
-  -- of the rooms that are seen, what is controlling in a room is found as among all
-  find_seen : (es : Entries) → found_in (filter is_in es) ≡ cond (seen index) (found_in es) None
-  find_seen [] = elim (seen index) as (λ b. None ≡ cond {A = Option (ℕ × Placed)} b None None) [ true ↦ refl | false ↦ refl ]
-  find_seen (e ∷ es) =
-      elim (cases_eq e.1.room index) [
-        | inl same ↦ here e es (find_seen es) (seen e.1.room) refl same
-        | inr apart ↦ there e es (find_seen es) apart
-      ]
-
-split : (a b : Bool) → (a && b) ≡ true → (a ≡ true) × (b ≡ true)
-split true b is = (refl, is)
-split false b is = absurd (cc)
-
 -- ---- a sound world
 
 module _ (stored : Stored) (sound : IsSound stored) where
@@ -272,39 +190,6 @@ module _ (stored : Stored) (sound : IsSound stored) where
       ∙ find_as e.0 all
       ∙ ap (option_map (λ (f : ℕ × Placed). f.1)) (find_only (λ (f : ℕ × Placed). f.0 == e.0) all e within (eq-eqb e.0 e.0 refl) (once stored sound e.0))
 
-  -- by the rules, a room has one controller
-  no_more_controllers : (index : ℕ) (e : ℕ × Placed) (es : Entries) → controls index e ≡ true → Stands world e.0 e.1 → AllByRecursion (λ later. e.0 < later.0) es → AllByRecursion (λ f. Stands world f.0 f.1) es → count_by (controls index) es ≡ 0
-  no_more_controllers index e [] is stand above stand_too = refl
-  no_more_controllers index e (f ∷ es) is stand above stand_too =
-      let rest : count_by (controls index) es ≡ 0 = no_more_controllers index e es is stand above.1 stand_too.1 in
-      let head = count_head (controls index) f es in
-      let one = split (e.1.room == index) (is_controller e.1.object.kind) is in
-      elim (controls index f) as (λ b. controls index f ≡ b → count_by (controls index) (f ∷ es) ≡ 0) [
-        | true ↦ λ at.
-            let other = split (f.1.room == index) (is_controller f.1.object.kind) at in
-            absurd (sound.rules Controllers index (λ r. cc) (λ r. cc) (e.0, f.0, e.1, f.1, above.0, stand, stand_too.0, eqb-true e.1.room index one.0, eqb-true f.1.room index other.0, one.1, other.1))
-        | false ↦ λ at. (let none = failed (controls index f) at in omega arith)
-      ] refl
-
-  one_controller : (index : ℕ) (es : Entries) → Rises (λ e. e.0) es → AllByRecursion (λ e. Stands world e.0 e.1) es → count_by (controls index) es ≤ 1
-  one_controller index [] rises stand = omega arith
-  one_controller index (e ∷ es) rises stand =
-      let rest : count_by (controls index) es ≤ 1 = one_controller index es rises.1 stand.1 in
-      let head = count_head (controls index) e es in
-      elim (controls index e) as (λ b. controls index e ≡ b → count_by (controls index) (e ∷ es) ≤ 1) [
-        | true ↦ λ is.
-            (let here = passed (controls index e) is in
-            let none : count_by (controls index) es ≡ 0 = no_more_controllers index e es is stand.0 rises.0 stand.1 in
-            omega arith)
-        | false ↦ λ is. (let here = failed (controls index e) is in omega arith)
-      ] refl
-
-  all_stand : AllByRecursion (λ e. Stands world e.0 e.1) (entries world.objects)
-  all_stand = all_from_within (λ (e : ℕ × Placed). Stands world e.0 e.1) (entries world.objects) (λ e within. stands e (Contains-permutation (entries world.objects) all e (IsPermutation-sym all (entries world.objects) moved) within))
-
-  controller_moved : (index : ℕ) → lists.find (controls index) all ≡ lists.find (controls index) (entries world.objects)
-  controller_moved index = find_moved (controls index) all (entries world.objects) moved (one_controller index (entries world.objects) (rises_from_sorted (entries world.objects) (entries_sorted world.objects)) all_stand)
-
   module _ (player : ℕ) where
     -- which room is seen, by its index
     seen_by_index : (index : ℕ) → get_or (map (is_seen player) stored.rooms) index false ≡ sees_room world player index
@@ -313,7 +198,7 @@ module _ (stored : Stored) (sound : IsSound stored) where
         ∙ ap (λ (n : ℕ). list_any (sees player n) all) (let same : 0 + index ≡ index = omega arith in same)
         ∙ list_any-IsPermutation (sees player index) all (entries world.objects) moved
 
-    told : Tells (sees_room world player) player 0 stored.rooms
+    pub told : Tells (sees_room world player) player 0 stored.rooms
     told k room is =
         let place : k ≡ 0 + k = omega arith in
         ap (sees_room world player) (sym place)
@@ -338,22 +223,6 @@ module _ (stored : Stored) (sound : IsSound stored) where
 
       pub objects_seen : map shown seen ≡ seen_objects world player
       objects_seen = ap (map shown) in_view ∙ filter_shown (sees_room world player) listed ∙ ap (λ (es : Entries). map (λ (e : ℕ × Placed). e.1) (filter in_sight es)) are
-
-      pub controllers_seen : (rooms : List RoomInView) → HaveControllers rooms (from_each (objects_if_seen player) 0 stored.rooms) → HaveControllers rooms (map shown seen)
-      controllers_seen rooms have index =
-          let test : ℕ × Placed → Bool = controls index in
-          ap (λ (ps : List Placed). option_map (λ (p : Placed). p.object) (lists.find (is_controller_at index) ps)) objects_seen
-          ∙ ap (option_map (λ (p : Placed). p.object)) (
-          find_values index (filter in_sight (entries world.objects))
-          ∙ ap (option_map (λ (e : ℕ × Placed). e.1)) (
-          find_seen (sees_room world player) index (entries world.objects)
-          ∙ ap (λ (found : Option (ℕ × Placed)). cond (sees_room world player index) found None) (sym (controller_moved index))
-          ∙ sym (find_seen (sees_room world player) index all)
-          )
-          ∙ sym (find_values index (filter in_sight all))
-          ∙ ap (lists.find (is_controller_at index)) (ap (map (λ (e : ℕ × Placed). e.1)) (objects_stored (sees_room world player) player 0 stored.rooms told) ∙ values_keyed (from_each (objects_if_seen player) 0 stored.rooms))
-          )
-          ∙ have index
 
       -- what is in view is the player's sight
       pub sight_seen : (account : Account) → account.player ≡ player → (rooms : List RoomInView) (sites : ℕ) → map shown_room rooms ≡ from_each (room_if_seen player) 0 stored.rooms → sites ≡ sum_by (sites_at player) stored.rooms

@@ -1,36 +1,23 @@
 -- What the calls of a view tell.
-use Rattle.std.proofs.Common.{◌≡◌, ℕ, zero, suc, ◌<◌, ◌==◌, min, cond, true, false, List, [], ◌∷◌, map, length, get_or, Option, Some, None, option_map, refl, sym, ap, ◌∙◌, inl, inr, arith}
-use Rattle.std.specs.List.{find}
-use Rattle.std.proofs.lemmas.Bool.{cases_eq, cases_lt, eq-eqb, eqb-true, ne_eqb}
+use Rattle.std.proofs.Common.{◌≡◌, ℕ, zero, suc, ◌<◌, ◌==◌, ◌&&◌, cond, true, false, List, [], ◌∷◌, map, length, get_or, Option, Some, None, option_map, refl, sym, ap, ◌∙◌, inl, inr, arith}
+use Rattle.std.specs.List.{filter, find}
+use Rattle.std.specs.Option.{unwrap_or}
+use Rattle.std.proofs.lemmas.Bool.{cases_eq, eq-eqb, eqb-true, ne_eqb}
 use Rattle.std.proofs.lemmas.List.Elements.{All-from_recursion}
-use Rattle.game_tables.specs.Kinds.{store_capacity, extension_capacity}
-use Rattle.game_tables.specs.declared.kind.Kind.{Kind}
-use Rattle.game_tables.specs.declared.kind.Kind.TheVariants.{Extension}
 use Rattle.object_store.specs.declared.account.Account.{Account}
 use Rattle.object_store.specs.Stored.{find_account}
+use Rattle.object_store.specs.declared.object.Object.{Object}
 use Rattle.object_store.specs.declared.standing.Standing.{Standing}
 use Rattle.object_store.proofs.Rising.{Rises}
-use Rattle.world_rules.specs.World.{shown}
+use Rattle.world_rules.specs.World.{Placed, shown}
+use Rattle.game_tables.specs.Kinds.{is_controller}
+use Rattle.object_store.specs.Controllers.{controller_among}
 use Rattle.world_roster.specs.Rosters.{id_in}
 use Rattle.visible_view.specs.Sights.{SeenRoom, Sight}
-use Rattle.visible_view.specs.Fields.{place_of, room_at}
-use Rattle.visible_view.specs.inner.Gathered.{shown_room, index_in}
+use Rattle.visible_view.specs.Fields.{objects_at, place_of, room_at}
+use Rattle.visible_view.specs.inner.Gathered.{shown_room, index_in, HaveTables}
 use Rattle.visible_view.specs.declared.gather.RoomInView.{RoomInView}
 use Rattle.object_store.proofs.Moved.{found_within}
-
--- a level past 8 is as one below 7
-extension_capped : (level : ℕ) → extension_capacity (min level 255) ≡ extension_capacity level
-extension_capped level =
-    elim (cases_lt level 256) [
-      | inl less ↦ ap extension_capacity (let same : min level 255 ≡ level = omega arith in same)
-      | inr more ↦
-          let capped : min level 255 ≡ 255 = omega arith in
-          ap extension_capacity capped ∙ sym (ap (λ b. cond {A = ℕ} b 200 (cond (level == 7) 100 50)) (ne_eqb level 8 (λ same. omega arith)) ∙ ap (λ b. cond {A = ℕ} b 100 50) (ne_eqb level 7 (λ same. omega arith)))
-    ]
-
-pub capped_level : (kind : Kind) (level : ℕ) → store_capacity kind (min level 255) ≡ store_capacity kind level
-capped_level Extension level = extension_capped level
-capped_level _ level = refl
 
 pub found_player : (player : ℕ) (accounts : List Account) (account : Account) → find_account player accounts ≡ Some account → account.player ≡ player
 found_player player accounts account is = eqb-true account.player player (found_within (λ (a : Account). a.player == player) accounts account is).1
@@ -59,3 +46,28 @@ place_absent id (first ∷ objects) absent =
 
 pub room_told : (index : ℕ) (rooms : List RoomInView) (sight : Sight) → map shown_room rooms ≡ sight.rooms → (found : Option RoomInView) → found ≡ find (λ room. index_in room == index) rooms → room_at sight index ≡ option_map shown_room found
 room_told index rooms sight same found is = ap (find (λ (room : SeenRoom). room.index == index)) (sym same) ∙ find_shown index rooms ∙ ap (option_map shown_room) (sym is)
+
+-- A controller is found in a room as among its objects.
+pub controller_found : (index : ℕ) (objects : List Placed) → option_map (λ (p : Placed). p.object) (find (λ (p : Placed). (p.room == index) && is_controller p.object.kind) objects)
+    ≡ controller_among (map (λ (p : Placed). p.object) (filter (λ (p : Placed). p.room == index) objects))
+controller_found index [] = refl
+controller_found index (first ∷ objects) =
+    let rest = controller_found index objects in
+    elim (first.room == index) as (λ b. option_map (λ (p : Placed). p.object) (cond (b && is_controller first.object.kind) (Some first) (find (λ (p : Placed). (p.room == index) && is_controller p.object.kind) objects))
+    ≡ controller_among (map (λ (p : Placed). p.object) (cond b (first ∷ filter (λ (p : Placed). p.room == index) objects) (filter (λ (p : Placed). p.room == index) objects)))) [
+      | true ↦ elim (is_controller first.object.kind) as (λ b. option_map (λ (p : Placed). p.object) (cond b (Some first) (find (λ (p : Placed). (p.room == index) && is_controller p.object.kind) objects))
+          ≡ cond b (Some first.object) (controller_among (map (λ (p : Placed). p.object) (filter (λ (p : Placed). p.room == index) objects)))) [ true ↦ refl | false ↦ rest ]
+      | false ↦ rest
+    ]
+
+-- the objects of the table of a room that is found
+abbrev pub among : Option RoomInView → List Object
+among found = unwrap_or (option_map (λ (room : RoomInView). room.room.now.table.objects) found) []
+
+-- The objects of a room are those of its table, where it is kept, and none else.
+pub objects_told : (index : ℕ) (rooms : List RoomInView) (objects : List Standing) (sight : Sight) → HaveTables rooms (map shown objects) → map shown objects ≡ sight.objects → (found : Option RoomInView)
+    → found ≡ find (λ room. index_in room == index) rooms → objects_at sight index ≡ among found
+objects_told index rooms objects sight have same found is =
+    ap (λ (ps : List Placed). map (λ (p : Placed). p.object) (filter (λ (p : Placed). p.room == index) ps)) (sym same)
+    ∙ have index
+    ∙ ap among (sym is)

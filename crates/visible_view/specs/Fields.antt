@@ -1,15 +1,15 @@
 -- What a module is told of what its player sees.
-use Rattle.std.specs.Prelude.{ℕ, suc, ◌+◌, ◌-◌, ◌*◌, ◌==◌, ◌&&◌, nat_lt, if◌then◌else◌, List, [], ◌∷◌, length, Option, Some, None, option_map, option_and_then, slice_get}
-use Rattle.std.specs.List.{find}
-use Rattle.game_tables.specs.Bodies.{load_room, part_hits}
-use Rattle.game_tables.specs.Kinds.{store_capacity, hits_max, source_capacity, is_controller}
+use Rattle.std.specs.Prelude.{ℕ, suc, ◌+◌, ◌-◌, ◌*◌, ◌==◌, ◌&&◌, nat_lt, if◌then◌else◌, List, [], ◌∷◌, length, map, Option, Some, None, option_map, option_and_then, slice_get}
+use Rattle.std.specs.List.{filter, find}
+use Rattle.game_tables.specs.Bodies.{part_hits}
+use Rattle.game_tables.specs.Kinds.{hits_max, is_controller}
 use Rattle.game_tables.specs.Numbers.{kind_number, part_number}
 use Rattle.game_tables.specs.declared.kind.Kind.{Kind}
-use Rattle.game_tables.specs.declared.kind.Kind.TheVariants.{Source, Creep}
+use Rattle.game_tables.specs.declared.kind.Kind.TheVariants.{Creep}
 use Rattle.room_terrain.specs.Tiles.{tile}
 use Rattle.room_terrain.specs.declared.terrain.Ground.{Ground}
 use Rattle.object_store.specs.declared.object.Object.{Object}
-use Rattle.object_store.specs.Controllers.{is_taken, level_of}
+use Rattle.object_store.specs.Stores.{capacity_as}
 use Rattle.world_rules.specs.World.{Placed}
 use Rattle.visible_view.specs.Sights.{SeenRoom, Sight}
 
@@ -33,17 +33,16 @@ abbrev pub place_of : ℕ → List Placed → Option ℕ
 place_of id [] = None
 place_of id (placed ∷ later) = if placed.object.id == id then Some 0 else option_map suc (place_of id later)
 
+-- the objects of a room that is seen, in rising id
+abbrev pub objects_at : Sight → ℕ → List Object
+objects_at sight index =
+    map (λ placed. placed.object) (filter (λ placed. placed.room == index) sight.objects)
+
 -- the controller of a room that is seen
 abbrev pub controller_at : Sight → ℕ → Option Object
 controller_at sight index =
     option_map (λ placed. placed.object)
     (find (λ placed. (placed.room == index) && is_controller placed.object.kind) sight.objects)
-
--- the energy that an object holds, by its room's controller
-abbrev pub capacity_as : Kind → Option Object → Object → ℕ
-capacity_as Source controller object = source_capacity (is_taken controller)
-capacity_as Creep controller object = load_room object.hits object.body
-capacity_as kind controller object = store_capacity kind (level_of controller)
 
 -- the hits of a part with so many parts after it: those of a spawn's body, which is being made, are whole
 abbrev pub hits_as : Kind → Object → ℕ → ℕ

@@ -1,20 +1,9 @@
 // What is told of one object or one tile.
-ghost use Rattle.std.specs.Prelude.{◌≡◌, ◌&&◌, ◌-◌, ◌<◌, nat_lt, length, if◌then◌else◌, slice_get, option_map, None};
-ghost use Rattle.game_tables.specs.Kinds.{store_capacity};
+ghost use Rattle.std.specs.Prelude.{◌≡◌, ◌&&◌, ◌-◌, ◌<◌, nat_lt, length, if◌then◌else◌, slice_get, None};
 ghost use Rattle.room_terrain.specs.Tiles.{tile};
-ghost use Rattle.object_store.specs.Controllers.{level_of as level};
 ghost use Rattle.visible_view.specs.Fields.{hits_as, part_field as told_part};
 
-use game_tables::store_capacity;
-use object_store::{Ground, Kind, Object, Terrain, level_of};
-
-/// The energy that a building holds in the room of a controller.
-#[tactic(auto, using(crate::proofs::Told::capped_level))]
-pub fn building_capacity(kind: Kind, controller: Option<&Object>) -> u64
-    ensures { result ≡ store_capacity kind (level (option_map (λ object. object.now) controller.entry)) }
-{
-    store_capacity(kind, level_of(controller).min(255) as u8)
-}
+use object_store::{Ground, Kind, Object, Terrain};
 
 /// The number of a part times 1,000 and its hits, by its place in the body.
 pub fn part_field(object: &Object, i: u32) -> Option<u64>

@@ -10,12 +10,11 @@ use game_tables::{is_building, is_controller, is_creep, is_site};
 use object_store::{Object, Objects, Room, RoomTable, Standing};
 use std::alloc::Global;
 
-/// A room that is seen, with its controller.
+/// A room that is seen.
 #[derive(Clone, Copy)]
 pub struct RoomInView<'a> {
     pub index: u32,
     pub room: &'a Room,
-    pub controller: Option<&'a Object>,
 }
 
 /// What is seen of some rooms: those that are seen in rising index, a flag for each room whether it
@@ -77,11 +76,7 @@ impl<'a> Gathered<'a> {
         self.sites += found.sites;
         self.flags.push(found.is_seen)?;
         if found.is_seen {
-            self.rooms.push(RoomInView {
-                index,
-                room,
-                controller: room.table.controller(),
-            })?;
+            self.rooms.push(RoomInView { index, room })?;
         }
         Ok(())
     }

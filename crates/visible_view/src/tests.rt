@@ -2,7 +2,7 @@
 ghost use Rattle.std.specs.Prelude.{◌≡◌, [], ◌∷◌, IfOk, OnOk};
 ghost use Rattle.object_store.specs.Tables.{IsRising};
 
-use crate::field::{building_capacity, ground_of, part_field};
+use crate::field::{ground_of, part_field};
 use crate::gather::{flagged_objects, gather};
 use crate::view::View;
 use game_tables::{Body, Part};
@@ -94,8 +94,12 @@ fn rooms_are_gathered(rt: HostRuntime) -> Result<(), Fail> {
     );
     let (first, last) = (gathered.rooms[0], gathered.rooms[1]);
     assert_eq!(rt; (first.index, last.index), (0, 2));
-    assert!(rt; first.controller.is_none());
-    assert_eq!(rt; last.controller.map(|object| object.id), Some(5));
+    assert_eq!(rt; (first.room.table.len(), last.room.table.len()), (1, 1));
+    assert!(rt; first.room.table.controller().is_none());
+    assert_eq!(rt;
+        last.room.table.controller().map(|object| object.id),
+        Some(5)
+    );
     Ok(())
 }
 
@@ -118,7 +122,7 @@ fn objects_of_flagged_rooms_are_seen(rt: HostRuntime) -> Result<(), Fail> {
 }
 
 #[test]
-fn parts_and_capacities_are_told(rt: HostRuntime) {
+fn parts_are_told(rt: HostRuntime) {
     let creep = Object {
         hits: 120,
         body: body(&[Part::Move, Part::Work, Part::Claim]),
@@ -133,16 +137,6 @@ fn parts_and_capacities_are_told(rt: HostRuntime) {
         ..creep
     };
     assert_eq!(rt; part_field(&spawn, 0), Some(1_100));
-
-    let mut controller = thing(2, Kind::Controller, 1);
-    assert_eq!(rt; building_capacity(Kind::Extension, None), 50);
-    for (level, capacity) in [(1, 50), (7, 100), (8, 200), (300, 50)] {
-        controller.extra = level;
-        assert_eq!(rt;
-            building_capacity(Kind::Extension, Some(&controller)),
-            capacity
-        );
-    }
 }
 
 #[test]
@@ -177,6 +171,7 @@ fn a_world_without_rooms_is_seen(rt: HostRuntime) -> Result<(), Fail> {
     );
     assert!(rt; view.object(0).is_none());
     assert!(rt; view.name(0).is_none());
+    assert!(rt; view.table(0).is_none());
     assert_eq!(rt; view.ground(0, 0, 0), None);
     Ok(())
 }

@@ -1,23 +1,25 @@
 // What a player sees of the world, made once for a run and asked at every host call.
-ghost use Rattle.std.specs.Prelude.{◌≡◌, ◌==◌, ◌≤◌, ◌<◌, ◌^◌, length, map, slice_get, Option, Some, None, option_map, IfSome, IfNone, IfOk};
+ghost use Rattle.std.specs.Prelude.{◌≡◌, ◌==◌, ◌≤◌, ◌<◌, ◌^◌, [], length, map, slice_get, Option, Some, None, option_map, IfSome, IfNone, IfOk};
 ghost use Rattle.std.specs.List.{find};
+ghost use Rattle.std.specs.Option.{unwrap_or};
 ghost use Rattle.std.specs.List.Sorted.{IsPartitionPoint};
 ghost use Rattle.game_tables.specs.Limits.{most_rooms};
 ghost use Rattle.object_store.specs.declared.account.Account.{Account};
 ghost use Rattle.object_store.specs.Stored.{HasAccount, find_account};
+ghost use Rattle.object_store.specs.Stores.{capacity_as};
 ghost use Rattle.object_store.proofs.Rising.{Rises};
 ghost use Rattle.world_rules.specs.Sound.{IsSound};
 ghost use Rattle.world_rules.specs.World.{shown, world_of};
 ghost use Rattle.world_roster.specs.Rosters.{id_in};
 ghost use Rattle.visible_view.specs.Sights.{sight_of};
-ghost use Rattle.visible_view.specs.Fields.{capacity_as, controller_at, field_at, field_of as told_field, ground_at, place_of, room_at};
+ghost use Rattle.visible_view.specs.Fields.{controller_at, field_at, field_of as told_field, ground_at, objects_at, place_of, room_at};
 ghost use Rattle.visible_view.specs.inner.Gathered.{index_in};
 
 use crate::NoMemory;
-use crate::field::{building_capacity, ground_of, part_field};
+use crate::field::{ground_of, part_field};
 use crate::gather::{RoomInView, flagged_objects, gather};
-use game_tables::{hits_max, source_capacity};
-use object_store::{Account, Ground, Kind, Object, RoomName, Standing, World, is_taken};
+use game_tables::hits_max;
+use object_store::{Account, Ground, Object, RoomName, RoomTable, Standing, World, capacity};
 use std::alloc::Global;
 use std::marker::Model;
 use world_roster::Roster;
@@ -184,6 +186,18 @@ impl<'a> View<'a> {
         ground_of(&seen.room.terrain, x, y)
     }
 
+    /// The table of a room, by the room's index in the world: of a room that is seen, and of no other.
+    /// In a room without one nothing is seen.
+    pub fn table(&self, room: u32) -> Option<&'a RoomTable>
+        ensures seen { option_map (λ table. table.now.objects) result
+            ≡ option_map (λ seen. objects_at self.now room) (room_at self.now room) }
+        ensures objects { unwrap_or (option_map (λ table. table.now.objects) result) []
+            ≡ objects_at self.now room }
+    {
+        let seen = room_of(&self.rooms, room)?;
+        Some(&seen.room.table)
+    }
+
     /// A field of the object at a place: 0 its id, 1 its kind's number, 2 its room, 3 and 4 its tile,
     /// 5 its owner, 6 its hits and 7 the most of them, 8 its energy and 9 the most of it, 10 its
     /// timer, 11 its level, fatigue or kind to be built, 12 its progress, 13 who reserves it and 14
@@ -228,19 +242,14 @@ impl<'a> View<'a> {
             ≡ capacity_as placed.now.object.now.kind
             (controller_at self.now placed.now.room) placed.now.object.now }
     {
-        let object = placed.object;
-        match object.kind {
-            Kind::Source => source_capacity(is_taken(self.controller(placed.room))),
-            Kind::Creep => u64::from(object.body.capacity(object.hits)),
-            kind => building_capacity(kind, self.controller(placed.room)),
-        }
+        capacity(placed.object, self.controller(placed.room))
     }
 
     // The controller of a room that is seen.
     fn controller(&self, room: u32) -> Option<&Object>
         ensures { option_map (λ object. object.now) result ≡ controller_at self.now room }
     {
-        room_of(&self.rooms, room)?.controller
+        room_of(&self.rooms, room)?.room.table.controller()
     }
 }
 

@@ -1,11 +1,11 @@
 -- What is gathered of the stored rooms for a player, room by room. For private clauses.
-use Rattle.std.specs.Prelude.{◌≡◌, ℕ, suc, ◌+◌, ◌^◌, ◌<◌, ◌==◌, ◌&&◌, Bool, true, false, if◌then◌else◌, List, [], ◌∷◌, ◌++◌, length, map, slice_index_or, Option, option_map, option_and_then}
-use Rattle.std.specs.List.{AllByRecursion, count_by, find, list_any, sum_by}
+use Rattle.std.specs.Prelude.{◌≡◌, ℕ, suc, ◌+◌, ◌^◌, ◌<◌, ◌==◌, ◌&&◌, Bool, true, false, if◌then◌else◌, List, [], ◌∷◌, ◌++◌, length, map, slice_get, slice_index_or, Option, Some, None, option_map, option_and_then}
+use Rattle.std.specs.List.{AllByRecursion, count_by, filter, find, list_any, sum_by}
+use Rattle.std.specs.Option.{unwrap_or}
 use Rattle.object_store.specs.declared.object.Object.{Object}
 use Rattle.object_store.specs.declared.standing.Standing.{Standing}
 use Rattle.object_store.specs.declared.world.Room.{Room}
-use Rattle.object_store.specs.Controllers.{controller_among}
-use Rattle.game_tables.specs.Kinds.{is_controller, is_site}
+use Rattle.game_tables.specs.Kinds.{is_site}
 use Rattle.world_rules.specs.World.{Placed, shown}
 use Rattle.world_roster.specs.Rosters.{id_in}
 use Rattle.visible_view.specs.Sights.{SeenRoom, gives_sight}
@@ -17,9 +17,6 @@ use Rattle.object_store.proofs.Rising.{Rises}
 
 abbrev pub shown_room : RoomInView → SeenRoom
 shown_room room = record { index = room.index; name = room.room.now.name; grounds = room.room.now.terrain }
-
-abbrev pub controller_in : RoomInView → Option Object
-controller_in room = option_map (λ object. object.now) room.controller
 
 abbrev pub index_in : RoomInView → ℕ
 index_in room = room.index
@@ -34,18 +31,14 @@ is_seen player room = list_any (gives_sight player) room.table.objects
 abbrev pub is_site_of : ℕ → Object → Bool
 is_site_of player object = is_site object.kind && (object.owner == player)
 
--- the objects of a room
-abbrev pub placed_at : ℕ → List Object → List Placed
-placed_at index objects = map (λ object. record { room = index; object = object }) objects
-
 -- what is taken of rooms, from an index on
 abbrev pub from_each : {A : Type 0} → (ℕ → Room → List A) → ℕ → List Room → List A
 from_each taken index [] = []
 from_each taken index (room ∷ rooms) = taken index room ++ from_each taken (suc index) rooms
 
--- the objects of a room that is seen
-abbrev pub objects_if_seen : ℕ → ℕ → Room → List Placed
-objects_if_seen player index room = if is_seen player room then placed_at index room.table.objects else []
+-- the objects of a room, where it is seen
+abbrev pub objects_if_seen : ℕ → Room → Option (List Object)
+objects_if_seen player room = if is_seen player room then Some room.table.objects else None
 
 -- a room that is seen
 abbrev pub room_if_seen : ℕ → ℕ → Room → List SeenRoom
@@ -57,19 +50,16 @@ room_if_seen player index room =
 abbrev pub sites_at : ℕ → Room → ℕ
 sites_at player room = count_by (is_site_of player) room.table.objects
 
--- It is a controller in the room of this index.
-abbrev pub is_controller_at : ℕ → Placed → Bool
-is_controller_at index placed = (placed.room == index) && is_controller placed.object.kind
+-- the objects of a room that is kept
+abbrev pub kept_objects : ℕ → List RoomInView → Option (List Object)
+kept_objects index rooms =
+    option_map (λ room. room.room.now.table.objects) (find (λ room. room.index == index) rooms)
 
--- the controller of a room, as it is kept with the room
-abbrev pub kept_controller : ℕ → List RoomInView → Option Object
-kept_controller index rooms = option_and_then controller_in (find (λ room. room.index == index) rooms)
-
--- The controllers that are kept with the rooms are those among the objects.
-abbrev pub HaveControllers : List RoomInView → List Placed → Type 0
-HaveControllers rooms objects =
-    (index : ℕ) → option_map (λ placed. placed.object) (find (is_controller_at index) objects)
-    ≡ kept_controller index rooms
+-- The objects with the index of a room that is kept are those of its table, and no others are there.
+abbrev pub HaveTables : List RoomInView → List Placed → Type 0
+HaveTables rooms objects =
+    (index : ℕ) → map (λ placed. placed.object) (filter (λ placed. placed.room == index) objects)
+    ≡ unwrap_or (kept_objects index rooms) []
 
 -- The object's room is one of those that are flagged, by their indices.
 abbrev pub is_flagged : List Bool → Standing → Bool
@@ -77,13 +67,12 @@ is_flagged flags standing = slice_index_or flags standing.room false
 
 -- ---- room by room
 
--- One more room is kept, with its controller.
+-- One more room is kept.
 pub record KeepsRoom (index : ℕ) (room : Room) (old new : List RoomInView) : Type 0 where
   pub kept : RoomInView
   pub last : new ≡ old ++ kept ∷ []
   pub place : kept.index ≡ index
   pub stored : kept.room.now ≡ room
-  pub controller : controller_in kept ≡ controller_among room.table.objects
 
 abbrev pub KeepsRoomIf : Bool → ℕ → Room → List RoomInView → List RoomInView → Type 0
 KeepsRoomIf true index room old new = KeepsRoom index room old new
@@ -102,15 +91,16 @@ pub record IsGathered (player : ℕ) (rooms : List Room) (gathered : Gathered) :
   pub sites : gathered.sites ≡ sum_by (sites_at player) rooms
   pub rising : Rises index_in gathered.rooms.items
   pub below : AllByRecursion (λ room. room.index < length rooms) gathered.rooms.items
-  pub controllers : HaveControllers gathered.rooms.items (from_each (objects_if_seen player) 0 rooms)
+  pub tables : (index : ℕ) → kept_objects index gathered.rooms.items
+      ≡ option_and_then (objects_if_seen player) (slice_get rooms index)
 
 -- ---- what a view keeps
 
--- The rooms rise by their index and the objects by their id, their numbers fit, and the controllers of the
--- rooms are kept with them.
+-- The rooms rise by their index and the objects by their id, their numbers fit, and the objects are those of
+-- the rooms' tables.
 pub record IsKept (rooms : List RoomInView) (objects : List Standing) : Type 0 where
   pub places : Rises index_in rooms
   pub ids : Rises id_in objects
   pub few_rooms : length rooms < 2 ^ 32
   pub few_objects : length objects < 2 ^ 32
-  pub controllers : HaveControllers rooms (map shown objects)
+  pub tables : HaveTables rooms (map shown objects)

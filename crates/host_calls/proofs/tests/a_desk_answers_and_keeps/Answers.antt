@@ -1,4 +1,4 @@
-use Rattle.std.proofs.Common.{◌≡◌, ◌==◌, ℕ, [], ◌∷◌, arith, sym, subst}
+use Rattle.std.proofs.Common.{◌≡◌, ◌==◌, [], ◌∷◌, arith, sym, subst}
 use Rattle.std.proofs.lemmas.List.Sums.{count_by-le-length}
 use Rattle.object_store.specs.declared.account.Account.{Account}
 use Rattle.object_store.specs.Stored.{Stored}

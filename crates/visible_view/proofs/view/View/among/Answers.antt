@@ -9,7 +9,8 @@ use Rattle.object_store.specs.Stored.{find_account}
 use Rattle.world_rules.specs.World.{Objects, world_of}
 use Rattle.world_roster.specs.Rosters.{shown_entry}
 use Rattle.visible_view.specs.inner.Gathered.{is_flagged, is_seen, shown_room, IsGathered}
-use Rattle.visible_view.proofs.Seen.{objects_few, objects_rise, controllers_seen, sight_seen}
+use Rattle.visible_view.proofs.Seen.{objects_few, objects_rise, sight_seen}
+use Rattle.visible_view.proofs.Tables.{tables_seen}
 use Rattle.visible_view.proofs.Few.{few_listed, few_rooms, few_sites}
 use Rattle.visible_view.proofs.Told.{found_player}
 use Rattle.visible_view.proofs.view.View.among.Goals as goal
@@ -33,7 +34,7 @@ invariant_of-result c =
       ids = objects_rise c.args.world.now c.requires.sound c.args.player listed are c.list.ensures.rising objects is;
       few_rooms = omega (arith, c.requires.rooms, few_rooms c.args.player 0 c.args.world.now.rooms, length-map seen.rooms.items shown_room, ap length so.shown);
       few_objects = omega (arith, objects_few c.args.world.now c.requires.sound c.args.player listed are c.list.ensures.rising objects is, few_listed c.args.world.now c.requires.sound c.requires.rooms);
-      controllers = controllers_seen c.args.world.now c.requires.sound c.args.player listed are c.list.ensures.rising objects is seen.rooms.items so.controllers;
+      tables = tables_seen c.args.world.now c.requires.sound c.args.player listed are c.list.ensures.rising objects is seen.rooms.items so.tables;
     }
 
 pub returns : goal.returns

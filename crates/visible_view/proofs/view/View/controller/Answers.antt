@@ -1,12 +1,21 @@
-use Rattle.std.proofs.Common.{◌==◌, option_and_then, sym, ap, ◌∙◌}
+use Rattle.std.proofs.Common.{Bor, ◌==◌, option_map, sym, ap, ◌∙◌}
 use Rattle.std.specs.List.{find}
+use Rattle.object_store.specs.Controllers.{controller_among}
+use Rattle.object_store.specs.declared.object.Object.{Object}
 use Rattle.visible_view.specs.Sights.{Sight}
-use Rattle.visible_view.specs.Fields.{controller_at}
-use Rattle.visible_view.specs.inner.Gathered.{controller_in, index_in}
+use Rattle.visible_view.specs.inner.Gathered.{index_in}
 use Rattle.visible_view.specs.declared.gather.RoomInView.{RoomInView}
+use Rattle.visible_view.proofs.Told.{among, controller_found, objects_told}
 use Rattle.visible_view.proofs.view.View.controller.Goals as goal
+
+pub returns-in_err-room_of : goal.returns-in_err-room_of
+returns-in_err-room_of c =
+    let found = c.room_of.ensures ∙ ap (find (λ (room : RoomInView). index_in room == c.args.room)) c.deref.ensures.value in
+    let objects = objects_told c.args.room c.self.inside.rooms.items c.self.inside.objects.items c.args.self.now c.self.invariant.tables (ap (λ (s : Sight). s.objects) c.self.view_is) c.room_of.result found in
+    ap (option_map (λ (object : Bor Object). object.now)) c.from_residual.ensures ∙ sym (controller_found c.args.room c.args.self.now.objects ∙ ap controller_among (objects ∙ ap among c.in_err-room_of.was))
 
 pub returns : goal.returns
 returns c =
-    let found = sym (c.room_of.ensures ∙ ap (find (λ (room : RoomInView). index_in room == c.args.room)) c.deref.ensures.value) ∙ c.in_ok-room_of.was in
-    sym (ap (option_and_then controller_in) found) ∙ sym (c.self.invariant.controllers c.args.room) ∙ ap (λ (s : Sight). controller_at s c.args.room) c.self.view_is
+    let found = c.room_of.ensures ∙ ap (find (λ (room : RoomInView). index_in room == c.args.room)) c.deref.ensures.value in
+    let objects = objects_told c.args.room c.self.inside.rooms.items c.self.inside.objects.items c.args.self.now c.self.invariant.tables (ap (λ (s : Sight). s.objects) c.self.view_is) c.room_of.result found in
+    c.controller.ensures ∙ sym (controller_found c.args.room c.args.self.now.objects ∙ ap controller_among (objects ∙ ap among c.in_ok-room_of.was))
