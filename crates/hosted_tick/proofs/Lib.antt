@@ -4,3 +4,4 @@ pub mod Accounts
 pub mod Judged
 pub mod Ran
 pub mod After
+pub mod Idle

@@ -93,7 +93,7 @@ struct Wanted {
 }
 
 // Runs all players on the world as it is. Where its objects stand is listed once, for all of them and for
-// the choice of the entries.
+// the choice of the entries; where nobody has a module it is not listed.
 fn run_players(alloc: Global, world: &World, modules: &Modules) -> Result<Wanted, NoMemory>
     requires hosted { IsHosted world.now }
     requires linked { AreLinked modules.now.entries }
@@ -106,6 +106,12 @@ fn run_players(alloc: Global, world: &World, modules: &Modules) -> Result<Wanted
     ensures short { IfOk result
         (λ wanted. AllByRecursion (λ run. length run.memory ≤ most_memory) wanted.runs.items) }
 {
+    if modules.is_empty() {
+        return Ok(Wanted {
+            runs: Vec::new(alloc),
+            entries: Vec::new(alloc),
+        });
+    }
     let roster = Roster::of(alloc, world)?;
     let runs = run_all(alloc, world, &roster, modules)?;
     let intents = all_intents(alloc, &runs)?;

@@ -1,14 +1,19 @@
-// Reads a world file, or its JSON alone, and says how that ended: for the benchmark of world files.
+// Reads a world file, or its JSON alone, and says how that ended, or copies the tables of its rooms: for the
+// benchmarks of world files and of ticks.
 #![tactic(auto)]
 
 use serde_json::Value;
+use std::alloc::{AllocError, Global};
 use std::env;
 use std::process::ExitCode;
 use world_io::{FileSource, StreamSink, read_all, write_all};
-use world_text::{WorldFault, read_world};
+use world_text::{WorldFault, WorldFile, read_world};
 
 /// The most bytes that are read, one more than a world file has.
 const MOST_BYTES: u64 = 0x400_0001;
+
+/// How often the tables are copied.
+const COPIES: u32 = 100;
 
 fn main(rt: HostRuntime) -> ExitCode {
     if let Some(line) = answer(&rt)
@@ -19,7 +24,7 @@ fn main(rt: HostRuntime) -> ExitCode {
     ExitCode::from(1)
 }
 
-// What the words `world FILE`, `json FILE` or `bytes FILE` ask for.
+// What the words `world FILE`, `json FILE`, `bytes FILE` or `copies FILE` ask for.
 fn answer(rt: &HostRuntime) -> Option<&'static str> {
     let Ok(words) = env::args(rt) else {
         return None;
@@ -43,6 +48,11 @@ fn answer(rt: &HostRuntime) -> Option<&'static str> {
             Err(WorldFault::Memory) => None,
             Err(_) => Some("refused\n"),
         },
+        "copies" => {
+            let file = read_world(rt.alloc(), &bytes).ok()?;
+            copy_often(rt.alloc(), &file).ok()?;
+            Some("copied\n")
+        }
         "json" => match Value::from_slice(rt.alloc(), &bytes) {
             Ok(_) => Some("read\n"),
             Err(_) => Some("refused\n"),
@@ -50,4 +60,22 @@ fn answer(rt: &HostRuntime) -> Option<&'static str> {
         "bytes" => Some("read\n"),
         _ => None,
     }
+}
+
+// Copies the tables of all rooms, a number of times.
+fn copy_often(alloc: Global, file: &WorldFile) -> Result<(), AllocError> {
+    for _ in 0..COPIES {
+        copy_tables(alloc, file)?;
+    }
+    Ok(())
+}
+
+// Copies the table of each room.
+fn copy_tables(alloc: Global, file: &WorldFile) -> Result<(), AllocError> {
+    for room in file.world.room_list() {
+        // A table has fewer than 2^32 objects.
+        let _objects = room.table.objects();
+        let _copy = room.table.copy(alloc, 0)?;
+    }
+    Ok(())
 }
