@@ -13,6 +13,7 @@ import tempfile
 TOP = os.path.dirname(os.path.dirname(os.path.abspath(__file__)))
 PROGRAM = os.path.abspath(os.environ.get("WORLD_SERVER") or os.path.join(TOP, "crates/world_server/out/world_server"))
 LARGE = 1 << 26
+MOST_FAULTS = 60
 
 
 def run(words, folder, stdout=None):
@@ -85,11 +86,11 @@ def faults_of(words, files, status, out=b"", err=b"", after=None, stdout=None, c
 
 
 class Checks:
-    """Counts what passed and what failed, and prints each failure."""
+    """Counts what passed and what failed, and prints each failure. Where it needs no program, what is compared with it is passed over."""
 
-    def __init__(self, path):
-        self.path, self.passed, self.failed = os.path.relpath(path), 0, 0
-        if not os.path.isfile(PROGRAM):
+    def __init__(self, path, has_program=True):
+        self.path, self.passed, self.failed, self.has_program = os.path.relpath(path), 0, 0, has_program
+        if has_program and not os.path.isfile(PROGRAM):
             sys.exit(f"{self.path}: there is no {os.path.relpath(PROGRAM)}: `rt ci` builds it")
 
     def note(self, name, faults, rows=1):
@@ -99,8 +100,10 @@ class Checks:
         self.failed += failed
         if faults:
             print(f"FAILED: {name}")
-            for fault in faults:
+            for fault in faults[:MOST_FAULTS]:
                 print(f"    {fault}")
+            if len(faults) > MOST_FAULTS:
+                print(f"    and {len(faults) - MOST_FAULTS:,} more")
 
     def check(self, name, words, files, status, out=b"", err=b"", after=None, stdout=None):
         """Runs the program on these files. `after` has the files that are made or changed; all others stay."""

@@ -53,6 +53,12 @@ HOST_CALLS = {
     "memory_read": (I32, I32),
     "memory_write": (I32 * 2, I32),
     "drop": (I64 + I32, I32),
+    "transfer": (I64 * 2 + I32, I32),
+    "withdraw": (I64 * 2 + I32, I32),
+    "pickup": (I64 * 2, I32),
+    "harvest": (I64 * 2, I32),
+    "repair": (I64 * 2, I32),
+    "build": (I64 * 2, I32),
 }
 
 

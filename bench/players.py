@@ -25,9 +25,10 @@ import tempfile
 import time
 
 import machine
+from game import SECOND, thing
 from modules import I32, OPENING, code_entry, func_type, host_import, leb, listed, name_bytes, player_module, section
 from scripts import Script, unkept
-from worlds import MIB, SECOND, bytes_of, room, thing, upload_entry, world
+from worlds import MIB, bytes_of, room, upload_entry, world
 
 UNITS = 500
 FUEL = 10_000 * UNITS
@@ -111,6 +112,12 @@ IMPORTS = {
     "memory_read": "(param i32) (result i32)",
     "memory_write": "(param i32 i32) (result i32)",
     "drop": "(param i64 i32) (result i32)",
+    "transfer": "(param i64 i64 i32) (result i32)",
+    "withdraw": "(param i64 i64 i32) (result i32)",
+    "pickup": "(param i64 i64) (result i32)",
+    "harvest": "(param i64 i64) (result i32)",
+    "repair": "(param i64 i64) (result i32)",
+    "build": "(param i64 i64) (result i32)",
 }
 STEP = "(local.set $i (i32.add (local.get $i) (i32.const 1)))"
 SCRAMBLED = "(i32.shr_u (i32.mul (local.get $i) (i32.const 0x9E3779B1)) (i32.const 8))"
@@ -168,6 +175,9 @@ COSTLY = {
     "a full record, any entry again": (calling("drop", id_of(SCRAMBLED_ENTRY), "(i32.const 1)", before=FILL), 500, FILLING),
     "a record of one entry": (calling("drop", "(i64.const 1)", "(i32.const 1)"), 500),
     "drops that are refused": (calling("drop", id_of(SCRAMBLED_ENTRY), "(i32.const 51)"), 500),
+    "transfers that are refused": (calling("transfer", id_of(SCRAMBLED_ENTRY), id_of(f"(i32.xor {SCRAMBLED_ENTRY} (i32.const 1))"), "(i32.const 51)"), 500),
+    "pickups of what is no pile": (calling("pickup", id_of(SCRAMBLED_ENTRY), id_of(f"(i32.xor {SCRAMBLED_ENTRY} (i32.const 1))")), 500),
+    "harvests without WORK": (calling("harvest", id_of(SCRAMBLED_ENTRY), "(i64.const 1)"), 500),
     "memory_length": (calling("memory_length"), 500),
     "memory_write of 64 KiB": (calling("memory_write", "(i32.const 0)", "(i32.const 65536)", more=MEMORY), 10),
     "memory_read of 64 KiB": (text_of(["memory_read", "memory_write"], "(drop (call $memory_read (i32.const 0)))", MEMORY, WHOLE_TEXT), 10),

@@ -6,13 +6,13 @@ The answers of the host's calls stand here by a writing of the table in docs/pla
 import math
 import struct
 
+from game import BUILDINGS, FULL, INVALID, KINDS, NOT_FOUND, PARTS, capacity, hits_max, part_hits, refusal
 from modules import HOST_CALLS, I32, leb, player_module, signed_leb
-from worlds import BUILDINGS, HITS, KINDS, PARTS, UNIT, Run, account_of, allowance, place_of, source_room
+from worlds import UNIT, Run, account_of, allowance, place_of
 
 PAGE = 1 << 16
 MOST_TEXT = 65_536
 MOST_ENTRIES = 4096
-NOT_OWNER, NOT_FOUND, NOT_ENOUGH, FULL, INVALID = -1, -5, -6, -8, -10
 
 
 def signed(value, bits):
@@ -27,24 +27,6 @@ def gives_sight(one, player):
     return one["owner"] == player and (one["kind"] in ("creep", "controller") or one["kind"] in BUILDINGS)
 
 
-def part_hits(one, place):
-    if one["kind"] != "creep":
-        return 100
-    return min(100, max(0, one["hits"] - 100 * (len(one["body"]) - 1 - place)))
-
-
-def capacity(one, room):
-    controller = next((other for other in room if other["kind"] == "controller"), None)
-    level = controller["extra"] if controller else 0
-    if one["kind"] == "source":
-        return source_room(room)
-    if one["kind"] == "creep":
-        return 50 * sum(part == "carry" and part_hits(one, place) > 0 for place, part in enumerate(one["body"]))
-    if one["kind"] == "extension":
-        return {7: 100, 8: 200}.get(level, 50)
-    return {"spawn": 300, "storage": 1_000_000, "container": 2000}.get(one["kind"], 0)
-
-
 class Desk:
     """What answers the calls of a player: what he sees, what he wants so far, and his memory text."""
 
@@ -55,7 +37,7 @@ class Desk:
         self.objects = sorted(((index, one) for index in self.rooms for one in world["rooms"][index]["objects"]), key=lambda seen: seen[1]["id"])
         self.places = {one["id"]: place for place, (_, one) in enumerate(self.objects)}
         self.text = bytes.fromhex(self.account["memory"])
-        self.drops = {}
+        self.entries = {}
 
     def answer(self, name, arguments, memory):
         return getattr(self, "answer_" + name)(memory, *arguments)
@@ -109,7 +91,7 @@ class Desk:
         if 100 <= field < 100 + len(body):
             return (1 + PARTS.index(body[field - 100])) * 1000 + part_hits(one, field - 100)
         fields = [one["id"], 1 + KINDS.index(one["kind"]), index, one["x"], one["y"], one["owner"], one["hits"]]
-        fields += [100 * len(body) if one["kind"] == "creep" else HITS.get(one["kind"], 0), one["energy"]]
+        fields += [hits_max(one), one["energy"]]
         fields += [capacity(one, self.world["rooms"][index]["objects"]), one["timer"], one["extra"], one["progress"], one["other"]]
         fields += [one["other_ticks"], len(body)]
         return fields[field] if 0 <= field < len(fields) else INVALID
@@ -131,20 +113,40 @@ class Desk:
         self.text = bytes(memory[at : at + length])
         return 0
 
-    def answer_drop(self, _, id, amount):
-        creep = self.objects[self.places[id]][1] if id in self.places else None
-        if creep is None or creep["kind"] != "creep":
-            return NOT_FOUND
-        if creep["owner"] != self.player:
-            return NOT_OWNER
-        if amount < 0:
-            return INVALID
-        if creep["energy"] < max(1, amount):
-            return NOT_ENOUGH
-        if id not in self.drops and len(self.drops) == MOST_ENTRIES:
+    def seen(self, id):
+        return self.objects[self.places[id]] if id in self.places else None
+
+    def acted(self, name, id, target=0, amount=0):
+        actor = self.seen(id)
+        objects = self.world["rooms"][actor[0]]["objects"] if actor else []
+        code = refusal(name, self.player, actor, self.seen(target), amount, max(1, amount), objects)
+        if code:
+            return code
+        if (name, id) not in self.entries and len(self.entries) == MOST_ENTRIES:
             return FULL
-        self.drops[id] = amount
+        self.entries[name, id] = target, amount
         return 0
+
+    def answer_drop(self, _, id, amount):
+        return self.acted("drop", id, amount=amount)
+
+    def answer_transfer(self, _, id, target, amount):
+        return self.acted("transfer", id, target, amount)
+
+    def answer_withdraw(self, _, id, target, amount):
+        return self.acted("withdraw", id, target, amount)
+
+    def answer_pickup(self, _, id, target):
+        return self.acted("pickup", id, target)
+
+    def answer_harvest(self, _, id, target):
+        return self.acted("harvest", id, target)
+
+    def answer_repair(self, _, id, target):
+        return self.acted("repair", id, target)
+
+    def answer_build(self, _, id, target):
+        return self.acted("build", id, target)
 
 
 # ---- instructions: a word and its numbers
@@ -241,7 +243,7 @@ class Script:
             outcome, trap = "spent", 0
         except Trapped as it:
             outcome, trap = "trapped", it.args[0]
-        return Run(player, outcome, machine.used, desk.text, desk.drops, trap)
+        return Run(player, outcome, machine.used, desk.text, desk.entries, trap)
 
 
 class Machine:

@@ -1,5 +1,5 @@
 #!/usr/bin/env python3
-"""Measures the rules of a tick in the built program: python3 bench/ticks.py PROGRAM [--quick].
+"""Measures the rules of a tick in the built program: python3 bench/ticks.py PROGRAM [--quick] [--works].
 
 Run it in the repository's top folder once the program is built (README.md). A tick's time is that of bench/players.py: the difference of
 runs of several ticks and of one. Where players drop, the same players make the same calls in a second run, each for more than the creep
@@ -8,8 +8,14 @@ last step of upkeep and the journal.
 
 The rows are shapes that a world can have: many objects without entries, one entry in each room, rooms full of creeps on full piles, creeps
 that each make a pile whose id comes behind all others or in front of them, one pile among few and among many objects, and players who all
-see the same rooms. Where valgrind is installed the second table has the allocations of a tick and their bytes, by the difference of runs of
-three ticks and of one. With --quick each row is run once, in fewer ticks, and there is no second table.
+see the same rooms. The second table has rooms in which 1,000 creeps each do one thing in every tick (bench/works.py), in one room and over 400,
+beside the same worlds with an empty `loop` and with the same calls all refused. What an entry takes is there what its call and its rule
+take together, less that of the empty `loop`; it should be at most a microsecond, and in no shape more than three times that in another.
+
+Where crates/world_bench is built, a line says what a copy of the tables of 400 rooms takes, to hold the tick without entries against.
+Where valgrind is installed the third table has the allocations of a tick and their bytes, by the difference of runs of
+three ticks and of one. With --quick each row is run once, in fewer ticks, and there is no third table. With --works there is the second
+table alone.
 """
 
 import os
@@ -18,12 +24,16 @@ import shutil
 import subprocess
 import sys
 import tempfile
+import time
 
-from players import Bench, EMPTY, TILES, creep, for_each, of_rooms, players_of, road, together
+from game import SECOND, thing
+from players import Bench, EMPTY, TILES, for_each, of_rooms, players_of, road, together
 from scripts import Script, unkept
-from worlds import SECOND, thing, upload_entry
+from works import SHAPES, Work
+from worlds import upload_entry
 
 TICKS = 20
+TOP = os.path.dirname(os.path.dirname(os.path.abspath(__file__)))
 
 
 def pile(index, serial, tile):
@@ -97,6 +107,28 @@ def row(bench, name, first, objects, owned):
     print(f"{name:52}{objects:9,}{entries:9,}{tick * 1e3:10.2f}{tick * 1e9 / objects:14,.0f}{each}", flush=True)
 
 
+def work_row(bench, shape, rooms):
+    """A row of a shape: nanoseconds an entry."""
+    work, other = Work(shape, rooms), Work(shape, rooms, refused=True)
+    name = f"{shape.name}, {rooms} room{'s' if rooms > 1 else ''}"
+    tick, _ = bench.tick(work.world(), work.uploads(), TICKS)
+    empty, _ = bench.tick(work.world(), for_each(shape.players, EMPTY), TICKS)
+    refused, _ = bench.tick(other.world(), other.uploads(), TICKS)
+    each, ruled, called = ((more - less) * 1e9 / work.entries() for more, less in ((tick, empty), (tick, refused), (refused, empty)))
+    print(f"{name:34}{work.objects():8,}{work.entries():8,}{tick * 1e3:9.2f}{empty * 1e3:9.2f}{refused * 1e3:9.2f}{each:13,.0f}{ruled:12,.0f}{called:12,.0f}", flush=True)
+    return each
+
+
+def works(bench):
+    """1,000 creeps that each do one thing, and whether no entry takes more than it should."""
+    print(f"{'1,000 creeps':34}{'objects':>8}{'entries':>8}{'tick ms':>9}{'empty':>9}{'refused':>9}{'ns an entry':>13}{'its rule':>12}{'its refusal':>12}")
+    found = {(shape.name, rooms): work_row(bench, shape, rooms) for shape in SHAPES for rooms in (1, 400)}
+    most, least = max(found, key=found.get), min(found, key=found.get)
+    times = found[most] / found[least] if found[least] > 0 else float("inf")
+    print(f"the most {found[most]:,.0f} ns ({most[0]}, {most[1]}), the least {found[least]:,.0f} ns ({least[0]}, {least[1]}): {times:.1f} times")
+    print(f"{'within' if found[most] <= 1000 and times <= 3 else 'past'} the bar of 1,000 ns and 3 times")
+
+
 def heap(bench, ticks):
     """How often a run of so many ticks asked for memory, and for how many bytes."""
     ran = subprocess.run(["valgrind", *bench.command(ticks)], capture_output=True, text=True, check=True)
@@ -112,13 +144,33 @@ def allocations(bench, name, first, stream, objects):
     print(f"{name:52}{objects:9,}{times:12,.0f}{size / objects:18,.0f}", flush=True)
 
 
+def copies(first):
+    """What a copy of the tables of a world takes, by world_bench where it is built: copying them a hundred times, less reading the world."""
+    program = os.path.join(TOP, "crates", "world_bench", "out", "world_bench")
+    if not os.path.isfile(program):
+        print("a copy of the tables is not measured: crates/world_bench is not built")
+        return
+    with tempfile.NamedTemporaryFile() as file:
+        file.write(first)
+        file.flush()
+        best = {}
+        for what in ("world", "copies") * 3:
+            begun = time.perf_counter()
+            subprocess.run([program, what, file.name], stdout=subprocess.DEVNULL, check=True)
+            best[what] = min(best.get(what, 1e9), time.perf_counter() - begun)
+    print(f"a copy of the tables of 400 rooms of 50 objects: {(best['copies'] - best['world']) * 10:.2f} ms")
+
+
 def main():
-    words = [word for word in sys.argv[1:] if word != "--quick"]
+    words = [word for word in sys.argv[1:] if word not in ("--quick", "--works")]
     if len(words) != 1 or not os.path.isfile(words[0]):
-        sys.exit("no program: python3 bench/ticks.py PROGRAM [--quick]")
+        sys.exit("no program: python3 bench/ticks.py PROGRAM [--quick] [--works]")
     place = "/dev/shm" if os.path.isdir("/dev/shm") else None
     with tempfile.TemporaryDirectory(dir=place) as folder:
         bench = Bench(os.path.abspath(words[0]), folder, "--quick" in sys.argv)
+        if "--works" in sys.argv:
+            works(bench)
+            return
         print(f"{'shape':52}{'objects':>9}{'entries':>9}{'tick ms':>10}{'ns an object':>14}{'ns an entry':>13}")
         row(bench, "400 rooms of 50 objects, nothing dropped", scattered(False)[0], 20_000, {})
         row(bench, "400 rooms of 50 objects, a drop in each", scattered(True)[0], 20_000, scattered(True)[1])
@@ -129,7 +181,10 @@ def main():
         row(bench, "8 rooms of 2,300 objects, the same", one_among(2300)[0], 18_400, one_among(2300)[1])
         idle, _ = bench.tick(together(64, 300), b"", TICKS)
         seen, _ = bench.tick(together(64, 300), for_each(64, EMPTY), TICKS)
+        copies(scattered(False)[0])
         print(f"64 players in each of 300 rooms, idle and with empty loops: {idle * 1e3:.2f} and {seen * 1e3:.2f} ms")
+        print()
+        works(bench)
         if bench.quick or not shutil.which("valgrind"):
             return
         print()

@@ -1,21 +1,17 @@
 """Worlds for the checks: the world file, the journal's contents, the tick and the printed lines.
 
 It is a second, slow writing of docs/formats.md, which shares nothing with the program. A world is what its file
-says, as Python has it from JSON.
+says, as Python has it from JSON. What creeps do in a tick stands in bench/game.py.
 """
 
 import copy
 import json
 import struct
 
+from game import ACTIONS, FIELDS, KINDS, PARTS, Course, counting, hits_max, source_room, thing
+
 MIB = 1 << 20
-SECOND = 1 << 32
 CORNERS = (0, 49, 2450, 2499)
-FIELDS = ("owner", "energy", "timer", "extra", "progress", "other", "other_ticks")
-KINDS = ["source", "controller", "creep", "spawn", "extension", "storage", "container", "road", "pile", "site"]
-BUILDINGS = ("spawn", "extension", "storage", "container", "road")
-PARTS = ["move", "work", "carry", "attack", "ranged_attack", "tough", "heal", "claim"]
-HITS = {"spawn": 5000, "extension": 1000, "storage": 10_000, "container": 250_000, "road": 5000}
 RESULTS = [
     "accepted",
     "UnknownPlayer",
@@ -30,11 +26,9 @@ RESULTS = [
     "Segment",
 ]
 OUTCOMES = ["finished", "trapped", "spent"]
-DROP = 1
 UNIT = 10_000
 MOST_UNITS = 500
 MOST_BUCKET = 10_000
-MOST_PILE = 10**9
 
 
 # ---- worlds by their parts
@@ -48,10 +42,6 @@ def grounds(tiles=()):
     for tile, ground in dict(tiles).items():
         digits[tile] = ground
     return "".join(digits)
-
-
-def thing(kind, id, x, y, **fields):
-    return {"id": id, "kind": kind, "x": x, "y": y, **fields}
 
 
 def room(name, next, *objects, terrain=None):
@@ -70,7 +60,7 @@ def full(it):
             for field in FIELDS:
                 one.setdefault(field, 0)
             one.setdefault("body", [])
-            one.setdefault("hits", 100 * len(one["body"]) if one["kind"] == "creep" else HITS.get(one["kind"], 0))
+            one.setdefault("hits", hits_max(one))
         place["objects"].sort(key=lambda one: one["id"])
     for player in it["players"]:
         player.pop("token", None)
@@ -158,7 +148,8 @@ def upload_bytes(player, result, content):
 
 
 def run_bytes(run):
-    entries = [struct.pack("<BQQQB", DROP, creep, 0, amount, 0) for creep, amount in sorted(run.drops.items())]
+    numbered = sorted((ACTIONS[name].number, creep, *wanted) for (name, creep), wanted in run.entries.items())
+    entries = [struct.pack("<BQQQB", *entry, 0) for entry in numbered]
     return struct.pack("<IBBQ", run.player, OUTCOMES.index(run.outcome), run.trap, run.used) + listed(entries)
 
 
@@ -249,11 +240,11 @@ def read_tick(content):
 
 
 class Run:
-    """What a player's module did in a tick: `drops` has the amount by the creep."""
+    """What a player's module did in a tick: `entries` has the target and the amount by action and creep."""
 
-    def __init__(self, player, outcome, used, memory, drops=None, trap=0):
+    def __init__(self, player, outcome, used, memory, entries=None, trap=0):
         self.player, self.outcome, self.used, self.trap = player, outcome, used, trap
-        self.drops, self.memory = dict(drops or {}), memory
+        self.entries, self.memory = dict(entries or {}), memory
 
 
 class Upload:
@@ -281,44 +272,34 @@ def stream_of(uploads):
 # ---- the tick
 
 
-def dropped(it, player, creep_id, wanted):
-    for index, place in enumerate(it["rooms"]):
-        creep = next((one for one in place["objects"] if one["id"] == creep_id and one["kind"] == "creep"), None)
-        if creep is None or creep["owner"] != player or creep["hits"] == 0 or creep["energy"] == 0:
-            continue
-        amount = min(wanted, creep["energy"]) if wanted else creep["energy"]
-        creep["energy"] -= amount
-        tile = (creep["x"], creep["y"])
-        pile = next((one for one in place["objects"] if one["kind"] == "pile" and (one["x"], one["y"]) == tile), None)
-        if pile is None:
-            pile = thing("pile", index * SECOND + place["next"], *tile, hits=0, body=[], **dict.fromkeys(FIELDS, 0))
-            place["next"] += 1
-            place["objects"].append(pile)
-            place["objects"].sort(key=lambda one: one["id"])
-        pile["energy"] = min(MOST_PILE, pile["energy"] + amount)
-
-
-def renewed(source, capacity):
+def renewed(source, most):
     if source["timer"] > 0:
         source["timer"] -= 1
         if source["timer"] == 0:
-            source["energy"] = max(source["energy"], capacity)
-    elif source["energy"] < capacity:
+            source["energy"] = max(source["energy"], most)
+    elif source["energy"] < most:
         source["timer"] = 300
 
 
-def source_room(objects):
-    taken = any(one["kind"] == "controller" and (one["owner"] or one["other"]) for one in objects)
-    return 3000 if taken else 1500
+def acted(it, runs):
+    """What the entries of these runs make of a world: how often an action had an effect, and how often it had none."""
+    course, done = Course(it["rooms"]), {}
+    wanted = [(run.player, counting(run.entries)) for run in sorted(runs, key=lambda run: run.player)]
+    for action in ACTIONS:
+        for player, entries in wanted:
+            for name, creep in sorted(key for key in entries if key[0] == action):
+                effect = course.act(player, name, creep, *entries[name, creep])
+                done[name, effect] = done.get((name, effect), 0) + 1
+    for place in it["rooms"]:
+        place["objects"].sort(key=lambda one: one["id"])
+    return done
 
 
 def ticked(it, runs=()):
     """The world after a tick with these runs."""
     it = full(it)
     it["tick"] += 1
-    for run in sorted(runs, key=lambda run: run.player):
-        for creep, amount in sorted(run.drops.items()):
-            dropped(it, run.player, creep, amount)
+    acted(it, runs)
     for place in it["rooms"]:
         for one in place["objects"]:
             if one["kind"] == "source":
@@ -378,7 +359,7 @@ def step_lines(step):
         lines += f"upload player {player} {result if result == 'accepted' else 'refused ' + result}\n"
     for run in step.runs:
         lines += f"player {run.player} {run.outcome} {run.used}\n"
-    objects, intents = objects_of(step.world), sum(len(run.drops) for run in step.runs)
+    objects, intents = objects_of(step.world), sum(len(run.entries) for run in step.runs)
     energy = sum(one["energy"] for one in objects)
     return lines + f"tick {step.world['tick']} objects {len(objects)} intents {intents} energy {energy}\n"
 

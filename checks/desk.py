@@ -3,9 +3,11 @@
 
 It runs behind `rt ci`, which builds crates/world_server/out/world_server. What is compared with is worked out by
 bench/scripts.py, which has the table of the host's calls, and bench/worlds.py, which has the formats and the tick. A row
-is a call with its answer, or a run with all that it does.
+is a call with its answer, or a run with all that it does. What creeps do to other objects is the subject of checks/creeps.py.
+With --model no program is run, and it is only seen that the worlds keep the rules.
 """
 
+import functools
 import os
 import random
 import struct
@@ -13,33 +15,28 @@ import sys
 
 TOP = os.path.dirname(os.path.dirname(os.path.abspath(__file__)))
 sys.path.insert(0, os.path.join(TOP, "bench"))
-from checked_program import Checks, faults_of, file_faults  # noqa: E402
+import compared_runs  # noqa: E402
+from checked_program import Checks, faults_of  # noqa: E402
+from game import SECOND  # noqa: E402
 from modules import HOST_CALLS, I32, I64, OPENING, code_entry, func_type, leb, listed, name_bytes, player_module, section  # noqa: E402
-from scripts import PAGE, Desk, Script, Table, call, compared, kept, unkept  # noqa: E402
+from scripts import MOST_ENTRIES, PAGE, Desk, Script, Table, call, compared, kept, unkept  # noqa: E402
 from worlds import (  # noqa: E402
     MIB,
-    SECOND,
     SMALL,
     Refused,
     Upload,
     account_of,
     bytes_of,
-    contents_of,
     full,
     grounds,
-    journal_of,
     objects_of,
-    output_of,
-    played,
-    read_tick,
     room,
-    stream_of,
     thing,
     upload_entry,
     world,
 )
 
-checks = Checks(__file__)
+checks = Checks(__file__, "--model" not in sys.argv[1:])
 LEAST, MOST = -(1 << 31), (1 << 31) - 1
 LEAST_LONG, MOST_LONG = -(1 << 63), (1 << 63) - 1
 LAST_ADDRESS = (1 << 32) - 1
@@ -48,94 +45,13 @@ MOST_NEXT = 2**32 - 2**20
 
 # ---- runs
 
-
-def tables_at(uploads, tick):
-    """The tables of calls that run in the tick after this one, by player."""
-    modules = {}
-    for upload in uploads:
-        if upload.tick <= tick and upload.module.refusal is None:
-            modules[upload.player] = upload.module
-    return {player: module for player, module in modules.items() if isinstance(module, Table)}
-
-
-def answers_in(step, tables):
-    """How many answers of tables stand in the memory texts after a tick."""
-    return sum(len(tables[run.player].listed) for run in step.runs if run.player in tables and run.outcome == "finished")
-
-
-def answer_faults(tick, player, table, got, wanted):
-    faults = []
-    for place, (name, *arguments) in enumerate(table.listed):
-        one, other = got[8 * place : 8 * place + 8], wanted[8 * place : 8 * place + 8]
-        if one != other:
-            answers = [struct.unpack("<q", it)[0] if len(it) == 8 else None for it in (one, other)]
-            faults.append(f"tick {tick} player {player}: {name}{tuple(arguments)} answered {answers[0]} and not {answers[1]}")
-    return faults
-
-
-def tick_faults(got, wanted, tables):
-    """What differs in two contents of a tick."""
-    try:
-        got = read_tick(got)
-    except (struct.error, IndexError) as it:
-        return [f"a tick of the journal can't be read: {it}"]
-    wanted, faults = read_tick(wanted), []
-    tick = wanted["tick"]
-    for one, other in zip(got["accounts"], wanted["accounts"]):
-        if one[:4] == other[:4] and other[0] in tables:
-            faults += answer_faults(tick, other[0], tables[other[0]], one[4], other[4])
-            wanted["accounts"][wanted["accounts"].index(other)] = one
-    for part, other in wanted.items():
-        one = got[part]
-        if part in ("uploads", "runs", "accounts", "rooms") and len(one) == len(other):
-            faults += [f"tick {tick}, {part}: {brief(got)} and not {brief(want)}" for got, want in zip(one, other) if got != want]
-        elif one != other:
-            faults.append(f"tick {tick}, {part}: {brief(one)} and not {brief(other)}")
-    return faults
-
-
-def brief(value):
-    shown = repr(value)
-    return shown if len(shown) < 240 else shown[:240] + f".. ({len(shown)})"
-
-
-def journal_faults(first, uploads):
-    """Compares journals content by content."""
-
-    def compare(path, got, wanted):
-        if path != "journal.bin" or got == wanted:
-            return file_faults(path, got, wanted)
-        faults, tick = [], first["tick"]
-        ours, theirs = contents_of(wanted), contents_of(got)
-        if len(ours) != len(theirs):
-            faults.append(f"{len(theirs)} frames and not {len(ours)}")
-        for place, (one, other) in enumerate(zip(theirs, ours)):
-            if one != other and place == 0:
-                faults.append(f"the base differs from byte {next((at for at, (a, b) in enumerate(zip(one, other)) if a != b), min(len(one), len(other)))} on")
-            elif one != other:
-                faults += tick_faults(one, other, tables_at(uploads, tick + place - 1))
-        return faults or file_faults(path, got, wanted)
-
-    return compare
-
-
-def play(name, first, ticks, uploads, said=None, asked=None, status=0, err=b"", stream=None):
-    """A run of a world with these uploads: `said` are its lines as they have to be, `asked` how many ticks it is told to make."""
-    steps = played(first, ticks, uploads)
-    out = output_of(first, steps)
-    words = ["run", "world.json", "uploads.bin", "journal.bin", "--ticks", str(ticks if asked is None else asked)]
-    files = {"world.json": bytes_of(first), "uploads.bin": stream_of(uploads) if stream is None else stream}
-    after = {"journal.bin": journal_of(first, steps)}
-    faults = faults_of(words, files, status, out, err, after, compare=journal_faults(first, uploads))
-    if said is not None and out.decode().splitlines() != said:
-        faults.append(f"the lines of the check are {out.decode().splitlines()} and not {said}")
-    checks.note(name, faults, 1 + sum(answers_in(step, tables_at(uploads, step.world["tick"] - 1)) for step in steps))
-    return steps
+play = functools.partial(compared_runs.play, checks)
 
 
 def refused_run(name, files, status, err, out=b"", journal=b""):
     words = ["run", "world.json", "uploads.bin", "journal.bin", "--ticks", "1"]
-    checks.note(name, faults_of(words, files, status, out, f"fault {status} {err}\n".encode(), {"journal.bin": journal}))
+    if checks.has_program:
+        checks.note(name, faults_of(words, files, status, out, f"fault {status} {err}\n".encode(), {"journal.bin": journal}))
 
 
 def player(number, limit=20, **others):
@@ -468,7 +384,7 @@ def check_full_record():
     calls += [("drop", 8, 1), ("drop", 9, 1), ("drop", ids[4096], -1), ("drop", ids[4096], 4), ("drop", 10, 0), ("drop", ids[4098], 3)]
     calls += [("drop", ids[7], -1), ("drop", ids[7], 4), ("drop", ids[7], 1), ("memory_length",)]
     steps = play("a record of 4,096 entries", first, 2, [Upload(0, 1, Table(calls))])
-    checks.note("the record of the check is full", [] if len(steps[0].runs[0].drops) == 4096 else [f"{len(steps[0].runs[0].drops)} entries"])
+    checks.note("the record of the check is full", [] if len(steps[0].runs[0].entries) == MOST_ENTRIES else [f"{len(steps[0].runs[0].entries)} entries"])
 
 
 # ---- uploads
@@ -500,8 +416,8 @@ def function_of(kind=1):
     return b"\0" + leb(kind)
 
 
-LATER = "transfer withdraw pickup heal ranged_heal dismantle attack harvest repair build ranged_mass_attack ranged_attack suicide"
-LATER += " claim_controller upgrade reserve attack_controller create_site remove_site spawn_creep move"
+LATER = "heal ranged_heal dismantle attack ranged_mass_attack ranged_attack suicide claim_controller"
+LATER += " upgrade reserve attack_controller create_site remove_site spawn_creep move"
 
 
 def import_refusals():
@@ -747,6 +663,29 @@ def check_rows():
     place = steps[0].world["rooms"][0]
     found = [(one["id"], one["energy"]) for one in place["objects"]], place["next"]
     checks.note("what a drop of 5 leaves", [] if found == ([(1, 1500), (2, 999), (3, 15), (4, 4)], 5) else [f"{found}"])
+    check_harvests()
+
+
+def check_harvests():
+    """A creep between a source and a spawn."""
+    owned = thing("controller", 1, 5, 5, owner=1, extra=1, timer=20_000)
+    creep = thing("creep", 4, 11, 10, owner=1, body=["work", "carry", "move"], timer=1500)
+    place = room("E0S0", 5, owned, thing("source", 2, 10, 10, energy=3000), thing("spawn", 3, 12, 10, owner=1, energy=100), creep)
+    begin, harvest = ["start tick 0 rooms 1 objects 4 players 1", "upload player 1 accepted"], unkept("harvest", 4, 2)
+    said = [*begin, "player 1 finished 9", "tick 1 objects 4 intents 1 energy 3100", "player 1 finished 9", "tick 2 objects 4 intents 2 energy 3100"]
+    hands = Script([*harvest, *unkept("transfer", 4, 3, 0)], pages=None)
+    steps = play("a creep harvests and hands over", world(place, players=[player(1, 20)]), 2, [Upload(0, 1, hands)], said)
+    energies_are(steps, [0, 2996, 102, 2])
+    bucket_is(steps, 38)
+    said = [*begin, "player 1 spent 10000", "tick 1 objects 4 intents 1 energy 3100"]
+    spins = Script([*harvest, ("spin",)], pages=None)
+    steps = play("a budget that ends after a harvest", world(place, players=[player(1, 1)]), 1, [Upload(0, 1, spins)], said)
+    energies_are(steps, [0, 2998, 100, 2])
+
+
+def energies_are(steps, wanted):
+    found = [one["energy"] for one in objects_of(steps[-1].world)]
+    checks.note(f"energies of {wanted}", [] if found == wanted else [f"{found}"])
 
 
 def bucket_is(steps, wanted):

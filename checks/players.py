@@ -4,9 +4,10 @@ against the definitions of the calls and of the game's numbers, the maker of upl
 program runs over several worlds.
 
 It runs behind `rt ci`, which builds crates/world_server/out/world_server; a word names another build of it. What a run prints
-and what it leaves in its journal is compared with a second, slow writing of the sample player, of the tick and of the
-journal's contents in this file. The instructions that a run used are those that it prints. Where clang and wasm-ld are
-installed, the sample player is built anew and held against the same, and other players in C are built and run.
+and what it leaves in its journal is compared with a second, slow writing of the sample players in this file, at the desk of
+bench/scripts.py and in the tick of bench/worlds.py. The instructions that a run used are those that it prints. Where clang and
+wasm-ld are installed, the sample players are built anew and held against the same, and other players in C are built and run.
+With --model in place of a build no program is run.
 """
 
 import json
@@ -21,9 +22,16 @@ import sys
 import tempfile
 
 TOP = os.path.dirname(os.path.dirname(os.path.abspath(__file__)))
+sys.path.insert(0, os.path.join(TOP, "bench"))
+from compared_runs import journal_faults, world_faults  # noqa: E402
+from game import BUILDINGS, FULL, NOT_ENOUGH, STORES, capacity, distance, hits_max, thing  # noqa: E402
+from scripts import Desk  # noqa: E402
+from worlds import Run, Step, allowance, full, journal_of, objects_of, output_of, ticked  # noqa: E402
+
 PLAYERS = os.path.join(TOP, "players")
 WORLD = os.path.join(TOP, "worlds/one_player.json")
-UPLOADS = os.path.join(TOP, "worlds/one_player.uploads")
+HARVEST = os.path.join(TOP, "worlds/harvest.json")
+MODEL = "--model" in sys.argv[1:]
 PROGRAM = os.path.abspath(sys.argv[1]) if len(sys.argv) > 1 else os.path.join(TOP, "crates/world_server/out/world_server")
 
 MIB = 1 << 20
@@ -92,13 +100,25 @@ def header_calls(header):
     return calls
 
 
-def defined_calls():
-    """The calls of the definitions, in the order of their numbers."""
+def defined_rows():
+    """The calls of the definitions by their names there, in the order of their numbers."""
     text = text_of("crates/host_calls/specs/Calls.antt")
     order = re.findall(r"call\.(\w+)\s*∷", text[text.index("all_calls =") : text.index("call_at")])
-    form = r'^row call\.(\w+) = record \{ name = codes "(\w+)"; params = ([^;]+); result = (\w+) \}$'
+    form = r'^row call\.(\w+) =\s+record \{\s*name = codes "(\w+)";\s*params = ([^;]+);\s*result = (\w+);?\s*\}$'
     rows = {call: (name, re.findall(r"(I32|I64) ∷", types), answer) for call, name, types, answer in re.findall(form, text, re.M)}
-    return [rows[it] for it in order]
+    return {it: rows[it] for it in order}
+
+
+def defined_calls():
+    return list(defined_rows().values())
+
+
+def defined_actions():
+    """The calls of actions, by the name of the action in the definitions: that of the call there, or that by which it is imported."""
+    actions = re.findall(r"^action_number (\w+) = \d+$", text_of("crates/game_tables/specs/Actions.antt"), re.M)
+    named = {name: action for action in actions for name in (action, snake(action).lower())}
+    found = {(named.get(call) or named.get(row[0])): row for call, row in defined_rows().items()}
+    return {action: row for action, row in found.items() if action}
 
 
 def numbers(path, function, value=r"(\d+)"):
@@ -107,16 +127,75 @@ def numbers(path, function, value=r"(\d+)"):
     return {snake(name): int(number) for name, number in found}
 
 
+CODE_NAMES = r"code\.Code\.TheVariants\.\{([\w, ]+)\}"
+
+
+def action_tables():
+    """Of each action in the definitions its part, its range and the kinds of its targets, by its name there."""
+    text = text_of("crates/game_tables/specs/Actions.antt")
+    parts = dict(re.findall(r"^needed_part (\w+) = Some part\.(\w+)$", text, re.M))
+    ranges = {name: int(most) for name, most in re.findall(r"^max_range (\w+) = Some (\d+)$", text, re.M)}
+    targets = {}
+    for name, kind, said in re.findall(r"^is_target (\w+) (\w+) = (true|is_building kind)$", text, re.M):
+        targets.setdefault(name, set()).update({snake(kind).lower()} if said == "true" else building_kinds())
+    return parts, ranges, targets
+
+
+def building_kinds():
+    return {snake(name).lower() for name in re.findall(r"^is_building (\w+) = true$", text_of("crates/game_tables/specs/Kinds.antt"), re.M)}
+
+
+def block_of(text, name):
+    """The lines of a definition."""
+    return re.search(rf"^abbrev pub {name} :.*?(?=^\s*$|\Z)", text, re.M | re.S)[0]
+
+
+def codes_in(text, names):
+    """The codes of the checks of a text, in their order: `(.., Code)`."""
+    return [it for it in re.findall(r", (\w+)\)", text) if it in names]
+
+
+def further_codes(text, names):
+    """The codes of the further checks of each action, in their order. A check by a name is defined beside them; one that bars tiles
+    is passed over, as long as no tile is barred."""
+    bars_none = re.search(r"^is_barred [\w ]+ = false$", text_of("crates/object_store/specs/Tables.antt"), re.M)
+    further = {}
+    for action, body in re.findall(r"^further_checks (\w+) scene =((?:[^\n]*)(?:\n    [^\n]*)*)", text, re.M):
+        codes = []
+        for check in body.split("∷"):
+            named = re.match(r"\s*([a-z_]+)\b", check)
+            if bars_none and "is_reachable" in check or check.strip() == "[]":
+                continue
+            found = codes_in(block_of(text, named[1]) if named else check, names)
+            note(f"a check of {action} has a code", None if len(found) == 1 else f"{check.strip()!r} has {found}")
+            codes += found
+        further[action] = codes
+    return further
+
+
+def call_codes():
+    """The codes that each call of an action answers, in the order of its checks, by the name of the call."""
+    text = text_of("crates/world_rules/specs/Checks.antt")
+    names = re.search(CODE_NAMES, text)[1].split(", ")
+    parts, ranges, _ = action_tables()
+    further, codes = further_codes(text, names), {}
+    for action, (name, params, _) in defined_actions().items():
+        order = codes_in(block_of(text, "creep_checks"), names)
+        # (an amount that the call doesn't take is 0, which is not negative)
+        order += codes_in(block_of(text, "amount_checks"), names) if "I32" in params else []
+        order += codes_in(block_of(text, "part_checks"), names) if action in parts else []
+        order += codes_in(block_of(text, "target_checks"), names) if action in ranges else []
+        replies = text_of("crates/host_calls/specs/Replies.antt")
+        order += further.get(action, []) + codes_in(block_of(replies, "record_checks"), re.search(CODE_NAMES, replies)[1].split(", "))
+        codes[name] = order
+    return codes
+
+
 def answered_codes():
-    """The codes that some call answers today, by the name in the header: those of the desk, and those of the checks of actions in force, of
-    which none needs a part or a target yet."""
+    """The codes that some call answers today, by the name in the header: those of the desk, and those of the calls of actions."""
     codes = numbers(["crates/game_tables/specs/Codes.antt"], "code_number", r"neg_ℤ \(pos (\d+)\)")
-    variants = r"code\.Code\.TheVariants\.\{([\w, ]+)\}"
-    used = re.search(variants, text_of("crates/host_calls/specs/Replies.antt"))[1].split(", ")
-    checks = text_of("crates/world_rules/specs/Checks.antt")
-    in_force = checks[checks.index("creep_checks :") : checks.index("part_checks :")]
-    in_force += checks[checks.index("further_checks :") : checks.index("pub checks :")]
-    used += [it for it in re.search(variants, checks)[1].split(", ") if re.search(rf"\b{it}\b", in_force) and it not in used]
+    used = set(re.search(CODE_NAMES, text_of("crates/host_calls/specs/Replies.antt"))[1].split(", "))
+    used |= {code for order in call_codes().values() for code in order}
     return {"CODE_OK": 0, **{f"CODE_{snake(name)}": -codes[snake(name)] for name in used if name != "Done"}}
 
 
@@ -218,8 +297,15 @@ def check_tables():
     note("the calls of the table", differ("calls", [(name, *table_types(types)) for name, types, _ in calls], header_calls(header)))
     codes = table_under(text, "| Code | In `screeps.h` | Says |")
     note("the codes of the table", differ("codes", {name.strip("`"): int(number) for number, name, _ in codes}, of_prefix(constants, "CODE")))
-    said = {int(it) for row in calls for it in re.findall(r"-\d+", row[2])} | {int(row[2]) for row in table_under(text, "| Order | Check | Else |")} | {0}
+    said = {int(it) for row in calls for it in re.findall(r"-\d+", row[2])} | {0}
+    for name, order in call_codes().items():
+        rows = table_under(text, f"| Order | Check of `{name}` | Else |")
+        note(f"the order of the checks of {name}", differ("orders", [int(it) for it, _, _ in rows], list(range(1, len(rows) + 1))))
+        wanted = [constants[f"CODE_{snake(code)}"] for code in order]
+        note(f"the codes of {name}, in their order", differ("codes", [int(code) for _, _, code in rows], wanted))
+        said |= {int(code) for _, _, code in rows}
     note("the codes of the calls", differ("codes", said, set(of_prefix(constants, "CODE").values())))
+    check_actions(text)
     fields = table_under(text, "| Number | Field | Is |")
     note("the fields of the table", differ("fields", table_fields(fields), of_prefix(constants, "FIELD")))
     cells = {"KIND": next(it[2] for it in fields if it[1] == "kind"), "PART": fields[-1][2], "GROUND": next(it[2] for it in calls if it[0] == "terrain")}
@@ -228,6 +314,42 @@ def check_tables():
         names = {name[len(prefix) + 1 :] for name in wanted}
         note(f"the numbers {prefix} of the table", differ("numbers", named_numbers(cell, prefix, names), wanted))
     check_limits(text, header)
+
+
+def check_actions(text):
+    """What the table of actions says of parts, targets and ranges, and that of sites of their work and hits."""
+    parts, ranges, targets = action_tables()
+    wanted = []
+    for action, (name, _, _) in defined_actions().items():
+        part = snake(parts[action]).lower() if action in parts else "none"
+        wanted.append((name, part, targets.get(action, {"none"}), str(ranges.get(action, ""))))
+    rows = table_under(text, "| Call | Part | Target | Range |")
+    found = [(name, part, {it.removeprefix("another ") for it in kinds.split(", ")}, most) for name, part, kinds, most in rows]
+    note("the table of actions", differ("actions", found, wanted))
+    kinds = text_of("crates/game_tables/specs/Kinds.antt")
+    totals = dict(re.findall(r"^build_total (\w+) = Some (\d+)$", kinds, re.M))
+    hits = dict(re.findall(r"^hits_max (\w+) parts = (\d+)$", kinds, re.M))
+    known = numbers(["crates/game_tables/specs/Numbers.antt"], "kind_number")
+    wanted = [[snake(name).lower(), known[snake(name)], int(total), int(hits[name])] for name, total in totals.items()]
+    rows = table_under(text, "| Site of | Number | Work | Hits |")
+    note("the table of sites", differ("sites", [[name, *map(whole, numbers_)] for name, *numbers_ in rows], wanted))
+    check_powers(text)
+
+
+def check_powers(text):
+    """The sentences that say how much a part does, and how long a building lasts at first."""
+    work, kinds = text_of("crates/world_rules/specs/Work.antt"), text_of("crates/game_tables/specs/Kinds.antt")
+    harvested, mended, worked = (re.search(rf"{name}.*?(\d+) \* live_work creep", work, re.S)[1] for name in ("harvested_by creep", "hits_gained creep", "work_put kind creep"))
+    timers = {name: int(ticks) for *name, ticks in re.findall(r"^full_timer (\w+) (\w+) = (\d+)$", kinds, re.M) for name in [" ".join(name)]}
+    sentences = [
+        f"**harvest**: {harvested} for each work part leave the source",
+        f"**repair**: the building gains {mended} hits for each work part",
+        f"**build**: {worked} for each work part go into the site",
+        f"its full timer: {timers['Road in_owned']:,} a road, a container {timers['Container true']} where somebody owns the room's controller and else {timers['Container false']}.",
+    ]
+    plain = " ".join(text.split())
+    for sentence in sentences:
+        note(f"docs/players.md says {sentence[:40]!r}", None if sentence in plain else f"{sentence!r} does not stand there")
 
 
 def check_limits(text, header):
@@ -248,8 +370,9 @@ def check_limits(text, header):
         ("docs/players.md", "more than {most_frames} calls within one another, or where locals and operands of all calls together would be more than {most_values}."),
         ("docs/players.md", "It is up to {most_memory} bytes of any kind"),
         ("docs/players.md", "`len` is above {most_memory} or"),
-        ("docs/players.md", "fewer than {entries_bound} intents are recorded in this tick"),
-        ("players/screeps.h", "{entries_bound} intents are recorded in this tick"),
+        ("docs/players.md", "At most {entries_bound} intents are recorded in a tick, of all actions together"),
+        ("players/screeps.h", "or {entries_bound} intents are recorded in this tick"),
+        ("players/screeps.h", "CODE_FULL where {entries_bound} intents are recorded."),
         ("players/screeps.h", "in this tick, 0 to {most_limit}. A unit is {unit_instructions} instructions."),
         ("players/screeps.h", "saved before this tick, 0 to {most_bucket}."),
     ]
@@ -304,8 +427,9 @@ def check_streams(folder):
     check_outputs(folder, stream((0, 1, one)))
     status, out, _ = streamed(["--help"], folder)
     note("the help of upload_stream.py", differ("status", status, 0), None if b"TICK:PLAYER:FILE" in out else f"said {out!r}")
-    sample = stream((0, 1, bytes_of("players/dropper.wasm")))
-    note("worlds/one_player.uploads is the upload of players/dropper.wasm", differ("stream", bytes_of(UPLOADS), sample))
+    for uploads, player in (("worlds/one_player.uploads", "dropper"), ("worlds/harvest.uploads", "harvester")):
+        wanted = stream((0, 1, bytes_of(f"players/{player}.wasm")))
+        note(f"{uploads} is the upload of players/{player}.wasm", differ("stream", bytes_of(uploads), wanted))
 
 
 def check_refused_streams(folder):
@@ -386,151 +510,63 @@ def check_outputs(folder, wanted):
     note("the link stays", None if os.path.islink(os.path.join(folder, "link")) else "it is none any more")
 
 
-# ---- the world and its journal, from docs/formats.md
-
-KINDS = ["source", "controller", "creep", "spawn", "extension", "storage", "container", "road", "pile", "site"]
-PARTS = ["move", "work", "carry", "attack", "ranged_attack", "tough", "heal", "claim"]
-BUILDINGS = KINDS[3:8]
-HITS = {"spawn": 5000, "extension": 1000, "storage": 10_000, "container": 250_000, "road": 5000}
-DROP = 1
-MOST_INTENTS = 4096
+# ---- the sample players, written anew
 
 
-def opened(file):
-    """The world of a world file, with every field of each object and account."""
-    world = {"tick": file["tick"], "rooms": [], "accounts": []}
-    for room in file["rooms"]:
-        objects = []
-        for it in room["objects"]:
-            body = it.get("body", [])
-            hits = 100 * len(body) if it["kind"] == "creep" else HITS.get(it["kind"], 0)
-            absent = dict.fromkeys(("owner", "energy", "timer", "extra", "progress", "other", "other_ticks"), 0)
-            objects.append({**absent, "hits": hits, "body": body, **it})
-        world["rooms"].append({**room, "objects": sorted(objects, key=lambda it: it["id"])})
-    for it in sorted(file["players"], key=lambda it: it["player"]):
-        account = {"bucket": 0, "points": 0, **it, "memory": bytes.fromhex(it.get("memory", ""))}
-        world["accounts"].append(account)
-    return world
-
-
-def object_bytes(it):
-    fixed = struct.pack(
-        "<QBBBIIQIIQIIB",
-        *(it["id"], KINDS.index(it["kind"]) + 1, it["x"], it["y"], it["owner"], it["hits"], it["energy"]),
-        *(it["timer"], it["extra"], it["progress"], it["other"], it["other_ticks"], len(it["body"])),
-    )
-    return fixed + bytes(PARTS.index(part) + 1 for part in it["body"])
-
-
-def room_bytes(index, room):
-    objects = room["objects"]
-    return struct.pack("<III", index, room["next"], len(objects)) + b"".join(object_bytes(it) for it in objects)
-
-
-def account_bytes(it):
-    return struct.pack("<IIIQI", it["player"], it["limit"], it["bucket"], it["points"], len(it["memory"])) + it["memory"]
-
-
-def rooms_bytes(world):
-    return [room_bytes(index, room) for index, room in enumerate(world["rooms"])]
-
-
-def accounts_bytes(world):
-    return struct.pack("<I", len(world["accounts"])) + b"".join(account_bytes(it) for it in world["accounts"])
-
-
-def frame(content):
-    return struct.pack("<Q", len(content)) + content
-
-
-def base_content(world):
-    content = b"SWSJ" + struct.pack("<IQI", 1, world["tick"], len(world["rooms"]))
-    for room, form in zip(world["rooms"], rooms_bytes(world)):
-        side, column, rise, row = re.fullmatch(r"([WE])(\d+)([NS])(\d+)", room["name"]).groups()
-        named = (int(column) if side == "E" else -1 - int(column), int(row) if rise == "S" else -1 - int(row))
-        content += struct.pack("<ii", *named) + bytes(int(digit) for digit in room["terrain"]) + form
-    return content + accounts_bytes(world)
-
-
-def tick_content(world, uploads, run):
-    """The content after a tick with accepted uploads, and one player's run: player, used, intents as (creep, amount)."""
-    content = b"T" + struct.pack("<QI", world["tick"], len(uploads))
-    for player, module in uploads:
-        content += struct.pack("<IBI", player, 0, len(module)) + module
-    player, used, intents = run
-    content += struct.pack("<IIBBQI", 1, player, 0, 0, used, len(intents))
-    for creep, amount in intents:
-        content += struct.pack("<BQQQB", DROP, creep, 0, amount, 0)
-    content += accounts_bytes(world) + struct.pack("<I", len(world["rooms"]))
-    return content + b"".join(rooms_bytes(world))
-
-
-# ---- the sample player and the tick, written anew
-
-
-def seen(world, player):
-    """The objects that the player sees, in rising id."""
-    found = []
-    for room in world["rooms"]:
-        if any(it["owner"] == player and it["kind"] in ("creep", "controller", *BUILDINGS) for it in room["objects"]):
-            found += room["objects"]
-    return sorted(found, key=lambda it: it["id"])
-
-
-def account_of(world, player):
-    return next(it for it in world["accounts"] if it["player"] == player)
-
-
-def dropped(world, player):
-    """What players/dropper.c wants, in rising creep, and its memory text then."""
-    account = account_of(world, player)
-    runs, drops = struct.unpack("<II", account["memory"]) if len(account["memory"]) == 8 else (0, 0)
+def dropper(desk):
+    """What players/dropper.c does."""
+    runs, drops = struct.unpack("<II", desk.text) if len(desk.text) == 8 else (0, 0)
     runs += 1
     usual = 0 if runs % 10 == 0 else 5
-    looks = min(500, account["limit"] + account["bucket"]) * 100 - 1
-    intents = []
-    for it in seen(world, player)[:looks]:
-        if it["kind"] != "creep" or it["owner"] != player or it["energy"] == 0:
+    for _, it in desk.objects[: allowance(desk.account) * 100 - 1]:
+        if it["kind"] != "creep" or it["owner"] != desk.player:
             continue
-        if len(intents) == MOST_INTENTS:
+        code = desk.acted("drop", it["id"], amount=usual)
+        if code == NOT_ENOUGH and usual:
+            code = desk.acted("drop", it["id"])
+        if code == FULL:
             break
-        intents.append((it["id"], usual if it["energy"] >= usual else 0))
-    return intents, struct.pack("<II", runs, drops + len(intents))
+        drops += code == 0
+    desk.text = struct.pack("<II", runs, drops)
 
 
-def fall(index, room, x, y, amount):
-    """So much falls on a tile."""
-    pile = next((it for it in room["objects"] if it["kind"] == "pile" and (it["x"], it["y"]) == (x, y)), None)
-    if pile is None:
-        new = {"id": (index << 32) + room["next"], "kind": "pile", "x": x, "y": y, "energy": 0, "hits": 0, "body": []}
-        pile = {**dict.fromkeys(("owner", "timer", "extra", "progress", "other", "other_ticks"), 0), **new}
-        room["objects"].append(pile)
-        room["next"] += 1
-    pile["energy"] += amount
+class Harvester:
+    """What players/harvester.c does."""
 
+    def __init__(self, desk):
+        self.desk, self.looks = desk, allowance(desk.account) * 50 - 1
+        self.ours = (0, desk.player)
+        for index, it in self.looked():
+            if it["kind"] == "creep" and it["owner"] == desk.player:
+                self.work(index, it)
 
-def step(world, player, used, intents, memory):
-    """One tick, in which this player ran."""
-    world["tick"] += 1
-    wanted = dict(intents)
-    for index, room in enumerate(world["rooms"]):
-        for it in [it for it in room["objects"] if it["id"] in wanted]:
-            amount = wanted[it["id"]] or it["energy"]
-            it["energy"] -= amount
-            fall(index, room, it["x"], it["y"], amount)
-        for it in room["objects"]:
-            if it["kind"] == "pile":
-                it["energy"] -= -(-it["energy"] // 1000)
-        room["objects"] = sorted((it for it in room["objects"] if it["kind"] != "pile" or it["energy"]), key=lambda it: it["id"])
-    for account in world["accounts"]:
-        units = -(-used // 10_000) if account["player"] == player else 0
-        account["bucket"] = min(10_000, account["limit"] + account["bucket"] - units)
-    account_of(world, player)["memory"] = memory
+    def looked(self):
+        """The objects, as far as the budget goes."""
+        for seen in self.desk.objects:
+            if self.looks == 0:
+                return
+            self.looks -= 1
+            yield seen
 
+    def serves(self, task, room, it, index, creep):
+        if room != index:
+            return False
+        far, objects = distance(it, creep), self.desk.world["rooms"][index]["objects"]
+        return {
+            "harvest": it["kind"] == "source" and it["energy"] > 0 and far <= 1,
+            "transfer": it["kind"] in STORES and it["owner"] in self.ours and it["energy"] < capacity(it, objects) and far <= 1,
+            "build": it["kind"] == "site" and it["owner"] in self.ours and far <= 3,
+            "repair": it["kind"] in BUILDINGS and it["owner"] in self.ours and it["hits"] < hits_max(it) and far <= 3,
+        }[task]
 
-def counted(world):
-    objects = [it for room in world["rooms"] for it in room["objects"]]
-    return len(objects), sum(it["energy"] for it in objects)
+    def work(self, index, creep):
+        for task in ("harvest", "transfer", "build", "repair"):
+            most = capacity(creep, self.desk.world["rooms"][index]["objects"])
+            if not (creep["energy"] < most if task == "harvest" else creep["energy"] > 0):
+                continue
+            target = next((it for room, it in self.looked() if self.serves(task, room, it, index, creep)), None)
+            if target and self.desk.acted(task, creep["id"], target["id"]) == 0:
+                return
 
 
 # ---- runs of the sample player
@@ -541,19 +577,16 @@ def used_by(out, player):
     return [int(it) for it in re.findall(rf"^player {player} finished (\d+)$", out, re.M)]
 
 
-def expected(file, player, module, ticks, used):
-    """What a run prints and leaves, where the player's runs use so much."""
-    world = opened(file)
-    lines = [f"start tick {world['tick']} rooms {len(world['rooms'])} objects {counted(world)[0]} players {len(world['accounts'])}"]
-    journal = frame(base_content(world))
-    for at in range(ticks):
-        intents, memory = dropped(world, player)
-        step(world, player, used[at], intents, memory)
-        lines += [f"upload player {player} accepted"] if at == 0 else []
-        objects, energy = counted(world)
-        lines += [f"player {player} finished {used[at]}", f"tick {world['tick']} objects {objects} intents {len(intents)} energy {energy}"]
-        journal += frame(tick_content(world, [(player, module)] if at == 0 else [], (player, used[at], intents)))
-    return "".join(f"{line}\n" for line in lines), journal
+def expected(file, player, module, acts, used):
+    """The steps of a run in which this player acts in each tick, and his runs use so much."""
+    world, steps = full(file), []
+    for at, instructions in enumerate(used):
+        desk = Desk(world, player)
+        acts(desk)
+        run = Run(player, "finished", instructions, desk.text, desk.entries)
+        world = ticked(world, [run])
+        steps.append(Step([(player, "accepted", module)] if at == 0 else [], [run], world))
+    return steps
 
 
 def served(words, folder):
@@ -561,22 +594,31 @@ def served(words, folder):
     return done.returncode, done.stdout.decode(), done.stderr.decode()
 
 
-def check_run(name, file, player, module, ticks):
-    """Uploads the module in the first tick, and compares all that the run does with what the sample player would."""
+def ran(name, file, player, module, ticks):
+    """Uploads the module in the first tick: what the run printed, and its journal, or None where it went wrong."""
     with tempfile.TemporaryDirectory() as folder:
         with open(os.path.join(folder, "world.json"), "w", encoding="utf-8") as it:
             json.dump(file, it)
         with open(os.path.join(folder, "uploads"), "wb") as it:
             it.write(stream((file["tick"], player, module)))
         status, out, err = served(["run", "world.json", "uploads", "journal", "--ticks", str(ticks)], folder)
-        used = used_by(out, player)
-        if (status, err) != (0, "") or len(used) != ticks:
+        if (status, err) != (0, "") or len(used_by(out, player)) != ticks:
             note(name, f"status {status}, said {err!r}, printed {out[:500]!r}")
-            return
+            return None
         with open(os.path.join(folder, "journal"), "rb") as it:
-            journal = it.read()
-    lines, kept = expected(file, player, module, ticks, used)
-    note(name, differ("lines", out, lines), differ("journal", journal, kept))
+            return out, it.read()
+
+
+def check_run(name, file, player, module, ticks, acts):
+    """Compares all that a run does with what the sample player would."""
+    if MODEL:
+        note(name, *world_faults(file, expected(file, player, module, acts, [0] * ticks)))
+        return
+    found = ran(name, file, player, module, ticks)
+    if found:
+        steps = expected(file, player, module, acts, used_by(found[0], player))
+        faults = journal_faults(file, [])("journal.bin", found[1], journal_of(file, steps))
+        note(name, differ("lines", found[0], output_of(file, steps).decode()), *faults)
 
 
 def plain_room(name, next, objects):
@@ -608,32 +650,65 @@ def crowd(rooms, each, limit):
     return {"version": 1, "tick": 0, "rooms": named, "players": [{"player": 1, "limit": limit}]}
 
 
-def check_player(name, module):
+def two_workers():
+    """Rooms in which creeps of two players stand among sources, stores, sites and what is worn, some out of reach, and some without parts for it."""
+    worker, first, second = ["work", "carry", "move"], [], []
+    for serial, (x, y, owner, body, energy) in enumerate([(9, 9, 1, worker, 0), (11, 11, 2, worker * 2, 30), (9, 11, 1, ["carry"], 20), (13, 10, 1, ["work"], 0), (8, 8, 2, worker, 50), (30, 30, 1, worker, 50)], 1):
+        first.append(thing("creep", serial, x, y, owner=owner, body=body, energy=energy, timer=9))
+        second.append(thing("creep", (1 << 32) + 20 - serial, 49 - x, y, owner=3 - owner, body=body, energy=energy, timer=9))
+    first += [thing("source", 20, 10, 10, energy=37, timer=40), thing("container", 21, 10, 11, energy=1990, timer=9, hits=249_000), thing("site", 22, 12, 12, owner=1, extra=8, progress=280)]
+    first += [thing("site", 23, 11, 9, owner=2, extra=5, progress=2980), thing("road", 24, 9, 12, timer=9, hits=4800), thing("spawn", 25, 12, 10, owner=2, energy=250, hits=4000), thing("pile", 26, 9, 9, energy=8)]
+    second += [thing("source", (1 << 32) + 20, 39, 10, energy=1500), thing("extension", (1 << 32) + 21, 38, 10, owner=1, energy=9), thing("storage", (1 << 32) + 22, 39, 9, owner=2, hits=9990)]
+    second += [thing("controller", (1 << 32) + 23, 20, 20, owner=2, extra=7, timer=9), thing("site", (1 << 32) + 24, 40, 12, owner=2, extra=7, progress=4990), thing("site", (1 << 32) + 25, 38, 11, owner=1, extra=5)]
+    players = [{"player": 1, "limit": 20}, {"player": 2, "limit": 20}]
+    return {"version": 1, "tick": 7, "rooms": [plain_room("E0S0", 40, first), plain_room("W5N5", 40, second)], "players": players}
+
+
+def sample(path):
+    with open(path, encoding="utf-8") as it:
+        return json.load(it)
+
+
+def check_dropper(name, module):
     """What the module does is what players/dropper.c says."""
-    with open(WORLD, encoding="utf-8") as it:
-        sample = json.load(it)
-    check_run(f"{name} in worlds/one_player.json", sample, 1, module, 25)
-    check_run(f"{name} among two players", two_players(), 1, module, 11)
-    check_run(f"{name} as player 2", two_players(), 2, module, 3)
-    check_run(f"{name} with more creeps than intents", crowd(2, 2100, 500), 1, module, 2)
-    check_run(f"{name} with more objects than its budget is for", crowd(1, 400, 1), 1, module, 3)
+    check_run(f"{name} in worlds/one_player.json", sample(WORLD), 1, module, 25, dropper)
+    check_run(f"{name} among two players", two_players(), 1, module, 11, dropper)
+    check_run(f"{name} as player 2", two_players(), 2, module, 3, dropper)
+    check_run(f"{name} with more creeps than intents", crowd(2, 2100, 500), 1, module, 2, dropper)
+    check_run(f"{name} with more objects than its budget is for", crowd(1, 400, 1), 1, module, 3, dropper)
+
+
+def check_harvester(name, module):
+    """What the module does is what players/harvester.c says."""
+    check_run(f"{name} in worlds/harvest.json", sample(HARVEST), 1, module, 300, Harvester)
+    check_run(f"{name} in worlds/one_player.json", sample(WORLD), 1, module, 40, Harvester)
+    check_run(f"{name} among two players", two_players(), 2, module, 3, Harvester)
+    check_run(f"{name} as each of two who work", two_workers(), 1, module, 60, Harvester)
+    check_run(f"{name} as the other", two_workers(), 2, module, 60, Harvester)
+    check_run(f"{name} with more objects than its budget is for", {**two_workers(), "players": [{"player": 1, "limit": 1}, {"player": 2, "limit": 0, "bucket": 1}]}, 1, module, 60, Harvester)
+
+
+CHECKS = {"dropper": check_dropper, "harvester": check_harvester}
 
 
 def check_accepted(name, path):
     """The program accepts the module of a file."""
+    if MODEL:
+        return
     with tempfile.TemporaryDirectory() as folder:
         note(name, differ("said", served(["check", path], folder), (0, "accepted\n", "")))
 
 
-def check_sample():
-    path = os.path.join(PLAYERS, "dropper.wasm")
-    check_accepted("players/dropper.wasm is accepted", path)
-    size = os.path.getsize(path)
-    note("players/dropper.wasm is small", None if size < 2048 else f"{size} bytes")
-    check_player("players/dropper.wasm", bytes_of(path))
+def check_samples():
+    for player, check in CHECKS.items():
+        path = os.path.join(PLAYERS, f"{player}.wasm")
+        check_accepted(f"players/{player}.wasm is accepted", path)
+        size = os.path.getsize(path)
+        note(f"players/{player}.wasm is small", None if size < 2048 else f"{size} bytes")
+        check(f"players/{player}.wasm", bytes_of(path))
 
 
-# ---- the sample player, built anew
+# ---- the sample players, built anew
 
 # A player that calls each of the calls of the header, so that the module imports each with its type.
 ALL_CALLS = """#include "screeps.h"
@@ -645,6 +720,8 @@ void loop(void) {
     text[0] = (char)sum;
     screeps_memory_write(text, sizeof text);
     screeps_drop(1, 0);
+    sum += screeps_transfer(1, 2, 0) + screeps_withdraw(1, 2, 0) + screeps_pickup(1, 2);
+    sum += screeps_harvest(1, 2) + screeps_repair(1, 2) + screeps_build(1, 2);
 }
 """
 
@@ -761,11 +838,15 @@ def imports_of(module):
 
 
 def check_built(folder):
-    module = os.path.join(folder, "dropper.wasm")
-    if built(os.path.join(PLAYERS, "dropper.c"), module):
-        check_accepted("players/dropper.c, built anew, is accepted", module)
-        check_player("players/dropper.c, built anew,", bytes_of(module))
-        check_documented(folder, module)
+    for player, check in CHECKS.items():
+        module = os.path.join(folder, f"{player}.wasm")
+        if built(os.path.join(PLAYERS, f"{player}.c"), module):
+            # (as another clang makes it, it may be another module that does the same)
+            if bytes_of(module) != bytes_of(f"players/{player}.wasm"):
+                check_accepted(f"players/{player}.c, built anew, is accepted", module)
+                check(f"players/{player}.c, built anew,", bytes_of(module))
+            if player == "dropper":
+                check_documented(folder, module)
     called = set(re.findall(r"screeps_(\w+)\(", ALL_CALLS))
     note("each call of the header is called", differ("calls", called, {name for name, _, _ in defined_calls()}))
     module = built_text(folder, "all_calls", ALL_CALLS)
@@ -781,36 +862,27 @@ def check_built(folder):
 
 def check_told(name, module):
     """The memory text of player 1 after a tick of worlds/one_player.json."""
-    with tempfile.TemporaryDirectory() as folder:
-        with open(os.path.join(folder, "uploads"), "wb") as it:
-            it.write(stream((0, 1, module)))
-        status, out, err = served(["run", WORLD, "uploads", "journal", "--ticks", "1"], folder)
-        used = used_by(out, 1)
-        if (status, err) != (0, "") or len(used) != 1:
-            note(name, f"status {status}, said {err!r}, printed {out[:500]!r}")
-            return
-        with open(os.path.join(folder, "journal"), "rb") as it:
-            journal = it.read()
-    with open(WORLD, encoding="utf-8") as it:
-        world = opened(json.load(it))
-    step(world, 1, used[0], [], memory_told(counted(world)[0]))
-    wanted = frame(tick_content(world, [(1, module)], (1, used[0], [])))
-    note(name, differ("the frame of the tick", journal[len(journal) - len(wanted) :], wanted))
+    file = sample(WORLD)
+
+    def tells(desk):
+        desk.text = memory_told(len(objects_of(file)))
+
+    check_run(name, file, 1, module, 1, tells)
 
 
 def main():
-    if not os.path.isfile(PROGRAM):
+    if not MODEL and not os.path.isfile(PROGRAM):
         sys.exit(f"{os.path.relpath(__file__)}: there is no {os.path.relpath(PROGRAM)}: `rt ci` builds it")
     check_header()
     check_tables()
     with tempfile.TemporaryDirectory() as folder:
         check_streams(folder)
-    check_sample()
+    check_samples()
     if shutil.which("clang") and shutil.which("wasm-ld"):
         with tempfile.TemporaryDirectory() as folder:
             check_built(folder)
     else:
-        print(f"{os.path.relpath(__file__, TOP)}: the sample player is not built anew, since clang and wasm-ld are not both installed")
+        print(f"{os.path.relpath(__file__, TOP)}: the sample players are not built anew, since clang and wasm-ld are not both installed")
     print(f"{os.path.relpath(__file__, TOP)}:")
     print(f"{passed} passed, {failures} failed")
     sys.exit(1 if failures else 0)

@@ -9,11 +9,9 @@ upload stream is run too, and has to make the file of the repository. What playe
 """
 
 import copy
-import json
 import os
 import re
 import shutil
-import struct
 import subprocess
 import sys
 import tempfile
@@ -473,16 +471,17 @@ def check_modules():
 
 CALL = "crates/world_server/out/world_server "
 MAKER = "players/upload_stream.py "
+SHOWER = "players/show_room.py "
 
 # How many examples each document has: one that is lost, or that is no longer found, is a fault as one too many is.
-EXAMPLES = {"README.md": 2, "docs/hosting.md": 4, "docs/players.md": 3}
+EXAMPLES = {"README.md": 2, "docs/hosting.md": 4, "docs/players.md": 7}
 
 
 def examples_of(text):
-    """The calls of the program and of the maker of upload streams in indented blocks, each with the lines that stand behind it in its block."""
+    """The calls of the program and of the scripts for players in indented blocks, each with the lines that stand behind it in its block."""
     found, last = [], None
     for line in text.splitlines():
-        if line.startswith(("    " + CALL, "    " + MAKER)):
+        if line.startswith(("    " + CALL, "    " + MAKER, "    " + SHOWER)):
             last = (line.strip(), [])
             found.append(last)
         elif line.startswith("    ") and last:
@@ -492,14 +491,23 @@ def examples_of(text):
     return found
 
 
+def printed_faults(found, printed):
+    """What is wrong of what an example printed, where these lines stand in the document. A line `..` stands for any others."""
+    if ".." in printed:
+        at = printed.index("..")
+        lines, last = found.decode().splitlines(keepends=True), len(printed) - at - 1
+        found = "".join([*lines[:at], "..\n", *lines[len(lines) - last :]]).encode() if len(lines) > at + last else found
+    wanted = "".join(f"{line}\n" for line in printed).encode()
+    return [] if found == wanted else [f"printed {shown(found)}, in the document {shown(wanted)}"]
+
+
 def call_faults(call, printed, folder):
     """What is wrong of an example that calls the program."""
     for left in os.listdir(folder):
         if left.endswith(".journal"):
             os.remove(os.path.join(folder, left))
     status, out, err = run(call[len(CALL) :].split(), folder)
-    wanted = "".join(f"{line}\n" for line in printed).encode()
-    faults = [] if out + err == wanted else [f"printed {shown(out + err)}, in the document {shown(wanted)}"]
+    faults = printed_faults(out + err, printed)
     # (a fault line says the exit status)
     said = re.match(rb"fault (\d+) ", err)
     return faults + ([] if status == (int(said[1]) if said else 0) else [f"exit status {status}"])
@@ -519,7 +527,14 @@ def maker_faults(call, printed, folder):
         return faults if one.read() == other.read() else [*faults, f"{made} is not that of the repository"]
 
 
+def shower_faults(call, printed, folder):
+    """What is wrong of an example that shows what the journal of the one before it has."""
+    done = subprocess.run([sys.executable, *call.split()], cwd=folder, stdin=subprocess.DEVNULL, stdout=subprocess.PIPE, stderr=subprocess.STDOUT, timeout=60)
+    return printed_faults(done.stdout, printed) + ([] if done.returncode == 0 else [f"exit status {done.returncode}"])
+
+
 def check_documents():
+    kinds = {CALL: call_faults, MAKER: maker_faults, SHOWER: shower_faults}
     paths = [os.path.join(TOP, "README.md")]
     paths += sorted(os.path.join(TOP, "docs", it) for it in os.listdir(os.path.join(TOP, "docs")) if it.endswith(".md"))
     for path in paths:
@@ -530,7 +545,7 @@ def check_documents():
             for part in ("worlds", "modules", "players"):
                 shutil.copytree(os.path.join(TOP, part), os.path.join(folder, part))
             for call, printed in found:
-                faults = call_faults(call, printed, folder) if call.startswith(CALL) else maker_faults(call, printed, folder)
+                faults = next(of for start, of in kinds.items() if call.startswith(start))(call, printed, folder)
                 note(f"{document}: {call}", faults)
         wanted = EXAMPLES.get(document, 0)
         note(f"the examples of {document}", [] if len(found) == wanted else [f"{len(found)} were found, and not {wanted}"])

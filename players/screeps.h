@@ -21,9 +21,12 @@ enum {
     CODE_OK = 0,
     CODE_NOT_OWNER = -1,            /* it belongs to another player */
     CODE_NOT_FOUND = -5,            /* no such object is in sight */
-    CODE_NOT_ENOUGH_RESOURCES = -6, /* it doesn't carry so much */
-    CODE_FULL = -8,                 /* 4,096 intents are recorded in this tick */
-    CODE_INVALID_ARGS = -10         /* an argument is out of its range */
+    CODE_NOT_ENOUGH_RESOURCES = -6, /* there isn't so much energy */
+    CODE_INVALID_TARGET = -7,       /* no such target is in sight, or it is none for this */
+    CODE_FULL = -8,                 /* there isn't so much room, or 4,096 intents are recorded in this tick */
+    CODE_NOT_IN_RANGE = -9,         /* the target is too far away */
+    CODE_INVALID_ARGS = -10,        /* an argument is out of its range */
+    CODE_NO_BODYPART = -12          /* the creep has no part for it that has hits */
 };
 
 /* ---- The player and the tick */
@@ -144,11 +147,48 @@ SCREEPS_CALL(memory_read) int screeps_memory_read(void *at);
  * pass the end of the module's memory. */
 SCREEPS_CALL(memory_write) int screeps_memory_write(const void *at, unsigned length);
 
-/* ---- What a creep does: recorded now, done when all players have run */
+/* ---- What a creep does: recorded now, done when all players have run
+ *
+ * Each takes an own creep by its id, and most a target by its id. All answer CODE_NOT_FOUND where no such creep is in
+ * sight, CODE_NOT_OWNER where it is another's, CODE_INVALID_TARGET where no such target is in sight or it is of another
+ * kind, CODE_NOT_IN_RANGE where the target is too far away, and CODE_FULL where 4,096 intents are recorded. Called again
+ * for the same creep, the last call counts. A creep may do several things in one tick, but of build, repair and harvest
+ * only one: repair comes before build, and both before harvest.
+ *
+ * An amount of 0 wants all there is; where it is above 0, so much has to be there, and room for it. What comes before it
+ * in the tick may leave less: then less is taken. */
 
-/* An own creep, by its id, drops energy on its tile: the amount, or all that it carries where the amount is 0.
- * Called again for the same creep, the last call counts. Or CODE_NOT_FOUND, CODE_NOT_OWNER, CODE_INVALID_ARGS
- * (a negative amount), CODE_NOT_ENOUGH_RESOURCES (it carries less, or nothing at all) or CODE_FULL. */
+/* Drops energy on the creep's tile. Or CODE_INVALID_ARGS (a negative amount), CODE_NOT_ENOUGH_RESOURCES (it carries
+ * less, or nothing at all). */
 SCREEPS_CALL(drop) int screeps_drop(long long creep, int amount);
+
+/* Hands energy to another creep, a spawn, an extension, a storage or a container within 1 tile, whoever owns it. Or
+ * CODE_INVALID_ARGS (a negative amount), CODE_NOT_ENOUGH_RESOURCES (it carries less, or nothing at all), CODE_FULL (the
+ * target has less room, or none). */
+SCREEPS_CALL(transfer) int screeps_transfer(long long creep, long long target, int amount);
+
+/* Takes energy from a spawn, an extension, a storage or a container within 1 tile, whoever owns it. Or CODE_INVALID_ARGS
+ * (a negative amount), CODE_NOT_ENOUGH_RESOURCES (there is less, or nothing at all), CODE_FULL (the creep has less room,
+ * or none). */
+SCREEPS_CALL(withdraw) int screeps_withdraw(long long creep, long long target, int amount);
+
+/* Picks up a pile within 1 tile, as far as the creep has room for it. Or CODE_FULL (it has none). */
+SCREEPS_CALL(pickup) int screeps_pickup(long long creep, long long target);
+
+/* Takes 2 energy for each WORK part from a source within 1 tile; what the creep has no room for falls on its tile. Or
+ * CODE_NO_BODYPART, CODE_NOT_OWNER (another player owns or reserves the room's controller too),
+ * CODE_NOT_ENOUGH_RESOURCES (the source is empty). */
+SCREEPS_CALL(harvest) int screeps_harvest(long long creep, long long target);
+
+/* Mends a spawn, an extension, a storage, a container or a road within 3 tiles, whoever owns it: 100 hits for each WORK
+ * part, and each 100 of them, also where they are fewer, cost 1 energy. Or CODE_NO_BODYPART, CODE_NOT_ENOUGH_RESOURCES
+ * (it carries nothing). */
+SCREEPS_CALL(repair) int screeps_repair(long long creep, long long target);
+
+/* Works at an own site within 3 tiles: 5 for each WORK part, each for 1 energy. Once nothing is missing, the building
+ * stands there, with an id of its own. Or CODE_NO_BODYPART, CODE_NOT_OWNER (another's site too),
+ * CODE_NOT_ENOUGH_RESOURCES (it carries nothing), CODE_INVALID_TARGET (a creep stands where a spawn, an extension or a
+ * storage would, too). */
+SCREEPS_CALL(build) int screeps_build(long long creep, long long target);
 
 #endif

@@ -1,0 +1,247 @@
+"""The game's numbers, what objects hold, and what creeps do, for the checks and the measures.
+
+It is a second, slow writing of the tables in docs/players.md and of the rules in docs/formats.md, which shares nothing with the program.
+An object is what a world file has of it, with every key.
+"""
+
+SECOND = 1 << 32
+FIELDS = ("owner", "energy", "timer", "extra", "progress", "other", "other_ticks")
+KINDS = ["source", "controller", "creep", "spawn", "extension", "storage", "container", "road", "pile", "site"]
+BUILDINGS = ("spawn", "extension", "storage", "container", "road")
+STORES = ("spawn", "extension", "storage", "container")
+OBSTRUCTING = ("source", "controller", "spawn", "extension", "storage")
+PARTS = ["move", "work", "carry", "attack", "ranged_attack", "tough", "heal", "claim"]
+HITS = {"spawn": 5000, "extension": 1000, "storage": 10_000, "container": 250_000, "road": 5000}
+TOTALS = {"spawn": 15_000, "extension": 3000, "storage": 30_000, "container": 5000, "road": 300}
+MOST_PILE = 10**9
+
+NOT_OWNER, NOT_FOUND, NOT_ENOUGH, INVALID_TARGET, FULL = -1, -5, -6, -7, -8
+NOT_IN_RANGE, INVALID, NO_BODYPART = -9, -10, -12
+
+
+def thing(kind, id, x, y, **fields):
+    return {"id": id, "kind": kind, "x": x, "y": y, **fields}
+
+
+# ---- objects
+
+
+def part_hits(one, place):
+    if one["kind"] != "creep":
+        return 100
+    return min(100, max(0, one["hits"] - 100 * (len(one["body"]) - 1 - place)))
+
+
+def live(creep, part):
+    """How many parts of a kind have hits."""
+    return sum(it == part and part_hits(creep, place) > 0 for place, it in enumerate(creep["body"]))
+
+
+def controller_of(objects):
+    return next((one for one in objects if one["kind"] == "controller"), None)
+
+
+def source_room(objects):
+    controller = controller_of(objects)
+    return 3000 if controller and (controller["owner"] or controller["other"]) else 1500
+
+
+def capacity(one, objects):
+    """The energy that an object of a room with these objects holds."""
+    if one["kind"] == "source":
+        return source_room(objects)
+    if one["kind"] == "creep":
+        return 50 * live(one, "carry")
+    if one["kind"] == "extension":
+        controller = controller_of(objects)
+        return {7: 100, 8: 200}.get(controller["extra"] if controller else 0, 50)
+    return {"spawn": 300, "storage": 1_000_000, "container": 2000}.get(one["kind"], 0)
+
+
+def free_room(one, objects):
+    return max(0, capacity(one, objects) - one["energy"])
+
+
+def hits_max(one):
+    return 100 * len(one["body"]) if one["kind"] == "creep" else HITS.get(one["kind"], 0)
+
+
+def distance(one, other):
+    return max(abs(one["x"] - other["x"]), abs(one["y"] - other["y"]))
+
+
+# ---- actions
+
+
+class Action:
+    """An action of creeps: its number, the part that it needs, the kinds of its targets, and how far they may be."""
+
+    def __init__(self, number, part=None, targets=(), reach=0):
+        self.number, self.part, self.targets, self.reach = number, part, targets, reach
+
+
+# Those that are in force, in the order in which a tick applies them.
+ACTIONS = {
+    "drop": Action(1),
+    "transfer": Action(2, None, ("creep", *STORES), 1),
+    "withdraw": Action(3, None, STORES, 1),
+    "pickup": Action(4, None, ("pile",), 1),
+    "harvest": Action(9, "work", ("source",), 1),
+    "repair": Action(10, "work", BUILDINGS, 3),
+    "build": Action(11, "work", ("site",), 3),
+}
+
+# An entry doesn't count where the same creep has one of these actions too.
+DROPPED_BY = {"harvest": ("repair", "build"), "build": ("repair",)}
+
+
+def counting(entries):
+    """Those entries of a player that count, by action and creep."""
+    return {(name, id): it for (name, id), it in entries.items() if not any((other, id) in entries for other in DROPPED_BY.get(name, ()))}
+
+
+def refusal(name, player, actor, target, amount, least, objects):
+    """The code of the first check of an action that fails, or 0.
+
+    Actor and target are what stands under their ids, each a room's index and an object, or None. The objects are those of the
+    actor's room; the least is how much there has to be."""
+    action = ACTIONS[name]
+    if actor is None or actor[1]["kind"] != "creep":
+        return NOT_FOUND
+    if actor[1]["owner"] != player:
+        return NOT_OWNER
+    if amount < 0:
+        return INVALID
+    if action.part and live(actor[1], action.part) == 0:
+        return NO_BODYPART
+    if action.targets:
+        if target is None or target[1]["kind"] not in action.targets or target[1] is actor[1]:
+            return INVALID_TARGET
+        if target[0] != actor[0] or distance(target[1], actor[1]) > action.reach:
+            return NOT_IN_RANGE
+    further = FURTHER[name](player, actor[1], target and target[1], least, objects)
+    return next((code for holds, code in further if not holds), 0)
+
+
+def of_harvest(player, _, source, __, objects):
+    controller = controller_of(objects)
+    others = {controller["owner"], controller["other"]} - {0, player} if controller else ()
+    return (not others, NOT_OWNER), (source["energy"] > 0, NOT_ENOUGH)
+
+
+def of_build(player, creep, site, _, objects):
+    obstructs = KINDS[site["extra"] - 1] in OBSTRUCTING
+    taken = obstructs and any(one["kind"] == "creep" and distance(one, site) == 0 for one in objects)
+    return (site["owner"] == player, NOT_OWNER), (creep["energy"] > 0, NOT_ENOUGH), (not taken, INVALID_TARGET)
+
+
+# What each checks last, in order: whether it holds, and the code where it doesn't.
+FURTHER = {
+    "drop": lambda _, creep, __, least, ___: ((creep["energy"] >= least, NOT_ENOUGH),),
+    "transfer": lambda _, creep, taker, least, objects: ((creep["energy"] >= least, NOT_ENOUGH), (free_room(taker, objects) >= least, FULL)),
+    "withdraw": lambda _, creep, store, least, objects: ((store["energy"] >= least, NOT_ENOUGH), (free_room(creep, objects) >= least, FULL)),
+    "pickup": lambda _, creep, __, ___, objects: ((free_room(creep, objects) >= 1, FULL),),
+    "harvest": of_harvest,
+    "repair": lambda _, creep, *__: ((creep["energy"] > 0, NOT_ENOUGH),),
+    "build": of_build,
+}
+
+
+# ---- what they make of the world
+
+
+class Course:
+    """The rooms of a world in the course of a tick, in which objects are found by their ids, and piles by their tiles. New objects stand
+    at the end of their room."""
+
+    def __init__(self, rooms):
+        self.rooms = rooms
+        self.found = {one["id"]: (index, one) for index, place in enumerate(rooms) for one in place["objects"]}
+        self.piles = {(index, one["x"], one["y"]): one for index, one in self.found.values() if one["kind"] == "pile"}
+
+    def make(self, index, kind, x, y, **fields):
+        """A new object of a room, with its next id."""
+        place = self.rooms[index]
+        one = {**thing(kind, index * SECOND + place["next"], x, y, body=[], hits=0), **dict.fromkeys(FIELDS, 0), **fields}
+        place["next"] += 1
+        place["objects"].append(one)
+        self.found[one["id"]] = (index, one)
+        if kind == "pile":
+            self.piles[index, x, y] = one
+
+    def remove(self, index, one):
+        self.rooms[index]["objects"] = [it for it in self.rooms[index]["objects"] if it is not one]
+        del self.found[one["id"]]
+        if one["kind"] == "pile":
+            del self.piles[index, one["x"], one["y"]]
+
+    def fall(self, index, one, amount):
+        """An amount falls on the tile of an object."""
+        if amount == 0:
+            return
+        pile = self.piles.get((index, one["x"], one["y"]))
+        if pile:
+            pile["energy"] = min(MOST_PILE, pile["energy"] + amount)
+        else:
+            self.make(index, "pile", one["x"], one["y"], energy=min(MOST_PILE, amount))
+
+    def act(self, player, name, id, target, amount):
+        """What an entry does, on the world as those before it left it: whether it did anything."""
+        actor, target = self.found.get(id), self.found.get(target)
+        objects = self.rooms[actor[0]]["objects"] if actor else []
+        # (an object that stands elsewhere is none here)
+        target = target if target and actor and target[0] == actor[0] else None
+        if refusal(name, player, actor, target, amount, 1, objects) or actor[1]["hits"] == 0:
+            return False
+        getattr(self, "do_" + name)(*actor, target and target[1], amount)
+        return True
+
+    def room_for(self, index, one):
+        return free_room(one, self.rooms[index]["objects"])
+
+    def do_drop(self, index, creep, _, amount):
+        amount = min(amount or creep["energy"], creep["energy"])
+        creep["energy"] -= amount
+        self.fall(index, creep, amount)
+
+    def do_transfer(self, index, creep, taker, amount):
+        amount = min(amount or creep["energy"], creep["energy"], self.room_for(index, taker))
+        creep["energy"] -= amount
+        taker["energy"] += amount
+
+    def do_withdraw(self, index, creep, store, amount):
+        amount = min(amount or store["energy"], store["energy"], self.room_for(index, creep))
+        store["energy"] -= amount
+        creep["energy"] += amount
+
+    def do_pickup(self, index, creep, pile, _):
+        amount = min(pile["energy"], self.room_for(index, creep))
+        creep["energy"] += amount
+        pile["energy"] -= amount
+        if pile["energy"] == 0:
+            self.remove(index, pile)
+
+    def do_harvest(self, index, creep, source, _):
+        amount = min(2 * live(creep, "work"), source["energy"])
+        taken = min(amount, self.room_for(index, creep))
+        source["energy"] -= amount
+        creep["energy"] += taken
+        self.fall(index, creep, amount - taken)
+
+    def do_repair(self, _, creep, building, __):
+        gain = min(100 * live(creep, "work"), hits_max(building) - building["hits"], 100 * creep["energy"])
+        building["hits"] += gain
+        creep["energy"] -= -(-gain // 100)
+
+    def do_build(self, index, creep, site, _):
+        kind = KINDS[site["extra"] - 1]
+        work = min(5 * live(creep, "work"), creep["energy"], TOTALS[kind] - site["progress"])
+        creep["energy"] -= work
+        site["progress"] += work
+        if site["progress"] < TOTALS[kind]:
+            return
+        self.remove(index, site)
+        controller = controller_of(self.rooms[index]["objects"])
+        timer = {"road": 1000, "container": 500 if controller and controller["owner"] else 100}.get(kind, 0)
+        owner = site["owner"] if kind in ("spawn", "extension", "storage") else 0
+        self.make(index, kind, site["x"], site["y"], owner=owner, hits=HITS[kind], timer=timer)
