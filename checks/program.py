@@ -20,7 +20,8 @@ TOP = os.path.dirname(os.path.dirname(os.path.abspath(__file__)))
 sys.path.insert(0, os.path.join(TOP, "bench"))
 from checked_program import Checks, run, shown  # noqa: E402
 from modules import HOST_CALLS, I32, OPENING, func_type, host_import, leb, listed, section  # noqa: E402
-from worlds import MIB, SECOND, SMALL, Step, base_content, bytes_of, grounds, journal_of, output_of, played, room, start_line, step_lines, text_of, thing, tick_content, upload_entry, world  # noqa: E402
+from game import SECOND  # noqa: E402
+from worlds import MIB, SMALL, Step, base_content, bytes_of, grounds, journal_of, output_of, played, room, start_line, step_lines, text_of, thing, tick_content, upload_entry, world  # noqa: E402
 
 FULL = "/dev/full"
 MOST_NEXT = 2**32 - 2**20
