@@ -311,7 +311,7 @@ def of_refusals():
         ("transfer", 2, 15, 0, NOT_IN_RANGE),
         ("transfer", 2, 8, 0, NOT_ENOUGH),
         ("transfer", 10, 2, 51, NOT_ENOUGH),
-        ("transfer", 10, 8, 0, NOT_IN_RANGE + 1),
+        ("transfer", 10, 8, 0, FULL),
         ("withdraw", 4, 8, -1, NOT_OWNER),
         ("withdraw", 2, 3, -1, INVALID),
         ("withdraw", 2, 10, 0, INVALID_TARGET),
