@@ -176,6 +176,11 @@ def of_handing():
             [(1, "transfer", 3, 2, 0, 0), (1, "withdraw", 5, 4, 0, 0), above],
             {2: {"energy": given}, 3: {"energy": left}, 4: {"energy": 150}, 5: {"energy": 50}},
         )
+    # (the level counts, whoever owns the room)
+    rooms = [("nobody's", controller(1), 50), *((f"another's, of level {level}", controller(1, 2, level), given) for level, given in ((6, 50), (7, 95), (8, 95)))]
+    for whose, it, given in rooms:
+        objects = [it, thing("extension", 2, 10, 10, owner=1, energy=45), creep(3, *WEST, 50)]
+        yield Case(f"an extension in a room that is {whose}", objects, [(1, "transfer", 3, 2, 0, 0)], {2: {"energy": given}, 3: {"energy": 95 - given}})
 
 
 def of_piles():
