@@ -7,7 +7,7 @@ use Rattle.game_tables.specs.declared.code.Code.TheVariants.{Done}
 use Rattle.game_tables.specs.Actions.{max_range, needed_part}
 use Rattle.game_tables.specs.declared.action.Action.{Action}
 use Rattle.game_tables.specs.declared.kind.Part.{Part}
-use Rattle.game_tables.specs.declared.action.Action.TheVariants.{DropLoad, Transfer, Withdraw, Pickup, Harvest, Repair, Build}
+use Rattle.game_tables.specs.declared.action.Action.TheVariants.{DropLoad, Transfer, Withdraw, Pickup, Harvest, Repair, Build, Move}
 use Rattle.action_checks.specs.inner.Passing.{Passes}
 use Rattle.world_rules.specs.Checks.{Check, Scene, all_hold, amount_checks, checks, creep_checks, first_failing, further_checks, part_checks, target_checks}
 
@@ -74,13 +74,14 @@ further_codes Pickup scene = (λ e. cc, tt)
 further_codes Harvest scene = (λ e. cc, (λ e. cc, tt))
 further_codes Repair scene = (λ e. cc, tt)
 further_codes Build scene = (λ e. cc, (λ e. cc, (λ e. cc, tt)))
+further_codes Move scene = (λ e. cc, tt)
 further_codes _ scene = tt
 
 have_codes : (action : Action) (scene : Scene) → HaveCodes (checks action scene)
 have_codes action scene =
-    have_both (creep_checks scene ++ amount_checks scene ++ part_checks (needed_part action) scene ++ target_checks (max_range action) action scene) (further_checks action scene)
-    (have_both (creep_checks scene ++ amount_checks scene ++ part_checks (needed_part action) scene) (target_checks (max_range action) action scene)
-    (have_both (creep_checks scene ++ amount_checks scene) (part_checks (needed_part action) scene) (λ e. cc, (λ e. cc, (λ e. cc, tt))) (part_codes (needed_part action) scene))
+    have_both (creep_checks scene ++ amount_checks action scene ++ part_checks (needed_part action) scene ++ target_checks (max_range action) action scene) (further_checks action scene)
+    (have_both (creep_checks scene ++ amount_checks action scene ++ part_checks (needed_part action) scene) (target_checks (max_range action) action scene)
+    (have_both (creep_checks scene ++ amount_checks action scene) (part_checks (needed_part action) scene) (λ e. cc, (λ e. cc, (λ e. cc, tt))) (part_codes (needed_part action) scene))
     (target_codes (max_range action) action scene))
     (further_codes action scene)
 

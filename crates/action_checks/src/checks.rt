@@ -3,7 +3,7 @@ ghost use Rattle.std.specs.Prelude.{◌≡◌, ◌==◌, [], ◌∷◌, option_m
 ghost use Rattle.std.specs.Option.{unwrap_or};
 ghost use Rattle.object_store.specs.Controllers.{is_anothers as is_anothers_room};
 ghost use Rattle.world_rules.specs.World.{shown};
-ghost use Rattle.world_rules.specs.Checks.{all_hold, amount_checks, are_near as near, checks, controller_around as around_controller, creep_checks, first_failing, further_checks, holds_least, holds_of, is_in_the_way, is_reachable, may_be_target as target_of, part_checks, reaches_itself as itself, takes_least, target_checks};
+ghost use Rattle.world_rules.specs.Checks.{all_hold, amount_checks, is_amount_of as amount_of, are_near as near, checks, controller_around as around_controller, creep_checks, first_failing, further_checks, holds_least, holds_of, is_in_the_way, is_reachable, may_be_target as target_of, part_checks, reaches_itself as itself, takes_least, target_checks};
 ghost use Rattle.action_checks.specs.Scenes.{scene_view};
 ghost use Rattle.action_checks.specs.inner.Passing.{Passes};
 
@@ -49,7 +49,7 @@ fn check_all(action: Action, scene: &Scene) -> Result<(), Code>
     ensures { Passes result (checks action (scene_view scene.now)) }
 {
     check_creep(scene)?;
-    check_amount(scene)?;
+    check_amount(action, scene)?;
     check_part(needed_part(action), scene)?;
     check_target(max_range(action), action, scene)?;
     check_further(action, scene)
@@ -71,13 +71,23 @@ fn check_creep(scene: &Scene) -> Result<(), Code>
     }
 }
 
-// The amount is not negative.
-fn check_amount(scene: &Scene) -> Result<(), Code>
-    ensures { Passes result (amount_checks (scene_view scene.now)) }
+// The amount is not negative, and a direction is one of the eight.
+fn check_amount(action: Action, scene: &Scene) -> Result<(), Code>
+    ensures { Passes result (amount_checks action (scene_view scene.now)) }
 {
     match scene.amount {
-        Some(_) => Ok(()),
-        None => Err(Code::InvalidArgs),
+        Some(amount) if is_amount_of(action, amount) => Ok(()),
+        _ => Err(Code::InvalidArgs),
+    }
+}
+
+// The amount of a move is the number of its direction.
+fn is_amount_of(action: Action, amount: u64) -> bool
+    ensures { result ≡ amount_of action amount }
+{
+    match action {
+        Action::Move => (1..=8).contains(&amount),
+        _ => true,
     }
 }
 
@@ -125,6 +135,7 @@ fn check_further(action: Action, scene: &Scene) -> Result<(), Code>
         Action::Harvest => check_harvest(scene),
         Action::Repair => check_holds(1, scene.actor),
         Action::Build => check_build(scene),
+        Action::Move => check_rested(scene),
         _ => Ok(()),
     }
 }
@@ -161,6 +172,16 @@ fn check_build(scene: &Scene) -> Result<(), Code>
     check_owned(scene)?;
     check_holds(1, scene.actor)?;
     check_way(scene)
+}
+
+// The creep is not tired.
+fn check_rested(scene: &Scene) -> Result<(), Code>
+    ensures { Passes result (further_checks Action.Move (scene_view scene.now)) }
+{
+    match scene.actor {
+        Some(actor) if actor.object.extra == 0 => Ok(()),
+        _ => Err(Code::Tired),
+    }
 }
 
 // The object holds at least so much.

@@ -5,6 +5,7 @@ mod Placed
 mod Changed
 mod Kept
 mod OnTiles
+mod Obstructed
 mod Named
 pub mod Accounts
 pub mod Rising

@@ -1,6 +1,7 @@
 -- The objects of a room as they are stored.
 use Rattle.std.specs.Prelude.{◌≡◌, ℕ, ◌<◌, ◌≤◌, ◌==◌, ◌&&◌, nat_lt, nat_le, if◌then◌else◌, List, [], ◌∷◌, ◌++◌, map, Bool, false, Option, Some, None, not}
-use Rattle.std.specs.List.{AllByRecursion, find, filter}
+use Rattle.std.specs.List.{AllByRecursion, find, filter, list_any}
+use Rattle.game_tables.specs.Kinds.{obstructs}
 use Rattle.game_tables.specs.Numbers.{kind_number}
 use Rattle.game_tables.specs.declared.kind.Kind.{Kind}
 use Rattle.object_store.specs.declared.object.Object.{Object}
@@ -60,3 +61,8 @@ first_on x y kind objects =
 -- The tile is barred to a player. Under the first rules no tile is.
 abbrev pub is_barred : ℕ → ℕ → ℕ → List Object → Bool
 is_barred x y player objects = false
+
+-- Something that obstructs a player's creeps stands on the tile. Under the first rules it is the same for all
+-- players.
+abbrev pub is_obstructed : ℕ → ℕ → ℕ → List Object → Bool
+is_obstructed x y player objects = list_any (λ o. (o.x == x) && (o.y == y) && obstructs o.kind) objects

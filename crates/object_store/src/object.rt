@@ -25,7 +25,7 @@ pub struct Object {
     pub progress: u64,
     /// The player who reserves a controller, or 0 for nobody.
     pub other: u32,
-    /// The ticks of that reservation.
+    /// The ticks of that reservation; of a creep in the course of a tick, 1 where it moved.
     pub other_ticks: u32,
     pub body: Body,
 }

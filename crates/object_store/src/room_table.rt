@@ -3,7 +3,8 @@ ghost use Rattle.std.specs.Prelude.{◌≡◌, ◌==◌, ◌<◌, ◌≤◌, ◌
 ghost use Rattle.std.specs.List.{HoldsAt, list_any};
 ghost use Rattle.std.specs.Map.Iter.{ShowsInOrder, deref};
 ghost use Rattle.object_store.specs.declared.object.Object.{Object};
-ghost use Rattle.object_store.specs.Tables.{Table, IsRising, IsOnTile, HasId, HasNoId, find_object, find_from, is_barred, with_object, with_new, without, first_on};
+ghost use Rattle.object_store.specs.Tables.{Table, IsRising, IsOnTile, HasId, HasNoId, find_object, find_from, is_barred, is_obstructed, with_object, with_new, without, first_on};
+ghost use Rattle.object_store.specs.inner.Kept.{is_kind_on};
 ghost use Rattle.object_store.specs.inner.Owners.{Covers};
 ghost use Rattle.object_store.specs.Controllers.{controller_among};
 
@@ -218,6 +219,26 @@ impl RoomTable {
         ensures { result ≡ is_barred x y player self.now.objects }
     {
         false
+    }
+
+    /// Whether something on a tile obstructs a player's creeps. Under the first rules it is the same for all
+    /// players.
+    pub fn obstructed(&self, x: u8, y: u8, player: u32) -> bool
+        ensures { result ≡ is_obstructed x y player self.now.objects }
+    {
+        self.stands(x, y, Kind::Source)
+            | self.stands(x, y, Kind::Controller)
+            | self.stands(x, y, Kind::Spawn)
+            | self.stands(x, y, Kind::Extension)
+            | self.stands(x, y, Kind::Storage)
+    }
+
+    // Whether an object of a kind stands on a tile.
+    #[tactic(auto, using(crate::proofs::Obstructed::kind_any))]
+    fn stands(&self, x: u8, y: u8, kind: Kind) -> bool
+        ensures { result ≡ list_any (is_kind_on x y kind) self.now.objects }
+    {
+        self.at(x, y, kind).is_some()
     }
 
     /// Whether a player, or nobody by the number 0, owns an object here.

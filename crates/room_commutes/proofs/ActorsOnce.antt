@@ -1,8 +1,8 @@
 -- Of the entries of an action that count no two have one actor.
-use Rattle.std.proofs.Common.{◌≡◌, ◌≢◌, ℕ, ◌/◌, ◌<◌, ◌==◌, if◌then◌else◌, true, false, List, [], ◌∷◌, get_or, Option, Some, None, refl, sym, ap, subst, ◌∙◌, arith}
+use Rattle.std.proofs.Common.{◌≡◌, ◌≢◌, ℕ, ◌/◌, ◌<◌, ◌==◌, if◌then◌else◌, true, false, List, [], ◌∷◌, get_or, Option, Some, None, option_and_then, refl, sym, ap, subst, ◌∙◌, arith}
 use Rattle.std.specs.Prelude.{nat_lt}
 use Rattle.std.specs.List.{AllByRecursion, AllPairs, Contains, cons_option, filter_map}
-use Rattle.std.specs.FinMap.{contains_key}
+use Rattle.std.specs.FinMap.{get, contains_key}
 use Rattle.std.proofs.lemmas.Bool.{eqb-true, and_parts}
 use Rattle.std.proofs.lemmas.List.Elements.{All-from_recursion, Contains-get_or}
 use Rattle.std.proofs.lemmas.List.Kept.{AllPairs-cons, AllPairs-filter}
@@ -10,13 +10,18 @@ use Rattle.std.proofs.lemmas.List.Sorted.{IsPermutation-sym, Contains-permutatio
 use Rattle.game_tables.specs.Actions.{action_number}
 use Rattle.game_tables.specs.declared.action.Action.{Action}
 use Rattle.game_tables.specs.declared.action.Action.TheVariants.{Move}
+use Rattle.room_terrain.specs.declared.direction.Direction.{Direction}
 use Rattle.object_store.specs.declared.object.Object.{Object}
 use Rattle.intent_book.specs.declared.intent.Intent.{Intent}
 use Rattle.world_rules.specs.World.{World}
 use Rattle.world_rules.specs.Intents.{names_tile, object_at, may_act, acts_for, has_actor, kept, entries_of, is_in, those_in}
 use Rattle.world_rules.specs.Movement.{Mover}
+use Rattle.world_rules.specs.Checks.{may_take_effect}
+use Rattle.world_rules.specs.Moves.{tile_towards, direction_of, is_open, mover_to, mover_towards, mover_of, candidates}
+use Rattle.world_rules.specs.RoomParts.{RoomPart}
 use Rattle.room_commutes.specs.Allowed.{AreCreepsOnce, StepsActor}
 use Rattle.room_commutes.specs.Orders.{of_action}
+use Rattle.room_commutes.specs.Standing.{AreKeyed}
 use Rattle.room_commutes.proofs.Members.{contains_has, has_contained, has_filter, pairs_first, pairs_later}
 use Rattle.room_commutes.proofs.Order.{less_player}
 use Rattle.room_commutes.proofs.Ordered.{in_order-same, kept-rises}
@@ -79,7 +84,7 @@ module _ (step : Intent → Option Mover) (steps : StepsActor step) where
         | Some mover ↦ λ goes. (λ same. apart.0 (sym (steps entry one is) ∙ same ∙ steps other mover goes), rest)
       ] refl
 
-  steps_once : (list : List Intent) → AllPairs (λ one later. one.actor ≢ later.actor) list → AreCreepsOnce (filter_map step list)
+  pub steps_once : (list : List Intent) → AllPairs (λ one later. one.actor ≢ later.actor) list → AreCreepsOnce (filter_map step list)
   steps_once [] apart = λ i j d less within. absurd (omega arith)
   steps_once (entry ∷ later) apart =
       let rest = steps_once later (pairs_later (λ one other. one.actor ≢ other.actor) entry later apart) in
@@ -89,6 +94,39 @@ module _ (step : Intent → Option Mover) (steps : StepsActor step) where
             (All-from_recursion (λ other. one.creep ≢ other.creep) (filter_map step later) (apart_later entry one goes later (pairs_first (λ a b. a.actor ≢ b.actor) entry later apart))) rest
       ] refl
 
-  pub moves_once : (world : World) (list : List Intent) (room : ℕ) → AreCreepsOnce (filter_map step (those_in world room (entries_of Move (kept world list))))
-  moves_once world list room = steps_once (those_in world room (entries_of Move (kept world list)))
-      (AllPairs-filter (λ one later. one.actor ≢ later.actor) (is_in world room) (entries_of Move (kept world list)) (actors_once world list Move refl))
+-- the moves of a room that count
+pub moves_once : (world : World) (list : List Intent) (room : ℕ) → AllPairs (λ one later. one.actor ≢ later.actor) (those_in world room (entries_of Move (kept world list)))
+moves_once world list room =
+    AllPairs-filter (λ one later. one.actor ≢ later.actor) (is_in world room) (entries_of Move (kept world list)) (actors_once world list Move refl)
+
+-- ---- the movers of the rule in force
+
+creep_to : (part : RoomPart) (creep : Object) (at : ℕ × ℕ) (one : Mover) → mover_to part creep at ≡ Some one → one.creep ≡ creep.id
+creep_to part creep at one is =
+    let there : Mover = record { creep = creep.id; x = at.0; y = at.1 } in
+    elim (is_open part creep.owner at) as (λ b. (if b then Some there else None) ≡ Some one → one.creep ≡ creep.id) [
+      | true ↦ λ got. let same : there ≡ one = cc in ap (λ (m : Mover). m.creep) (sym same)
+      | false ↦ λ got. absurd (cc)
+    ] is
+
+creep_at : (part : RoomPart) (creep : Object) (at : Option (ℕ × ℕ)) (one : Mover) → option_and_then (mover_to part creep) at ≡ Some one → one.creep ≡ creep.id
+creep_at part creep None one is = absurd (cc)
+creep_at part creep (Some at) one is = creep_to part creep at one is
+
+module _ (part : RoomPart) (keyed : AreKeyed part) where
+  creep_of : (entry : Intent) (found : Option Object) → get part.objects entry.actor ≡ found → (one : Mover) → option_and_then (mover_towards part entry.amount) found ≡ Some one → one.creep ≡ entry.actor
+  creep_of entry None stands one is = absurd (cc)
+  creep_of entry (Some creep) stands one is =
+      let ahead : Direction → Option (ℕ × ℕ) = λ to. tile_towards to creep.x creep.y in
+      creep_at part creep (option_and_then ahead (direction_of entry.amount)) one is ∙ keyed entry.actor creep stands
+
+  -- The mover of an entry steps its actor.
+  pub mover_steps : StepsActor (mover_of part)
+  mover_steps entry one is =
+      elim (may_take_effect Move entry part) as (λ b. (if b then option_and_then (mover_towards part entry.amount) (get part.objects entry.actor) else None) ≡ Some one → one.creep ≡ entry.actor) [
+        | true ↦ λ got. creep_of entry (get part.objects entry.actor) refl one got
+        | false ↦ λ got. absurd (cc)
+      ] is
+
+  pub candidates_once : (list : List Intent) → AllPairs (λ one other. one.actor ≢ other.actor) list → AreCreepsOnce (candidates part list)
+  candidates_once list apart = steps_once (mover_of part) mover_steps list apart

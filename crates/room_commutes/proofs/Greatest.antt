@@ -79,7 +79,7 @@ of_set (one ∷ later) set x among has = elim (append_cases (map (λ s. one ∷ 
 
 -- ---- a creep once
 
-one_of_creep : (list : List Mover) (one other : Mover) → AreCreepsOnce list → Has list one → Has list other → one.creep ≡ other.creep → one ≡ other
+pub one_of_creep : (list : List Mover) (one other : Mover) → AreCreepsOnce list → Has list one → Has list other → one.creep ≡ other.creep → one ≡ other
 one_of_creep [] one other once here there same = absurd here
 one_of_creep (first ∷ later) one other once (inl is) (inl also) same = sym is ∙ also
 one_of_creep (first ∷ later) one other once (inl is) (inr there) same =
@@ -88,10 +88,10 @@ one_of_creep (first ∷ later) one other once (inr here) (inl also) same =
     absurd (all_of_has (λ mover. first.creep ≢ mover.creep) later one (pairs_first (λ a b. a.creep ≢ b.creep) first later once) here (ap (λ (m : Mover). m.creep) also ∙ sym same))
 one_of_creep (first ∷ later) one other once (inr here) (inr there) same = one_of_creep later one other (pairs_later (λ a b. a.creep ≢ b.creep) first later once) here there same
 
-has_creep : (set : List Mover) (creep : ℕ) → has_mover set creep ≡ true → (one : Mover) × Has set one × (one.creep ≡ creep)
+pub has_creep : (set : List Mover) (creep : ℕ) → has_mover set creep ≡ true → (one : Mover) × Has set one × (one.creep ≡ creep)
 has_creep set creep is = let found = any_has (λ one. one.creep == creep) set is in (found.0, found.1, eqb-true found.0.creep creep found.2)
 
-creep_has : (set : List Mover) (one : Mover) → Has set one → has_mover set one.creep ≡ true
+pub creep_has : (set : List Mover) (one : Mover) → Has set one → has_mover set one.creep ≡ true
 creep_has set one has = has_any (λ other. other.creep == one.creep) set one has (eq-eqb one.creep one.creep refl)
 
 module _ (objects : List Object) where

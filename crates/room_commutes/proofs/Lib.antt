@@ -14,6 +14,7 @@ pub mod Harmed
 pub mod Members
 pub mod Greatest
 pub mod CreepsApart
+pub mod Rested
 pub mod Crossed
 pub mod Counted
 pub mod Summed

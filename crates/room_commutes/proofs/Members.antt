@@ -1,10 +1,12 @@
 -- The members of a list, by recursion on it.
-use Rattle.std.proofs.Common.{◌≡◌, ◌⊎◌, inl, inr, ℕ, zero, suc, ◌<◌, Bool, true, false, cond, List, [], ◌∷◌, ◌++◌, map, length, get_or, Some, refl, sym, ap, subst, ◌∙◌, arith}
+use Rattle.std.proofs.Common.{◌≡◌, ◌⊎◌, inl, inr, ℕ, zero, suc, ◌<◌, Bool, true, false, cond, List, [], ◌∷◌, ◌++◌, map, length, get_or, Some, None, refl, sym, ap, subst, ◌∙◌, arith}
 use Rattle.std.specs.List.{AllByRecursion, AllPairs, Contains, filter, list_any, list_all}
 use Rattle.std.specs.Ordering.{nat_cmp, eq_by_cmp}
+use Rattle.std.specs.Cmp.{unsigned_tied}
 use Rattle.std.specs.FinMap.{find}
-use Rattle.std.proofs.lemmas.Bool.{and_from, and_parts, or_cases, or_left, or_right}
+use Rattle.std.proofs.lemmas.Bool.{eqb-true, eq-eqb, and_from, and_parts, or_cases, or_left, or_right}
 use Rattle.std.proofs.lemmas.List.Elements.{recursion_from_All}
+use Rattle.world_rules.proofs.Keys.{AreKeysOnce}
 
 module _ {A : Type 0} where
   abbrev pub Has : List A → A → Type 0
@@ -114,3 +116,18 @@ found_has (e ∷ es) key x is = elim (eq_by_cmp nat_cmp key e.0) as (λ b. cond 
   | true ↦ λ got. let same : e.1 ≡ x = cc in inl same
   | false ↦ λ got. inr (found_has es key x got)
 ] is
+
+-- what a list has whose keys stand once is found by its key
+pub has_found : {A : Type 0} (es : List (ℕ × A)) → AreKeysOnce es → (x : ℕ × A) → Has es x → find nat_cmp x.0 es ≡ Some x.1
+has_found [] once x has = absurd has
+has_found {A} (e ∷ es) once x (inl is) =
+    subst (λ (f : ℕ × A). find nat_cmp f.0 (e ∷ es) ≡ Some f.1) is (ap (λ (b : Bool). cond b (Some e.1) (find nat_cmp e.0 es)) (unsigned_tied e.0 e.0 ∙ eq-eqb e.0 e.0 refl))
+has_found {A} (e ∷ es) once x (inr has) =
+    let rest = has_found es once.1 x has in
+    elim (eq_by_cmp nat_cmp x.0 e.0) as (λ b. eq_by_cmp nat_cmp x.0 e.0 ≡ b → cond b (Some e.1) (find nat_cmp x.0 es) ≡ Some x.1) [
+      | true ↦ λ tied.
+          let same : x.0 ≡ e.0 = eqb-true x.0 e.0 (sym (unsigned_tied x.0 e.0) ∙ tied) in
+          let none : find nat_cmp x.0 es ≡ None = subst (λ (n : ℕ). find nat_cmp n es ≡ None) (sym same) once.0 in
+          absurd (cc)
+      | false ↦ λ untied. rest
+    ] refl

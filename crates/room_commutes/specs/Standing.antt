@@ -32,7 +32,3 @@ AreAllApart world =
     (id key : ℕ) (one other : Placed) → get world.objects id ≡ Some one → get world.objects key ≡ Some other
     → id ≢ key → is_creep one.object.kind ≡ true
     → is_creep_at one.room one.object.x one.object.y other ≡ false
-
--- It is a creep that has moved.
-abbrev pub has_moved : Placed → Bool
-has_moved placed = is_creep placed.object.kind && (placed.object.other_ticks == 1)

@@ -1,33 +1,33 @@
 // Which creeps cross, and what crossings keep.
-ghost use Rattle.std.specs.Prelude.{◌≡◌, ◌⊎◌, ℕ, false, Option, Some, None};
+ghost use Rattle.std.specs.Prelude.{◌≡◌, ◌⊎◌, ℕ, false, List, Some, None};
 ghost use Rattle.std.specs.FinMap.{get};
 ghost use Rattle.world_rules.specs.World.{Placed, World};
-ghost use Rattle.world_rules.specs.Crossings.{Place, with_place, rested, crossed};
-ghost use Rattle.room_commutes.specs.Standing.{AreAllApart, has_moved};
+ghost use Rattle.world_rules.specs.Crossings.{Place, with_place, crossed_over, is_crosser, rested, all_rested, crossed};
+ghost use Rattle.room_commutes.specs.Standing.{AreAllApart};
 
-/// Says what crossings keep, wherever border tiles lead. It does nothing when it runs.
+/// Says what crossings keep. It does nothing when it runs.
 pub fn crossings_keep()
     // No creep comes onto the tile of another.
-    ensures apart { (beyond : World → Placed → Option Place) (world : World) → AreAllApart world
-        → AreAllApart (crossed beyond world) }
+    ensures apart { (world : World) → AreAllApart world → AreAllApart (crossed world) }
 
-    // What is no creep that has moved stays as it is, but that no creep has moved any more.
-    ensures stay { (beyond : World → Placed → Option Place) (world : World) (id : ℕ) (placed : Placed)
-        → get world.objects id ≡ Some placed → has_moved placed ≡ false
-        → get (crossed beyond world).objects id ≡ Some (rested beyond placed) }
+    // What is no creep that moved onto a border tile stays as it is, but that no creep has moved any more.
+    ensures stay { (world : World) (id : ℕ) (placed : Placed) → get world.objects id ≡ Some placed
+        → is_crosser placed.object ≡ false → get (crossed world).objects id ≡ Some (rested placed) }
 
-    // A creep that has moved stays too, or it comes to another place and is else as it was.
-    ensures go { (beyond : World → Placed → Option Place) (world : World) (id : ℕ) (placed : Placed)
-        → get world.objects id ≡ Some placed
-        → (get (crossed beyond world).objects id ≡ Some (rested beyond placed))
+    // Such a creep stays too, or it comes to another place and is else as it was.
+    ensures go { (world : World) (id : ℕ) (placed : Placed) → get world.objects id ≡ Some placed
+        → (get (crossed world).objects id ≡ Some (rested placed))
         ⊎ ((place : Place)
-        × (get (crossed beyond world).objects id ≡ Some (rested beyond (with_place placed.object place)))) }
+        × (get (crossed world).objects id ≡ Some (rested (with_place placed.object place)))) }
 
     // Nothing comes that was not there.
-    ensures none { (beyond : World → Placed → Option Place) (world : World) (id : ℕ)
-        → get world.objects id ≡ None → get (crossed beyond world).objects id ≡ None }
+    ensures none { (world : World) (id : ℕ) → get world.objects id ≡ None
+        → get (crossed world).objects id ≡ None }
 
     // Rooms, accounts, rules and tick stay.
-    ensures rest { (beyond : World → Placed → Option Place) (world : World)
-        → record (crossed beyond world) { objects = world.objects } ≡ world }
+    ensures rest { (world : World) → record (crossed world) { objects = world.objects } ≡ world }
+
+    // Where creeps go is the same if all of them come to rest first.
+    ensures listed { (world : World) (ids : List ℕ)
+        → all_rested (crossed_over ids world) ≡ crossed_over ids (all_rested world) }
 {}

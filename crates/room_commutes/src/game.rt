@@ -4,7 +4,8 @@ ghost use Rattle.object_store.specs.Stored.{Stored};
 ghost use Rattle.intent_book.specs.declared.intent.Intent.{Intent};
 ghost use Rattle.world_rules.specs.World.{World, world_of};
 ghost use Rattle.world_rules.specs.Sound.{IsSound};
-ghost use Rattle.world_rules.specs.Tick.{book, crossed, ruled, gained};
+ghost use Rattle.world_rules.specs.Crossings.{crossed};
+ghost use Rattle.world_rules.specs.Tick.{book, ruled, gained};
 ghost use Rattle.room_commutes.specs.Schedules.{Event, IsFull, after, summed};
 
 /// Says that the rooms of a sound stored world commute by the rules in force. It does nothing when it

@@ -7,6 +7,7 @@ ghost use Rattle.intent_book.specs.declared.intent.Intent.{Intent};
 ghost use Rattle.world_rules.specs.World.{World};
 ghost use Rattle.world_rules.specs.Intents.{kept, entries_of, those_in};
 ghost use Rattle.world_rules.specs.RoomParts.{RoomPart};
+ghost use Rattle.world_rules.specs.Moves.{mover_of};
 ghost use Rattle.world_rules.specs.Movement.{Mover, meet, winners, movers, moved_by};
 ghost use Rattle.room_commutes.specs.Allowed.{AreCreepsOnce, StepsActor, IsLeast, IsAllowed};
 ghost use Rattle.room_commutes.specs.Standing.{AreKeyed, AreCreepsApart};
@@ -18,6 +19,9 @@ pub fn movers_are_greatest()
     ensures once { (step : Intent → Option Mover) (world : World) (list : List Intent) (room : ℕ)
         → StepsActor step
         → AreCreepsOnce (filter_map step (those_in world room (entries_of Move (kept world list)))) }
+
+    // The rule in force has such movers.
+    ensures in_force { (part : RoomPart) → AreKeyed part → StepsActor (mover_of part) }
 
     // The winners are those of least id for their tiles.
     ensures least { (list : List Mover) (one : Mover) → Contains (winners list) one ↔ IsLeast list one }

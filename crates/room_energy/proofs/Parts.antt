@@ -6,6 +6,7 @@ use Rattle.std.proofs.lemmas.Bool.{lt-ltb, ne_eqb}
 use Rattle.object_store.specs.declared.object.Object.{Object}
 use Rattle.world_rules.specs.RoomParts.{RoomPart}
 use Rattle.world_rules.specs.Changes.{put, with_object, without, with_new, next_id}
+use Rattle.room_rules.specs.Within.{Stage}
 use Rattle.room_rules.specs.RoomRules.{Holds, KeepsRoomRules}
 use Rattle.room_rules.proofs.Changed.{holds_still, left_without}
 use Rattle.room_rules.proofs.Keeps.{put_or_before}
@@ -47,8 +48,8 @@ free_of part None is nobody = refl
 free_of part (Some object) is nobody = absurd (nobody object is)
 
 -- A room that keeps its rules and has a serial left is ready.
-pub ready_of : (players : ℕ → Bool) (within : Bool) (part : RoomPart) → KeepsRoomRules players within part → part.next < 2 ^ 32 → IsReady part
-ready_of players within part k room =
+pub ready_of : (players : ℕ → Bool) (stage : Stage) (part : RoomPart) → KeepsRoomRules players stage part → part.next < 2 ^ 32 → IsReady part
+ready_of players stage part k room =
     let place : ℕ = next_id part in
     let born : place / 2 ^ 32 ≡ part.index = omega (arith, room) in
     let serial : place % 2 ^ 32 ≡ part.next = omega (arith, room) in

@@ -15,7 +15,7 @@ use Rattle.world_rules.specs.Checks.{by_parties, parties}
 use Rattle.world_rules.specs.Loads.{with_more, with_less}
 use Rattle.world_rules.specs.Work.{live_work, harvested_by, hits_gained, repair_cost, repaired_by, building_on, built_as, built_by, total_of, work_put}
 use Rattle.world_rules.proofs.Checked.{AreParties}
-use Rattle.room_rules.specs.Within.{IsInRangeIn}
+use Rattle.room_rules.specs.Within.{Stage, IsInRangeIn}
 use Rattle.room_rules.specs.RoomRules.{Holds, KeepsRoomRules}
 use Rattle.room_rules.proofs.Changed.{holds_still, target_apart, target_kind}
 use Rattle.room_energy.specs.Energy.{energy_in, lost_by_harvest, put_into, taken_between}
@@ -54,9 +54,9 @@ energy_repaired part ready entry = energy_parties Repair repaired_by (λ creep b
 
 -- ---- build
 
-site_empty : (within : Bool) (site : Object) (k : Kind) → is_target Build k ≡ true → IsInRangeIn k within site → site.energy ≡ 0
-site_empty within site Site is ranges = ranges.energy
-site_empty within site k is ranges = absurd (cc)
+site_empty : (stage : Stage) (site : Object) (k : Kind) → is_target Build k ≡ true → IsInRangeIn k stage site → site.energy ≡ 0
+site_empty stage site Site is ranges = ranges.energy
+site_empty stage site k is ranges = absurd (cc)
 
 -- A number is 0 where that is not false.
 none_of : (n : ℕ) → ((n ≡ 0 → ⊥) → ⊥) → n ≡ 0
@@ -90,8 +90,8 @@ module _ (part : RoomPart) (ready : IsReady part) (entry : Intent) (creep site :
       let later = energy_advanced middle (ready_changed part less ready) site further (building_on kind middle further) there refl refl empty (λ id. refl) (nat_lt further.progress (total_of kind)) in
       omega (arith, paid, later)
 
-pub energy_built : (players : ℕ → Bool) (within : Bool) (part : RoomPart) → KeepsRoomRules players within part → IsReady part → (entry : Intent)
+pub energy_built : (players : ℕ → Bool) (stage : Stage) (part : RoomPart) → KeepsRoomRules players stage part → IsReady part → (entry : Intent)
     → energy_in (by_parties Build built_by entry part) + taken_between (λ creep site. put_into (building_of site) creep site) (parties Build entry part) ≡ energy_in part
-energy_built players within part k ready entry = energy_parties Build built_by (λ creep site. put_into (building_of site) creep site) entry part (λ creep site p.
-    let empty : site.energy ≡ 0 = none_of site.energy (λ some. k.ranges entry.target site p.at (λ ranges. some (site_empty within site site.kind (target_kind Build 3 entry part creep site p.targets) ranges))) in
+energy_built players stage part k ready entry = energy_parties Build built_by (λ creep site. put_into (building_of site) creep site) entry part (λ creep site p.
+    let empty : site.energy ≡ 0 = none_of site.energy (λ some. k.ranges entry.target site p.at (λ ranges. some (site_empty stage site site.kind (target_kind Build 3 entry part creep site p.targets) ranges))) in
     built_with part ready entry creep site p empty (building_of site))

@@ -15,7 +15,7 @@ use Rattle.object_store.specs.Controllers.{level_of}
 use Rattle.object_store.specs.Stores.{capacity_as}
 use Rattle.object_store.specs.declared.object.Object.{Object}
 use Rattle.world_rules.specs.Loads.{with_less, with_more}
-use Rattle.room_rules.specs.Within.{IsInRangeIn}
+use Rattle.room_rules.specs.Within.{Stage, between, moved, within, IsInRangeIn}
 
 -- ---- with more hits a creep has no fewer live parts
 
@@ -58,14 +58,15 @@ extension_most level = one (level == 8) (level == 7)
     one false true = omega arith
     one false false = omega arith
 
-module _ (within : Bool) (o : Object) (controller : Option Object) (amount : ℕ) where
-  creep_more : (w : Bool) → amount ≤ load_room o.hits o.body - o.energy → IsInRangeIn Creep w o → IsInRangeIn Creep w (with_more amount o)
-  creep_more true fits s = record { owner = s.owner; hits = s.hits; energy = omega (arith, s.energy, fits, load_more o.hits (hits_max Creep o.body) o.body s.hits); timer = s.timer; extra = s.extra; progress = s.progress; other = s.other; other_ticks = s.other_ticks; some_parts = s.some_parts; parts = s.parts }
-  creep_more false fits s = record { owner = s.owner; hits = s.hits; energy = omega (arith, s.energy, fits); timer = s.timer; extra = s.extra; progress = s.progress; other = s.other; other_ticks = s.other_ticks; some_parts = s.some_parts; parts = s.parts }
+module _ (stage : Stage) (o : Object) (controller : Option Object) (amount : ℕ) where
+  creep_more : (w : Stage) → amount ≤ load_room o.hits o.body - o.energy → IsInRangeIn Creep w o → IsInRangeIn Creep w (with_more amount o)
+  creep_more within fits s = record { owner = s.owner; hits = s.hits; energy = omega (arith, s.energy, fits, load_more o.hits (hits_max Creep o.body) o.body s.hits); timer = s.timer; extra = s.extra; progress = s.progress; other = s.other; other_ticks = s.other_ticks; some_parts = s.some_parts; parts = s.parts }
+  creep_more between fits s = record { owner = s.owner; hits = s.hits; energy = omega (arith, s.energy, fits); timer = s.timer; extra = s.extra; progress = s.progress; other = s.other; other_ticks = s.other_ticks; some_parts = s.some_parts; parts = s.parts }
+  creep_more moved fits s = let r = s.rested in record { other_ticks = s.other_ticks; rested = record { owner = r.owner; hits = r.hits; energy = omega (arith, r.energy, fits); timer = r.timer; extra = r.extra; progress = r.progress; other = r.other; other_ticks = r.other_ticks; some_parts = r.some_parts; parts = r.parts } }
 
   -- What takes energy, as far as it has room, stays in its ranges.
-  pub more_range : (k : Kind) → is_target Transfer k ≡ true → amount ≤ capacity_as k controller o - o.energy → IsInRangeIn k within o → IsInRangeIn k within (with_more amount o)
-  more_range Creep is fits s = creep_more within fits s
+  pub more_range : (k : Kind) → is_target Transfer k ≡ true → amount ≤ capacity_as k controller o - o.energy → IsInRangeIn k stage o → IsInRangeIn k stage (with_more amount o)
+  more_range Creep is fits s = creep_more stage fits s
   more_range Spawn is fits s = record { owner = s.owner; hits = s.hits; energy = omega (arith, s.energy, fits); timer = s.timer; idle = s.idle; busy = s.busy; extra = s.extra; progress = s.progress; other = s.other; other_ticks = s.other_ticks; parts = s.parts }
   more_range Extension is fits s = record { owner = s.owner; hits = s.hits; energy = omega (arith, s.energy, fits, extension_most (level_of controller)); timer = s.timer; extra = s.extra; progress = s.progress; other = s.other; other_ticks = s.other_ticks; body = s.body }
   more_range Storage is fits s = record { owner = s.owner; hits = s.hits; energy = omega (arith, s.energy, fits); timer = s.timer; extra = s.extra; progress = s.progress; other = s.other; other_ticks = s.other_ticks; body = s.body }
@@ -79,9 +80,9 @@ creep_takes k is = absurd (cc)
 
 -- ---- less energy
 
-module _ (within : Bool) (o : Object) (amount : ℕ) where
+module _ (stage : Stage) (o : Object) (amount : ℕ) where
   -- A store from which creeps withdraw stays in its ranges with less.
-  pub store_less : (k : Kind) → is_target Withdraw k ≡ true → IsInRangeIn k within o → IsInRangeIn k within (with_less amount o)
+  pub store_less : (k : Kind) → is_target Withdraw k ≡ true → IsInRangeIn k stage o → IsInRangeIn k stage (with_less amount o)
   store_less Spawn is s = record { owner = s.owner; hits = s.hits; energy = omega (arith, s.energy); timer = s.timer; idle = s.idle; busy = s.busy; extra = s.extra; progress = s.progress; other = s.other; other_ticks = s.other_ticks; parts = s.parts }
   store_less Extension is s = record { owner = s.owner; hits = s.hits; energy = omega (arith, s.energy); timer = s.timer; extra = s.extra; progress = s.progress; other = s.other; other_ticks = s.other_ticks; body = s.body }
   store_less Storage is s = record { owner = s.owner; hits = s.hits; energy = omega (arith, s.energy); timer = s.timer; extra = s.extra; progress = s.progress; other = s.other; other_ticks = s.other_ticks; body = s.body }
@@ -89,23 +90,23 @@ module _ (within : Bool) (o : Object) (amount : ℕ) where
   store_less k is s = absurd (cc)
 
   -- So does a source,
-  pub source_less : (k : Kind) → is_target Harvest k ≡ true → IsInRangeIn k within o → IsInRangeIn k within (with_less amount o)
+  pub source_less : (k : Kind) → is_target Harvest k ≡ true → IsInRangeIn k stage o → IsInRangeIn k stage (with_less amount o)
   source_less Source is s = record { owner = s.owner; hits = s.hits; energy = omega (arith, s.energy); timer = s.timer; extra = s.extra; progress = s.progress; other = s.other; other_ticks = s.other_ticks; body = s.body }
   source_less k is s = absurd (cc)
 
   -- and a pile of which something is left.
-  pub pile_less : (k : Kind) → is_target Pickup k ≡ true → amount < o.energy → IsInRangeIn k within o → IsInRangeIn k within (with_less amount o)
+  pub pile_less : (k : Kind) → is_target Pickup k ≡ true → amount < o.energy → IsInRangeIn k stage o → IsInRangeIn k stage (with_less amount o)
   pile_less Pile is left s = record { owner = s.owner; hits = s.hits; energy = (omega (arith, left), omega (arith, s.energy)); timer = s.timer; extra = s.extra; progress = s.progress; other = s.other; other_ticks = s.other_ticks; body = s.body }
   pile_less k is left s = absurd (cc)
 
 -- ---- more hits
 
-module _ (within : Bool) (o : Object) (gain : ℕ) where
+module _ (stage : Stage) (o : Object) (gain : ℕ) where
   abbrev mended : Object
   mended = record o { hits = o.hits + gain }
 
   -- A building gains hits that it lacks.
-  pub hits_range : (k : Kind) → is_target Repair k ≡ true → gain ≤ hits_max k o.body - o.hits → IsInRangeIn k within o → IsInRangeIn k within mended
+  pub hits_range : (k : Kind) → is_target Repair k ≡ true → gain ≤ hits_max k o.body - o.hits → IsInRangeIn k stage o → IsInRangeIn k stage mended
   hits_range Spawn is fits s = record { owner = s.owner; hits = (omega (arith, s.hits), omega (arith, s.hits, fits)); energy = s.energy; timer = s.timer; idle = s.idle; busy = s.busy; extra = s.extra; progress = s.progress; other = s.other; other_ticks = s.other_ticks; parts = s.parts }
   hits_range Extension is fits s = record { owner = s.owner; hits = (omega (arith, s.hits), omega (arith, s.hits, fits)); energy = s.energy; timer = s.timer; extra = s.extra; progress = s.progress; other = s.other; other_ticks = s.other_ticks; body = s.body }
   hits_range Storage is fits s = record { owner = s.owner; hits = (omega (arith, s.hits), omega (arith, s.hits, fits)); energy = s.energy; timer = s.timer; extra = s.extra; progress = s.progress; other = s.other; other_ticks = s.other_ticks; body = s.body }

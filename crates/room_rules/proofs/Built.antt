@@ -18,6 +18,7 @@ use Rattle.world_rules.specs.Checks.{is_in_the_way}
 use Rattle.world_rules.specs.Loads.{with_less}
 use Rattle.world_rules.specs.Work.{building_on, built, built_as, built_by, total_of, work_put}
 use Rattle.world_rules.proofs.Checked.{AreParties}
+use Rattle.room_rules.specs.Within.{Stage}
 use Rattle.room_rules.specs.RoomRules.{Holds, KeepsRoomRules}
 use Rattle.room_rules.proofs.Keeps.{Fits, IsSame, keeps_changed, keeps_new, keeps_without}
 use Rattle.room_rules.proofs.Falls.{both_true, is_creep_kind, less_range, none_of_entries}
@@ -36,15 +37,15 @@ same_progress : (o : Object) (progress : ℕ) → IsSame o (record o { progress 
 same_progress o progress = record { id = refl; kind = refl; x = refl; y = refl; owner = refl; other = refl }
 
 -- Nothing that is found of this tile is a creep.
-no_creep : (part : RoomPart) (x y m : ℕ) (q : Object) → first_on x y Creep (values part.objects) ≡ None → Holds part m q → is_creep q.kind ≡ true → q.x ≡ x → q.y ≡ y → ⊥
+pub no_creep : (part : RoomPart) (x y m : ℕ) (q : Object) → first_on x y Creep (values part.objects) ≡ None → Holds part m q → is_creep q.kind ≡ true → q.x ≡ x → q.y ≡ y → ⊥
 no_creep part x y m q none h creep column row =
     let test : Object → Bool = λ o. (o.x == x) && (o.y == y) && (kind_number o.kind == kind_number Creep) in
     both_ways (test q) (none_of_entries test (entries part.objects) m q none (sym (get-entries part.objects m) ∙ h))
     (both_true ((q.x == x) && (q.y == y)) (kind_number q.kind == kind_number Creep) (both_true (q.x == x) (q.y == y) (eq-eqb q.x x column) (eq-eqb q.y y row)) (eq-eqb (kind_number q.kind) (kind_number Creep) (ap kind_number (is_creep_kind q.kind creep))))
 
-module _ (players : ℕ → Bool) (within : Bool) where
+module _ (players : ℕ → Bool) (stage : Stage) where
   abbrev Kept : RoomPart → Type 0
-  Kept part = KeepsRoomRules players within part
+  Kept part = KeepsRoomRules players stage part
 
   -- ---- a creep that puts work into the site of a building
 
@@ -79,7 +80,7 @@ module _ (players : ℕ → Bool) (within : Bool) where
     site_id = k.ids entry.target site p.at
 
     middle_keeps : Kept middle
-    middle_keeps = keeps_changed players within part k entry.actor creep less p.there (same_less work creep) (less_range players within creep work p.kind)
+    middle_keeps = keeps_changed players stage part k entry.actor creep less p.there (same_less work creep) (less_range players stage creep work p.kind)
 
     site_there : Holds middle entry.target site
     site_there = holds_still part less entry.target site p.at (λ e. target_apart Build 3 entry part creep site p.targets refl (e ∙ sym site_id))
@@ -110,10 +111,10 @@ module _ (players : ℕ → Bool) (within : Bool) where
     owned : 1 ≤ site.owner
     owned = elim (cases_lt 0 site.owner) [
       | inl some ↦ some
-      | inr none ↦ absurd (k.ranges entry.target site p.at (λ r. (let some : 1 ≤ site.owner = site_owner within site site.kind site_target r in omega (arith, some, none))))
+      | inr none ↦ absurd (k.ranges entry.target site p.at (λ r. (let some : 1 ≤ site.owner = site_owner stage site site.kind site_target r in omega (arith, some, none))))
     ]
 
-    fits : Fits players within gone building
+    fits : Fits players stage gone building
     fits = record {
       id = refl;
       inside = let on = k.inside entry.target site p.at in record { column = on.column; row = on.row };
@@ -121,15 +122,15 @@ module _ (players : ℕ → Bool) (within : Bool) where
       alone = λ m q h x y. (shares m q h x y, λ c. shares m q h x y (clash_turned kind q.kind ∙ c));
       owner = building_owner middle further (next_id gone) players kind is_one ((k.owners entry.target site p.at).owner (λ none. omega (arith, none, owned))).0;
       controller = building_no_controller kind is_one;
-      range = building_range middle further (next_id gone) kind within is_one owned;
+      range = building_range middle further (next_id gone) kind stage is_one owned;
     }
 
     advanced_keeps : Kept (built_as (Some kind) creep site part)
     advanced_keeps =
         elim (nat_lt further.progress (total_of kind)) as (λ b. nat_lt further.progress (total_of kind) ≡ b → Kept (if b then with_object further middle else with_new (building_on kind middle further) gone)) [
-          | true ↦ λ is. keeps_changed players within middle middle_keeps entry.target site further site_there (same_progress site further.progress)
-              (site_further within site kind further.progress is_one (building_is site kind of).1 is site.kind site_target)
-          | false ↦ λ is. keeps_new players within gone (keeps_without players within middle middle_keeps site.id) (building_on kind middle further) fits
+          | true ↦ λ is. keeps_changed players stage middle middle_keeps entry.target site further site_there (same_progress site further.progress)
+              (site_further stage site kind further.progress is_one (building_is site kind of).1 is site.kind site_target)
+          | false ↦ λ is. keeps_new players stage gone (keeps_without players stage middle middle_keeps site.id) (building_on kind middle further) fits
         ] refl
 
   -- ---- the rule
@@ -138,8 +139,8 @@ module _ (players : ℕ → Bool) (within : Bool) where
   built_keeps entry part k creep site p None is = k
   built_keeps entry part k creep site p (Some kind) is = advanced_keeps entry part k creep site p kind is
 
-  build_keeps : (entry : Intent) → PartiesKeep players within Build built_by entry
+  build_keeps : (entry : Intent) → PartiesKeep players stage Build built_by entry
   build_keeps entry part k creep site p = built_keeps entry part k creep site p (building_of site) refl
 
   pub keeps_built : (part : RoomPart) → Kept part → (entry : Intent) → Kept (built entry part)
-  keeps_built part k entry = keeps_parties players within Build built_by entry (build_keeps entry) part k
+  keeps_built part k entry = keeps_parties players stage Build built_by entry (build_keeps entry) part k

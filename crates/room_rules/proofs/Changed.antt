@@ -11,7 +11,7 @@ use Rattle.world_rules.specs.RoomParts.{RoomPart}
 use Rattle.world_rules.specs.Changes.{put, with_object, without}
 use Rattle.world_rules.specs.Checks.{all_hold, are_near, between, by_parties, parties, reaches_itself, target_checks}
 use Rattle.world_rules.proofs.Checked.{AreParties, and_left, and_right, parties_are, placed_in, scene_with}
-use Rattle.room_rules.specs.Within.{IsInRangeIn}
+use Rattle.room_rules.specs.Within.{Stage, IsInRangeIn}
 use Rattle.room_rules.specs.RoomRules.{Holds, KeepsRoomRules}
 use Rattle.room_rules.proofs.Keeps.{IsSame, keeps_changed, put_or_before}
 
@@ -58,17 +58,17 @@ left_without part gone id o h =
 
 -- ---- objects that change
 
-module _ (players : ℕ → Bool) (within : Bool) where
+module _ (players : ℕ → Bool) (stage : Stage) where
   abbrev Kept : RoomPart → Type 0
-  Kept part = KeepsRoomRules players within part
+  Kept part = KeepsRoomRules players stage part
 
   -- Two objects of the room change.
   pub keeps_two : (part : RoomPart) → Kept part → (i j : ℕ) (one other first second : Object) → Holds part i one → Holds part j other → (one.id ≡ other.id → ⊥)
       → IsSame one first → IsSame other second
-      → (IsInRangeIn one.kind within one → IsInRangeIn first.kind within first) → (IsInRangeIn other.kind within other → IsInRangeIn second.kind within second)
+      → (IsInRangeIn one.kind stage one → IsInRangeIn first.kind stage first) → (IsInRangeIn other.kind stage other → IsInRangeIn second.kind stage second)
       → Kept (with_object second (with_object first part))
   keeps_two part k i j one other first second h g apart same alike range ranges =
-      keeps_changed players within (with_object first part) (keeps_changed players within part k i one first h same range) j other second
+      keeps_changed players stage (with_object first part) (keeps_changed players stage part k i one first h same range) j other second
       (holds_still part first j other g (λ e. apart (sym same.id ∙ e ∙ sym (k.ids j other g)))) alike ranges
 
   -- ---- the creep and the target of an entry

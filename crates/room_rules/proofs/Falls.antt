@@ -19,7 +19,7 @@ use Rattle.world_rules.specs.Drops.{pile_bound, is_pile_on, pile_on, pile_of, fa
 use Rattle.world_rules.specs.Checks.{may_take_effect}
 use Rattle.world_rules.proofs.Checked.{and_left, and_right, creep_acts}
 use Rattle.world_rules.proofs.Keys.{AreKeysOnce, once_of_sorted}
-use Rattle.room_rules.specs.Within.{IsInRangeIn}
+use Rattle.room_rules.specs.Within.{Stage, between, moved, within, IsInRangeIn}
 use Rattle.room_rules.specs.RoomRules.{Holds, KeepsRoomRules}
 use Rattle.room_rules.proofs.Keeps.{keeps_changed, keeps_new}
 
@@ -99,10 +99,10 @@ clash_before : (k : Kind) → clash Pile k ≡ true → is_pile k ≡ true
 clash_before Pile is = refl
 clash_before k is = absurd (cc)
 
-grown_range : (within : Bool) (p : Object) (amount : ℕ) → p.kind ≡ Pile → IsInRangeIn p.kind within p → IsInRangeIn p.kind within (record p { energy = min pile_bound (p.energy + amount) })
-grown_range within p amount is r =
-    let s : IsPile p = subst (λ (k : Kind). IsInRangeIn k within p) is r in
-    subst (λ (k : Kind). IsInRangeIn k within (record p { energy = min pile_bound (p.energy + amount) })) (sym is)
+grown_range : (stage : Stage) (p : Object) (amount : ℕ) → p.kind ≡ Pile → IsInRangeIn p.kind stage p → IsInRangeIn p.kind stage (record p { energy = min pile_bound (p.energy + amount) })
+grown_range stage p amount is r =
+    let s : IsPile p = subst (λ (k : Kind). IsInRangeIn k stage p) is r in
+    subst (λ (k : Kind). IsInRangeIn k stage (record p { energy = min pile_bound (p.energy + amount) })) (sym is)
     (record { owner = s.owner; hits = s.hits; energy = (omega (arith, s.energy), omega arith); timer = s.timer; extra = s.extra; progress = s.progress; other = s.other; other_ticks = s.other_ticks; body = s.body })
 
 new_range : (id x y amount : ℕ) → 1 ≤ amount → IsPile (pile_of id x y (min pile_bound amount))
@@ -110,9 +110,9 @@ new_range id x y amount some = record { owner = refl; hits = refl; energy = (ome
 
 -- ---- energy that falls
 
-module _ (players : ℕ → Bool) (within : Bool) where
+module _ (players : ℕ → Bool) (stage : Stage) where
   abbrev Kept : RoomPart → Type 0
-  Kept part = KeepsRoomRules players within part
+  Kept part = KeepsRoomRules players stage part
 
   -- the tile is in the room and no wall
   pub record IsOpen (grounds : List Ground) (x y : ℕ) : Type 0 where
@@ -129,11 +129,11 @@ module _ (players : ℕ → Bool) (within : Bool) where
       let at = pile_there x y part pile is in
       let kind = is_pile_kind pile.kind (pile_parts x y pile at.2).0 in
       let grown : Object = record pile { energy = min pile_bound (pile.energy + amount) } in
-      keeps_changed players within part k at.0 pile grown at.1
-      (record { id = refl; kind = refl; x = refl; y = refl; owner = refl; other = refl }) (grown_range within pile amount kind)
+      keeps_changed players stage part k at.0 pile grown at.1
+      (record { id = refl; kind = refl; x = refl; y = refl; owner = refl; other = refl }) (grown_range stage pile amount kind)
   on_keeps part k x y amount tile some None is =
       let new : Object = pile_of (next_id part) x y (min pile_bound amount) in
-      keeps_new players within part k (λ id. pile_of id x y (min pile_bound amount)) (record {
+      keeps_new players stage part k (λ id. pile_of id x y (min pile_bound amount)) (record {
         id = refl;
         inside = record { column = tile.column; row = tile.row };
         tile = open_tile part.grounds new refl tile.ground;
@@ -166,18 +166,19 @@ module _ (players : ℕ → Bool) (within : Bool) where
       record { column = inside.column; row = inside.row; ground = λ wall. k.tiles id c there (inl (ap is_source kind, ap is_controller kind, wall)) }
 
   -- the ranges of a creep with less of a load
-  pub less_range : (c : Object) (amount : ℕ) → is_creep c.kind ≡ true → IsInRangeIn c.kind within c → IsInRangeIn c.kind within (record c { energy = c.energy - amount })
+  pub less_range : (c : Object) (amount : ℕ) → is_creep c.kind ≡ true → IsInRangeIn c.kind stage c → IsInRangeIn c.kind stage (record c { energy = c.energy - amount })
   less_range c amount creep r =
       let is = is_creep_kind c.kind creep in
-      subst (λ (k : Kind). IsInRangeIn k within (record c { energy = c.energy - amount })) (sym is) (less_as within (subst (λ (k : Kind). IsInRangeIn k within c) is r))
+      subst (λ (k : Kind). IsInRangeIn k stage (record c { energy = c.energy - amount })) (sym is) (less_as stage (subst (λ (k : Kind). IsInRangeIn k stage c) is r))
     where
-      less_as : (w : Bool) → IsInRangeIn Creep w c → IsInRangeIn Creep w (record c { energy = c.energy - amount })
-      less_as true s = record { owner = s.owner; hits = s.hits; energy = omega (arith, s.energy); timer = s.timer; extra = s.extra; progress = s.progress; other = s.other; other_ticks = s.other_ticks; some_parts = s.some_parts; parts = s.parts }
-      less_as false s = record { owner = s.owner; hits = s.hits; energy = omega (arith, s.energy); timer = s.timer; extra = s.extra; progress = s.progress; other = s.other; other_ticks = s.other_ticks; some_parts = s.some_parts; parts = s.parts }
+      less_as : (w : Stage) → IsInRangeIn Creep w c → IsInRangeIn Creep w (record c { energy = c.energy - amount })
+      less_as within s = record { owner = s.owner; hits = s.hits; energy = omega (arith, s.energy); timer = s.timer; extra = s.extra; progress = s.progress; other = s.other; other_ticks = s.other_ticks; some_parts = s.some_parts; parts = s.parts }
+      less_as between s = record { owner = s.owner; hits = s.hits; energy = omega (arith, s.energy); timer = s.timer; extra = s.extra; progress = s.progress; other = s.other; other_ticks = s.other_ticks; some_parts = s.some_parts; parts = s.parts }
+      less_as moved s = let r = s.rested in record { other_ticks = s.other_ticks; rested = record { owner = r.owner; hits = r.hits; energy = omega (arith, r.energy); timer = r.timer; extra = r.extra; progress = r.progress; other = r.other; other_ticks = r.other_ticks; some_parts = r.some_parts; parts = r.parts } }
 
   lessened : (part : RoomPart) → Kept part → (id : ℕ) (c : Object) → Holds part id c → is_creep c.kind ≡ true → (amount : ℕ) → Kept (with_object (record c { energy = c.energy - amount }) part)
   lessened part k id c there creep amount =
-      keeps_changed players within part k id c (record c { energy = c.energy - amount }) there
+      keeps_changed players stage part k id c (record c { energy = c.energy - amount }) there
       (record { id = refl; kind = refl; x = refl; y = refl; owner = refl; other = refl }) (less_range c amount creep)
 
   -- a tile stays open where an object was put in the place of its own

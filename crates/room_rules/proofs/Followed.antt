@@ -1,30 +1,29 @@
 -- Where each room follows and keeps its rules, a sound world is followed by a sound one.
-use Rattle.std.proofs.Common.{◌≡◌, ◌≢◌, ℕ, suc, ◌+◌, ◌*◌, ◌/◌, ◌%◌, ◌^◌, ◌<◌, ◌≤◌, ◌==◌, ◌⊎◌, Bool, true, false, cond, List, [], ◌∷◌, Option, Some, None, option_map, option_and_then, is_some, slice_get, refl, sym, ap, subst, ◌∙◌, inl, inr, arith}
+use Rattle.std.proofs.Common.{◌≡◌, ◌≢◌, ℕ, suc, ◌+◌, ◌*◌, ◌/◌, ◌%◌, ◌^◌, ◌<◌, ◌≤◌, ◌==◌, ◌⊎◌, Bool, true, false, cond, List, [], ◌∷◌, Option, Some, None, option_map, option_and_then, slice_get, refl, sym, ap, subst, ◌∙◌, inl, inr, arith}
 use Rattle.std.specs.List.{AllByRecursion, sum_by}
 use Rattle.std.specs.Ordering.{nat_cmp}
 use Rattle.std.specs.Cmp.{nat_cmp_total, unsigned_tied}
 use Rattle.std.specs.FinMap.{find, get, get-from_entries}
-use Rattle.std.proofs.lemmas.Bool.{both_ways, eq-eqb, eqb-true, eqb-false}
+use Rattle.std.proofs.lemmas.Bool.{eqb-true, eqb-false}
 use Rattle.std.proofs.lemmas.List.Sums.{sum_by-cons}
-use Rattle.object_store.specs.declared.account.Account.{Account}
 use Rattle.object_store.specs.declared.object.Object.{Object}
 use Rattle.object_store.specs.declared.world.Room.{Room}
-use Rattle.object_store.specs.Tables.{IsRising, IsOnTile}
+use Rattle.object_store.specs.Tables.{IsRising}
 use Rattle.object_store.specs.Stored.{Stored}
-use Rattle.world_rules.specs.declared.rule.Rule.{Rule}
 use Rattle.world_rules.specs.declared.rule.Rule.TheVariants as rules
 use Rattle.world_rules.specs.World.{Placed, Frame, listed_room, listing_of, placed, world_of}
 use Rattle.world_rules.specs.RuleBook.{IsNew}
 use Rattle.world_rules.specs.RuleBook.{Stands as StandsIn}
-use Rattle.game_tables.specs.Kinds.{is_controller, may_have_owner}
-use Rattle.world_rules.specs.Rules.{Broken, Stands, IsRoom, IsPlayer, HasNoBirth, HasOpenCorner, HasWrongOwner, IsOnWrongTile}
-use Rattle.world_rules.specs.Sound.{IsSound, IsSoundRoom}
+use Rattle.world_rules.specs.Rules.{Stands, IsRoom, HasNoBirth}
+use Rattle.world_rules.specs.Sound.{IsSound}
 use Rattle.world_rules.proofs.Keys.{keyed}
-use Rattle.world_rules.proofs.Lifting.{AreIdsOnce, times_in, times_room, times_rooms, found_in_table, stands_placed, stands_in_room, frame_stored}
+use Rattle.world_rules.proofs.Lifting.{AreIdsOnce, times_in, times_room, times_rooms, found_in_table, stands_placed, frame_stored}
 use Rattle.world_rules.proofs.Same.{once}
-use Rattle.room_rules.specs.RoomRules.{Holds, HasRightOwner, KeepsRoomRules, is_player}
+use Rattle.room_rules.specs.Within.{between}
+use Rattle.room_rules.specs.RoomRules.{Holds, is_player}
 use Rattle.room_rules.specs.Followed.{part_stored, FollowsRoom, FollowsAt, FollowRooms, KeepsPlayers}
-use Rattle.room_rules.proofs.Sound.{found_id, found_all, get_part, in_ranges, sound_keeps}
+use Rattle.room_rules.proofs.Sound.{get_part, sound_keeps}
+use Rattle.room_rules.proofs.Rooms.{frame_at, same_frame, in_room, kept_sound}
 
 -- ---- how often an id stands in a table
 
@@ -113,63 +112,35 @@ sum_one f (room ∷ rooms) few one =
     first : (k : ℕ) → 0 ≡ suc k → ⊥
     first k is = omega arith
 
-all_at : (P : Room → Type 0) (rooms : List Room) → ((k : ℕ) (room : Room) → slice_get rooms k ≡ Some room → P room) → AllByRecursion P rooms
-all_at P [] each = tt
-all_at P (room ∷ rooms) each = (each 0 room refl, all_at P rooms (λ k r is. each (suc k) r is))
-
--- what holds of each object that is found in a table holds of all, where they rise
-all_found : (P : Object → Type 0) (objects : List Object) → IsRising objects → ((id : ℕ) (o : Object) → find nat_cmp id (keyed (λ object. object.id) objects) ≡ Some o → P o) → AllByRecursion P objects
-all_found P [] rise each = tt
-all_found P (first ∷ objects) rise each = (
-  each first.id first (ap (λ (b : Bool). cond b (Some first) (find nat_cmp first.id (keyed (λ object. object.id) objects))) (unsigned_tied first.id first.id ∙ eq-eqb first.id first.id refl)),
-  all_found P objects rise.1 (λ id o found. each id o (
-      let less : first.id < o.id = found_all (λ later. first.id < later.id) objects id o rise.0 found in
-      let own : o.id ≡ id = found_id objects id o found in
-      ap (λ (b : Bool). cond b (Some first) (find nat_cmp id (keyed (λ object. object.id) objects))) (unsigned_tied id first.id ∙ not_same id first.id (λ same. greater first.id o.id less (own ∙ same))) ∙ found
-      )),
-)
-  where
-    greater : (m n : ℕ) → m < n → n ≡ m → ⊥
-    greater m n less same = omega arith
-
 -- ---- two worlds
 
-module _ (w after : Stored) (s : IsSound w) (follow : FollowRooms (is_player (world_of w)) w after) where
+module _ (w after : Stored) (s : IsSound w) (follow : FollowRooms (is_player (world_of w)) between w after) where
   abbrev players : ℕ → Bool
   players = is_player (world_of w)
 
   abbrev Came : ℕ → Room → Type 0
-  Came k mate = (room : Room) × (slice_get w.rooms k ≡ Some room) × FollowsRoom players room mate
+  Came k mate = (room : Room) × (slice_get w.rooms k ≡ Some room) × FollowsRoom players between room mate
 
-  came_as : (k : ℕ) (mate : Room) (found there : Option Room) → slice_get w.rooms k ≡ found → there ≡ Some mate → FollowsAt players found there → Came k mate
+  came_as : (k : ℕ) (mate : Room) (found there : Option Room) → slice_get w.rooms k ≡ found → there ≡ Some mate → FollowsAt players between found there → Came k mate
   came_as k mate None None is at f = absurd (cc)
   came_as k mate None (Some other) is at f = absurd f
   came_as k mate (Some room) None is at f = absurd f
-  came_as k mate (Some room) (Some other) is at f = (room, is, (let same : other ≡ mate = cc in subst (FollowsRoom players room) same f))
+  came_as k mate (Some room) (Some other) is at f = (room, is, (let same : other ≡ mate = cc in subst (FollowsRoom players between room) same f))
 
   came : (k : ℕ) (mate : Room) → slice_get after.rooms k ≡ Some mate → Came k mate
   came k mate at = came_as k mate (slice_get w.rooms k) (slice_get after.rooms k) refl at (follow k)
 
   abbrev Goes : ℕ → Room → Type 0
-  Goes k room = (mate : Room) × (slice_get after.rooms k ≡ Some mate) × FollowsRoom players room mate
+  Goes k room = (mate : Room) × (slice_get after.rooms k ≡ Some mate) × FollowsRoom players between room mate
 
-  goes_as : (k : ℕ) (room : Room) (found there : Option Room) → slice_get after.rooms k ≡ there → found ≡ Some room → FollowsAt players found there → Goes k room
+  goes_as : (k : ℕ) (room : Room) (found there : Option Room) → slice_get after.rooms k ≡ there → found ≡ Some room → FollowsAt players between found there → Goes k room
   goes_as k room None None is at f = absurd (cc)
   goes_as k room None (Some other) is at f = absurd f
   goes_as k room (Some first) None is at f = absurd f
-  goes_as k room (Some first) (Some mate) is at f = (mate, is, (let same : first ≡ room = cc in subst (λ (r : Room). FollowsRoom players r mate) same f))
+  goes_as k room (Some first) (Some mate) is at f = (mate, is, (let same : first ≡ room = cc in subst (λ (r : Room). FollowsRoom players between r mate) same f))
 
   goes : (k : ℕ) (room : Room) → slice_get w.rooms k ≡ Some room → Goes k room
   goes k room at = goes_as k room (slice_get w.rooms k) (slice_get after.rooms k) refl at (follow k)
-
-  frame_was : (k : ℕ) (room : Room) → slice_get w.rooms k ≡ Some room → IsRoom (world_of w) k (listed_room room).frame
-  frame_was k room at = frame_stored w k ∙ ap (option_map (λ (r : Room). (listed_room r).frame)) at
-
-  frame_is : (k : ℕ) (room : Room) → slice_get after.rooms k ≡ Some room → IsRoom (world_of after) k (listed_room room).frame
-  frame_is k room at = frame_stored after k ∙ ap (option_map (λ (r : Room). (listed_room r).frame)) at
-
-  same_frame : (one other : Frame) (found : Option Frame) → found ≡ Some one → found ≡ Some other → one ≡ other
-  same_frame one other found is at = cc
 
   -- ---- ids
 
@@ -188,7 +159,7 @@ module _ (w after : Stored) (s : IsSound w) (follow : FollowRooms (is_player (wo
         let least : room.table.next ≤ new.0 = new.2 in
         let serial : id % 2 ^ 32 ≡ new.0 = omega (arith, new.1, new.4) in
         let here : id / 2 ^ 32 ≡ k = omega (arith, new.1, new.4, place) in
-        let same = same_frame frame (listed_room room).frame (get (world_of w).rooms k) (subst (λ (n : ℕ). IsRoom (world_of w) n frame) here is) (frame_was k room at) in
+        let same = same_frame frame (listed_room room).frame (get (world_of w).rooms k) (subst (λ (n : ℕ). IsRoom (world_of w) n frame) here is) (frame_at w k room at) in
         let next : frame.next ≡ room.table.next = ap (λ (f : Frame). f.next) same in
         omega arith)),
   )
@@ -231,41 +202,11 @@ module _ (w after : Stored) (s : IsSound w) (follow : FollowRooms (is_player (wo
       let sum = sum_one (times_room id) after.rooms (λ k r at. once_in id r.table.objects (came k r at).2.rising) (λ j k r t at there a b. same_place id j k r t at there a b) in
       omega (arith, sum, times_rooms id 0 after.rooms)
 
-  -- ---- what stands
-
-  abbrev In : ℕ → Placed → Type 0
-  In id p = (mate : Room) × (slice_get after.rooms p.room ≡ Some mate) × Holds (part_stored mate) id p.object
-
-  in_as : (id : ℕ) (p : Placed) (found : Option Room) → slice_get after.rooms p.room ≡ found → option_and_then (found_in_table id) found ≡ Some p.object → In id p
-  in_as id p None is at = absurd (cc)
-  in_as id p (Some mate) is at = (mate, is, get_part mate id ∙ at)
-
-  in_room : (id : ℕ) (p : Placed) → Stands (world_of after) id p → In id p
-  in_room id p there =
-      in_as id p (slice_get after.rooms p.room) refl (stands_in_room after.rooms id p once_after (sym (get-from_entries nat_cmp_total (placed (listing_of after)) id) ∙ there))
-
-  keeps : (k : ℕ) (mate : Room) → slice_get after.rooms k ≡ Some mate → KeepsRoomRules players false (part_stored mate)
-  keeps k mate at = (came k mate at).2.keeps
-
-  same_mate : (one other : Room) (found : Option Room) → found ≡ Some one → found ≡ Some other → one ≡ other
-  same_mate one other found is at = cc
-
-  -- two objects of one room
-  abbrev Both : ℕ → ℕ → Placed → Placed → Type 0
-  Both one other p q = (mate : Room) × (KeepsRoomRules players false (part_stored mate)) × Holds (part_stored mate) one p.object × Holds (part_stored mate) other q.object
-
-  both_in : (one other : ℕ) (p q : Placed) → p.room ≡ q.room → Stands (world_of after) one p → Stands (world_of after) other q → Both one other p q
-  both_in one other p q same here there =
-      let a = in_room one p here in
-      let b = in_room other q there in
-      let mate : b.0 ≡ a.0 = same_mate b.0 a.0 (slice_get after.rooms q.room) b.1 (ap (slice_get after.rooms) (sym same) ∙ a.1) in
-      (a.0, keeps p.room a.0 a.1, a.2, subst (λ (r : Room). Holds (part_stored r) other q.object) mate b.2)
-
   -- ---- the rules
 
   no_birth : (id : ℕ) (p : Placed) → Stands (world_of after) id p → HasNoBirth (world_of after) id → ⊥
   no_birth id p there none =
-      let here = in_room id p there in
+      let here = in_room after once_after id p there in
       let was = came p.room here.0 here.1 in
       let own : StandsIn (part_stored was.0) id ⊎ IsNew (part_stored was.0) here.0.table.next id = was.2.follows.own id (p.object, here.2) in
       elim own [
@@ -284,8 +225,8 @@ module _ (w after : Stored) (s : IsSound w) (follow : FollowRooms (is_player (wo
           later birth frame (Some room) is there all =
               let mate = goes birth room is in
               let rises : room.table.next ≤ mate.0.table.next = mate.2.follows.serial in
-              let most : mate.0.table.next ≤ id % 2 ^ 32 = all (listed_room mate.0).frame (frame_is birth mate.0 mate.1) in
-              let same : frame.next ≡ room.table.next = ap (λ (f : Frame). f.next) (same_frame frame (listed_room room).frame (get (world_of w).rooms birth) there (frame_was birth room is)) in
+              let most : mate.0.table.next ≤ id % 2 ^ 32 = all (listed_room mate.0).frame (frame_at after birth mate.0 mate.1) in
+              let same : frame.next ≡ room.table.next = ap (λ (f : Frame). f.next) (same_frame frame (listed_room room).frame (get (world_of w).rooms birth) there (frame_at w birth room is)) in
               omega arith
 
           unborn : HasNoBirth (world_of after) id → HasNoBirth (world_of w) id
@@ -296,7 +237,7 @@ module _ (w after : Stored) (s : IsSound w) (follow : FollowRooms (is_player (wo
       new room mate place now at begun is (inl all) =
           let serial : id % 2 ^ 32 ≡ is.0 = omega (arith, is.1, is.4) in
           let here : id / 2 ^ 32 ≡ p.room = omega (arith, is.1, is.4, place) in
-          let most : mate.table.next ≤ id % 2 ^ 32 = all (listed_room mate).frame (subst (λ (n : ℕ). IsRoom (world_of after) n (listed_room mate).frame) (sym here) (frame_is p.room mate at)) in
+          let most : mate.table.next ≤ id % 2 ^ 32 = all (listed_room mate).frame (subst (λ (n : ℕ). IsRoom (world_of after) n (listed_room mate).frame) (sym here) (frame_at after p.room mate at)) in
           let less : is.0 < mate.table.next = is.3 in
           omega arith
       new room mate place now at begun is (inr zeroth) =
@@ -304,74 +245,12 @@ module _ (w after : Stored) (s : IsSound w) (follow : FollowRooms (is_player (wo
           let least : room.table.next ≤ is.0 = is.2 in
           omega arith
 
-  apart : (one other : ℕ) → one < other → one ≢ other
-  apart one other less same = omega arith
-
-  -- a room of the second world was one of the first, of the same name and terrain
-  room_at : (k : ℕ) (frame : Frame) → IsRoom (world_of after) k frame
-      → (room : Room) × IsRoom (world_of w) k (listed_room room).frame × ((room.name ≡ frame.name) × (room.terrain ≡ frame.grounds))
-  room_at k frame there = room_as (slice_get after.rooms k) refl
-    where
-      room_as : (found : Option Room) → slice_get after.rooms k ≡ found → (room : Room) × IsRoom (world_of w) k (listed_room room).frame × ((room.name ≡ frame.name) × (room.terrain ≡ frame.grounds))
-      room_as None is = absurd (no_frame (get (world_of after).rooms k) (frame_stored after k ∙ ap (option_map (λ (r : Room). (listed_room r).frame)) is) there)
-        where
-          no_frame : (found : Option Frame) → found ≡ None → found ≡ Some frame → ⊥
-          no_frame found none some = cc
-      room_as (Some mate) is =
-          let was = came k mate is in
-          let same = same_frame (listed_room mate).frame frame (get (world_of after).rooms k) (frame_is k mate is) there in
-          (was.0, frame_was k was.0 was.1, (sym was.2.name ∙ ap (λ (f : Frame). f.name) same, sym was.2.terrain ∙ ap (λ (f : Frame). f.grounds) same))
-
-  rules_kept : KeepsPlayers w after → (rule : Rule) (n : ℕ) → rule ≢ rules.Counts → rule ≢ rules.Sites → Broken rule n (listing_of after) → ⊥
-  rules_kept accounts rules.Counts n a b h = a refl
-  rules_kept accounts rules.Sites n a b h = b refl
-  rules_kept accounts rules.RoomTwice n a b h =
-      let one = room_at h.0 h.1 h.4 in
-      let other = room_at n h.2 h.5 in
-      s.rules rules.RoomTwice n a b (h.0, (listed_room one.0).frame, (listed_room other.0).frame, h.3, one.1, other.1, one.2.0 ∙ h.6 ∙ sym other.2.0)
-  rules_kept accounts rules.Corner n a b h =
-      let one = room_at n h.0 h.1 in
-      s.rules rules.Corner n a b ((listed_room one.0).frame, one.1, subst HasOpenCorner (sym one.2.1) h.2)
-  rules_kept accounts rules.Serial n a b h = no_birth n h.0 h.1 h.2
-  rules_kept accounts rules.IdTwice n a b h = (let once = once_after n in omega (arith, once, h))
-  rules_kept accounts rules.Tile n a b h =
-      let here = in_room n h.0 h.2 in
-      let frame = same_frame h.1 (listed_room here.0).frame (get (world_of after).rooms h.0.room) h.3 (frame_is h.0.room here.0 here.1) in
-      (keeps h.0.room here.0 here.1).tiles n h.0.object here.2 (subst (λ (f : Frame). IsOnWrongTile f.grounds h.0.object) frame h.4)
-  rules_kept accounts rules.Shared n a b h =
-      let both = both_in h.0 n h.1 h.2 h.6.room h.4 h.5 in
-      both.1.shared h.0 n h.1.object h.2.object (apart h.0 n h.3) both.2 both.3 h.6.column h.6.row h.6.clash
-  rules_kept accounts rules.Owner n a b h =
-      let here = in_room n h.0 h.1 in
-      let right = (keeps h.0.room here.0 here.1).owners n h.0.object here.2 in
-      wrong_owner h.0.object right h.2
-    where
-      listed : (player : ℕ) → players player ≡ true → (IsPlayer (world_of after) player → ⊥) → ⊥
-      listed player is none = has (get (world_of after).accounts player) (accounts.players player is) none
-        where
-          has : (found : Option Account) → is_some found ≡ true → (((account : Account) × (found ≡ Some account)) → ⊥) → ⊥
-          has None is none = cc
-          has (Some account) is none = none (account, refl)
-
-      wrong_owner : (o : Object) → HasRightOwner players o → HasWrongOwner (world_of after) o → ⊥
-      wrong_owner o right (inl (some, inl none)) = listed o.owner (right.owner some).0 none
-      wrong_owner o right (inl (some, inr kind)) = both_ways (may_have_owner o.kind) kind (right.owner some).1
-      wrong_owner o right (inr (some, inl none)) = listed o.other (right.other some).0 none
-      wrong_owner o right (inr (some, inr kind)) = both_ways (is_controller o.kind) kind (right.other some).1
-  rules_kept accounts rules.Controllers n a b h =
-      let both = both_in h.0 h.1 h.2 h.3 (h.7 ∙ sym h.8) h.5 h.6 in
-      both.1.controllers h.0 h.1 h.2.object h.3.object (apart h.0 h.1 h.4) both.2 both.3 h.9 h.10
-  rules_kept accounts rules.Range n a b h =
-      let here = in_room n h.0 h.1 in
-      (keeps h.0.room here.0 here.1).ranges n h.0.object here.2 (λ r. h.2 (in_ranges h.0.object.kind h.0.object r))
-  rules_kept accounts rules.PlayerTwice n a b h = s.rules rules.PlayerTwice n a b (let few = accounts.fewer n in omega (arith, few, h))
-
   -- The second world is sound too.
   pub followed_sound : KeepsPlayers w after → IsSound after
-  followed_sound accounts = record {
-    places = λ k mate at. (let was = came k mate at in was.2.index ∙ s.places k was.0 was.1);
-    tables = all_at (λ room. IsRising room.table.objects) after.rooms (λ k mate at. (came k mate at).2.rising);
-    rooms = all_at IsSoundRoom after.rooms (λ k mate at. (let was = (came k mate at).2 in record { begun = was.keeps.begun; tiles = all_found IsOnTile mate.table.objects was.rising (λ id o found. was.keeps.inside id o (get_part mate id ∙ found)) }));
-    accounts = accounts.rising;
-    rules = rules_kept accounts;
-  }
+  followed_sound accounts = kept_sound w after s (record {
+    frames = λ k mate at. (let was = came k mate at in (was.0, was.1, was.2.name, was.2.terrain, was.2.index));
+    rising = λ k mate at. (came k mate at).2.rising;
+    keeps = λ k mate at. (came k mate at).2.keeps;
+    once = once_after;
+    born = no_birth;
+  }) accounts

@@ -1,7 +1,9 @@
 pub mod Keeps
 pub mod Falls
 pub mod Steps
+pub mod Moved
 pub mod Sound
+pub mod Rooms
 pub mod Followed
 pub mod Changed
 pub mod Amounts
@@ -11,3 +13,5 @@ pub mod Sites
 pub mod Built
 pub mod Rules
 pub mod Calls
+pub mod Ready
+pub mod Crossed

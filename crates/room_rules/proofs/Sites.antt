@@ -17,7 +17,7 @@ use Rattle.world_rules.specs.RoomParts.{RoomPart, controller_of}
 use Rattle.world_rules.specs.Checks.{would_obstruct}
 use Rattle.world_rules.specs.Rules.{IsFrom1To, IsOnWrongTile, IsProgress}
 use Rattle.world_rules.specs.Work.{building_on, total_of}
-use Rattle.room_rules.specs.Within.{IsInRangeIn}
+use Rattle.room_rules.specs.Within.{Stage, IsInRangeIn}
 use Rattle.room_rules.specs.RoomRules.{HasRightOwner}
 
 -- ---- which kind it is of
@@ -52,14 +52,14 @@ below_total : (total : Option ℕ) (progress : ℕ) → nat_lt progress (unwrap_
 below_total None progress is = let less : progress < 0 = ltb-true progress 0 is in absurd (omega (arith, less))
 below_total (Some total) progress is = ltb-true progress total is
 
-module _ (within : Bool) (site : Object) where
-  pub site_owner : (k : Kind) → is_target Build k ≡ true → IsInRangeIn k within site → 1 ≤ site.owner
+module _ (stage : Stage) (site : Object) where
+  pub site_owner : (k : Kind) → is_target Build k ≡ true → IsInRangeIn k stage site → 1 ≤ site.owner
   site_owner Site is s = s.owner
   site_owner k is s = absurd (cc)
 
   -- A site that has come further, and not to its end, is in its ranges.
   pub site_further : (kind : Kind) (progress : ℕ) → is_building kind ≡ true → site.extra ≡ kind_number kind → nat_lt progress (total_of kind) ≡ true → (k : Kind) → is_target Build k ≡ true
-      → IsInRangeIn k within site → IsInRangeIn k within (record site { progress = progress })
+      → IsInRangeIn k stage site → IsInRangeIn k stage (record site { progress = progress })
   site_further kind progress building number below Site is s = record { owner = s.owner; hits = s.hits; energy = s.energy; timer = s.timer; built = (kind, building, number, below_total _ progress below); other = s.other; other_ticks = s.other_ticks; body = s.body }
   site_further kind progress building number below k is s = absurd (cc)
 
@@ -70,13 +70,13 @@ container_timer true = (omega arith, omega arith)
 container_timer false = (omega arith, omega arith)
 
 module _ (part : RoomPart) (site : Object) (id : ℕ) where
-  pub building_range : (kind : Kind) (within : Bool) → is_building kind ≡ true → 1 ≤ site.owner → IsInRangeIn kind within (building_on kind part site id)
-  building_range Spawn within is owner = record { owner = owner; hits = (omega arith, omega arith); energy = omega arith; timer = omega arith; idle = λ e. refl; busy = λ e. absurd (e refl); extra = refl; progress = refl; other = refl; other_ticks = refl; parts = omega arith }
-  building_range Extension within is owner = record { owner = owner; hits = (omega arith, omega arith); energy = omega arith; timer = refl; extra = refl; progress = refl; other = refl; other_ticks = refl; body = refl }
-  building_range Storage within is owner = record { owner = owner; hits = (omega arith, omega arith); energy = omega arith; timer = refl; extra = refl; progress = refl; other = refl; other_ticks = refl; body = refl }
-  building_range Container within is owner = record { owner = refl; hits = (omega arith, omega arith); energy = omega arith; timer = container_timer (is_owned_room (controller_of part)); extra = refl; progress = refl; other = refl; other_ticks = refl; body = refl }
-  building_range Road within is owner = record { owner = refl; hits = (omega arith, omega arith); energy = omega arith; timer = (omega arith, omega arith); extra = refl; progress = refl; other = refl; other_ticks = refl; body = refl }
-  building_range k within is owner = absurd (cc)
+  pub building_range : (kind : Kind) (stage : Stage) → is_building kind ≡ true → 1 ≤ site.owner → IsInRangeIn kind stage (building_on kind part site id)
+  building_range Spawn stage is owner = record { owner = owner; hits = (omega arith, omega arith); energy = omega arith; timer = omega arith; idle = λ e. refl; busy = λ e. absurd (e refl); extra = refl; progress = refl; other = refl; other_ticks = refl; parts = omega arith }
+  building_range Extension stage is owner = record { owner = owner; hits = (omega arith, omega arith); energy = omega arith; timer = refl; extra = refl; progress = refl; other = refl; other_ticks = refl; body = refl }
+  building_range Storage stage is owner = record { owner = owner; hits = (omega arith, omega arith); energy = omega arith; timer = refl; extra = refl; progress = refl; other = refl; other_ticks = refl; body = refl }
+  building_range Container stage is owner = record { owner = refl; hits = (omega arith, omega arith); energy = omega arith; timer = container_timer (is_owned_room (controller_of part)); extra = refl; progress = refl; other = refl; other_ticks = refl; body = refl }
+  building_range Road stage is owner = record { owner = refl; hits = (omega arith, omega arith); energy = omega arith; timer = (omega arith, omega arith); extra = refl; progress = refl; other = refl; other_ticks = refl; body = refl }
+  building_range k stage is owner = absurd (cc)
 
   pub building_owner : (players : ℕ → Bool) (kind : Kind) → is_building kind ≡ true → players site.owner ≡ true → HasRightOwner players (building_on kind part site id)
   building_owner players Spawn is listed = record { owner = λ some. (listed, refl); other = λ some. absurd (some refl) }

@@ -14,13 +14,13 @@ use Rattle.object_store.specs.Tables.{IsOnTile}
 use Rattle.object_store.specs.Stored.{Stored}
 use Rattle.world_rules.specs.declared.rule.Rule.TheVariants as rules
 use Rattle.game_tables.specs.Kinds.{clash, is_creep, is_pile, stands_fixed, is_controller, may_have_owner, obstructs}
-use Rattle.world_rules.specs.World.{Frame, listed_room, listing_of, placed, world_of}
+use Rattle.world_rules.specs.World.{Placed, Frame, listed_room, listing_of, placed, world_of}
 use Rattle.world_rules.specs.Rules.{Stands, IsRoom, IsPlayer, HasNoBirth, HasWrongOwner, IsInRangeAs}
 use Rattle.world_rules.specs.Sound.{IsSound, IsSoundRoom}
 use Rattle.world_rules.proofs.Keys.{keyed}
 use Rattle.world_rules.proofs.Lifting.{found_in_table, stands_placed, frame_stored}
 use Rattle.world_rules.proofs.Same.{once}
-use Rattle.room_rules.specs.Within.{IsInRangeIn}
+use Rattle.room_rules.specs.Within.{between, IsInRangeIn}
 use Rattle.room_rules.specs.RoomRules.{Holds, HasRightOwner, KeepsRoomRules, is_player}
 use Rattle.room_rules.specs.Followed.{part_stored}
 
@@ -66,12 +66,12 @@ clash_turned one other =
     (λ i. and_comm (is_creep one) (is_creep other) i || and_comm (is_pile one) (is_pile other) i || and_comm (stands_fixed one) (stands_fixed other) i || and_comm (is_creep one) (obstructs other) i || and_comm (obstructs one) (is_creep other) i)
     ∙ last_turned (is_creep other && is_creep one) (is_pile other && is_pile one) (stands_fixed other && stands_fixed one) (obstructs other && is_creep one) (is_creep other && obstructs one)
 
-between_ticks : (k : Kind) (object : Object) → IsInRangeAs k object → IsInRangeIn k false object
+between_ticks : (k : Kind) (object : Object) → IsInRangeAs k object → IsInRangeIn k between object
 between_ticks Creep object r = r
 between_ticks Controller object r = r
 between_ticks k object r = r
 
-pub in_ranges : (k : Kind) (object : Object) → IsInRangeIn k false object → IsInRangeAs k object
+pub in_ranges : (k : Kind) (object : Object) → IsInRangeIn k between object → IsInRangeAs k object
 in_ranges Creep object r = r
 in_ranges Controller object r = r
 in_ranges k object r = r
@@ -93,7 +93,8 @@ module _ (w : Stored) (s : IsSound w) (k : ℕ) (room : Room) (at : slice_get w.
   place : room.table.index ≡ k
   place = s.places k room at
 
-  stands : (id : ℕ) (o : Object) → Holds (part_stored room) id o → Stands (world_of w) id (record { room = k; object = o })
+  -- what stands in the room stands in the world
+  pub stands : (id : ℕ) (o : Object) → Holds (part_stored room) id o → Stands (world_of w) id (record { room = k; object = o })
   stands id o h =
       get-from_entries nat_cmp_total (placed (listing_of w)) id
       ∙ stands_placed w.rooms k id o (once w s) (ap (option_and_then (found_in_table id)) at ∙ sym (get_part room id) ∙ h)
@@ -110,8 +111,9 @@ module _ (w : Stored) (s : IsSound w) (k : ℕ) (room : Room) (at : slice_get w.
       one : (found : Option Frame) → found ≡ Some frame → found ≡ Some (listed_room room).frame → frame ≡ (listed_room room).frame
       one found is that = cc
 
-  born_here : (id : ℕ) (o : Object) → Holds (part_stored room) id o → id / 2 ^ 32 ≡ room.table.index → (1 ≤ id % 2 ^ 32) × (id % 2 ^ 32 < room.table.next)
-  born_here id o h birth =
+  -- an id of this room, wherever its object stands, has a serial that was given
+  pub born_of : (id : ℕ) (p : Placed) → Stands (world_of w) id p → id / 2 ^ 32 ≡ room.table.index → (1 ≤ id % 2 ^ 32) × (id % 2 ^ 32 < room.table.next)
+  born_of id p there birth =
       elim (id % 2 ^ 32 == 0) as (λ b. (id % 2 ^ 32 == 0) ≡ b → (1 ≤ id % 2 ^ 32) × (id % 2 ^ 32 < room.table.next)) [
         | true ↦ λ is. absurd (broken (inr (eqb-true (id % 2 ^ 32) 0 is)))
         | false ↦ λ is. elim (nat_lt (id % 2 ^ 32) room.table.next) as (λ b. nat_lt (id % 2 ^ 32) room.table.next ≡ b → (1 ≤ id % 2 ^ 32) × (id % 2 ^ 32 < room.table.next)) [
@@ -123,7 +125,7 @@ module _ (w : Stored) (s : IsSound w) (k : ℕ) (room : Room) (at : slice_get w.
       ] refl
     where
       broken : HasNoBirth (world_of w) id → ⊥
-      broken none = s.rules rules.Serial id (λ e. cc) (λ e. cc) (record { room = k; object = o }, stands id o h, none)
+      broken none = s.rules rules.Serial id (λ e. cc) (λ e. cc) (p, there, none)
 
       some : (n : ℕ) → (n == 0) ≡ false → 1 ≤ n
       some n is = grind arith
@@ -179,11 +181,11 @@ module _ (w : Stored) (s : IsSound w) (k : ℕ) (room : Room) (at : slice_get w.
       )
 
   -- a room of a sound world keeps its rules
-  pub sound_keeps : KeepsRoomRules (is_player (world_of w)) false (part_stored room)
+  pub sound_keeps : KeepsRoomRules (is_player (world_of w)) between (part_stored room)
   sound_keeps = record {
     begun = sound_room.begun;
     ids = λ id o h. found_id room.table.objects id o (sym (get_part room id) ∙ h);
-    born = born_here;
+    born = λ id o h. born_of id (record { room = k; object = o }) (stands id o h);
     inside = λ id o h. found_all IsOnTile room.table.objects id o sound_room.tiles (sym (get_part room id) ∙ h);
     tiles = λ id o h wrong. s.rules rules.Tile id (λ e. cc) (λ e. cc) (record { room = k; object = o }, (listed_room room).frame, stands id o h, framed, wrong);
     shared = λ one other first second apart h g x y c. in_some_order one other apart

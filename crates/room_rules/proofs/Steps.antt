@@ -1,20 +1,28 @@
 -- The steps of upkeep keep the rules of a room.
-use Rattle.std.proofs.Common.{◌≡◌, ℕ, ◌-◌, ◌≤◌, ◌==◌, max, nat_lt, if◌then◌else◌, Bool, true, false, Some, None, refl, sym, subst, arith}
+use Rattle.std.proofs.Common.{◌≡◌, inl, ℕ, ◌-◌, ◌*◌, ◌≤◌, ◌==◌, max, nat_lt, if◌then◌else◌, Bool, true, false, Some, None, refl, sym, subst, arith}
+use Rattle.std.proofs.lemmas.Bool.{ltb-true}
 use Rattle.game_tables.specs.declared.kind.Kind.{Kind}
-use Rattle.game_tables.specs.declared.kind.Kind.TheVariants.{Source, Pile}
-use Rattle.game_tables.specs.Kinds.{source_capacity, renewal_ticks, pile_decay}
+use Rattle.game_tables.specs.declared.kind.Kind.TheVariants.{Source, Creep, Controller, Container, Road, Pile}
+use Rattle.game_tables.specs.Kinds.{full_timer, is_creep, is_controller, is_source, source_capacity, renewal_ticks, pile_decay}
 use Rattle.object_store.specs.declared.object.Object.{Object}
 use Rattle.world_rules.specs.RoomParts.{RoomPart, controller_of}
-use Rattle.object_store.specs.Controllers.{is_taken}
-use Rattle.world_rules.specs.Upkeep.{source_renewed, renewed_as, renewed, decayed_as, decayed}
-use Rattle.world_rules.specs.Rules.{IsSource, IsPile}
-use Rattle.room_rules.specs.Within.{IsInRangeIn}
-use Rattle.room_rules.specs.RoomRules.{KeepsRoomRules}
-use Rattle.room_rules.proofs.Keeps.{IsSame, IsSame-refl, keeps_each}
+use Rattle.object_store.specs.Controllers.{is_owned_room, is_taken}
+use Rattle.world_rules.specs.Upkeep.{recovered_as, recovered, decays, decay_hits, weathered, standing_or_gone, weathered_as, buildings_decayed, source_renewed, renewed_as, renewed, decayed_as, decayed}
+use Rattle.game_tables.specs.Bodies.{live_count}
+use Rattle.game_tables.specs.declared.kind.Part.TheVariants.{Move}
+use Rattle.world_rules.specs.Changes.{with_object, without}
+use Rattle.world_rules.specs.Steps.{each}
+use Rattle.world_rules.specs.Drops.{fallen}
+use Rattle.world_rules.specs.Crossings.{still}
+use Rattle.world_rules.specs.Rules.{IsFrom1To, IsWall, IsSource, IsPile}
+use Rattle.room_rules.specs.Within.{Stage, between, moved, within, IsInRangeIn}
+use Rattle.room_rules.specs.RoomRules.{Holds, KeepsRoomRules}
+use Rattle.room_rules.proofs.Keeps.{IsSame, IsSame-refl, keeps_changed, keeps_each, keeps_over, keeps_turned, keeps_without}
+use Rattle.room_rules.proofs.Falls.{IsOpen, keeps_fallen}
 
 -- an object after a step, in the ranges of its kind if it was in them
-as_itself : (within : Bool) (o after : Object) → IsSame o after → (IsInRangeIn o.kind within o → IsInRangeIn o.kind within after) → IsSame o after × (IsInRangeIn o.kind within o → IsInRangeIn after.kind within after)
-as_itself within o after same keeps = (same, λ r. subst (λ (k : Kind). IsInRangeIn k within after) (sym same.kind) (keeps r))
+as_itself : (stage : Stage) (o after : Object) → IsSame o after → (IsInRangeIn o.kind stage o → IsInRangeIn o.kind stage after) → IsSame o after × (IsInRangeIn o.kind stage o → IsInRangeIn after.kind stage after)
+as_itself stage o after same keeps = (same, λ r. subst (λ (k : Kind). IsInRangeIn k stage after) (sym same.kind) (keeps r))
 
 -- ---- sources
 
@@ -45,13 +53,13 @@ renewed_stays k capacity o after e =
     let same : o ≡ after = cc in
     subst (IsSame o) same (IsSame-refl o)
 
-renewed_keeps : (k : Kind) (capacity : ℕ) (within : Bool) (o after : Object) → capacity ≤ 3000 → renewed_as k capacity o ≡ Some after → IsInRangeIn k within o → IsInRangeIn k within after
-renewed_keeps Source capacity within o after most e r =
+renewed_keeps : (k : Kind) (capacity : ℕ) (stage : Stage) (o after : Object) → capacity ≤ 3000 → renewed_as k capacity o ≡ Some after → IsInRangeIn k stage o → IsInRangeIn k stage after
+renewed_keeps Source capacity stage o after most e r =
     let same : source_renewed capacity o ≡ after = cc in
     subst IsSource same (renewed_range capacity (nat_lt 1 o.timer) (o.timer == 1) (nat_lt o.energy capacity) o most r)
-renewed_keeps k capacity within o after most e r =
+renewed_keeps k capacity stage o after most e r =
     let same : o ≡ after = cc in
-    subst (IsInRangeIn k within) same r
+    subst (IsInRangeIn k stage) same r
 
 within_most : (taken : Bool) → source_capacity taken ≤ 3000
 within_most true = omega arith
@@ -77,21 +85,130 @@ decayed_stays k o after e =
     let same : o ≡ after = cc in
     subst (IsSame o) same (IsSame-refl o)
 
-decayed_keeps : (k : Kind) (within : Bool) (o after : Object) → decayed_as k o ≡ Some after → IsInRangeIn k within o → IsInRangeIn k within after
-decayed_keeps Pile within o after e r =
+decayed_keeps : (k : Kind) (stage : Stage) (o after : Object) → decayed_as k o ≡ Some after → IsInRangeIn k stage o → IsInRangeIn k stage after
+decayed_keeps Pile stage o after e r =
     let w = with_energy (o.energy - pile_decay o.energy) o after e in
     subst IsPile w.1 (pile_range o _ w.0 (omega arith) r)
-decayed_keeps k within o after e r =
+decayed_keeps k stage o after e r =
     let same : o ≡ after = cc in
-    subst (IsInRangeIn k within) same r
+    subst (IsInRangeIn k stage) same r
+
+-- ---- creeps
+
+abbrev rested_by : ℕ → Object → Object
+rested_by n o = record o { extra = o.extra - n }
+
+creep_rested : (n : ℕ) (stage : Stage) (o : Object) → IsInRangeIn Creep stage o → IsInRangeIn Creep stage (rested_by n o)
+creep_rested n within o s = record { owner = s.owner; hits = s.hits; energy = s.energy; timer = s.timer; extra = omega (arith, s.extra); progress = s.progress; other = s.other; other_ticks = s.other_ticks; some_parts = s.some_parts; parts = s.parts }
+creep_rested n between o s = record { owner = s.owner; hits = s.hits; energy = s.energy; timer = s.timer; extra = omega (arith, s.extra); progress = s.progress; other = s.other; other_ticks = s.other_ticks; some_parts = s.some_parts; parts = s.parts }
+creep_rested n moved o s = let r = s.rested in record { other_ticks = s.other_ticks; rested = record { owner = r.owner; hits = r.hits; energy = r.energy; timer = r.timer; extra = omega (arith, r.extra); progress = r.progress; other = r.other; other_ticks = r.other_ticks; some_parts = r.some_parts; parts = r.parts } }
+
+pub recovered_same : (k : Kind) (o : Object) → IsSame o (recovered_as k o)
+recovered_same Creep o = record { id = refl; kind = refl; x = refl; y = refl; owner = refl; other = refl }
+recovered_same k o = IsSame-refl o
+
+recovered_range : (k : Kind) (stage : Stage) (o : Object) → IsInRangeIn k stage o → IsInRangeIn k stage (recovered_as k o)
+recovered_range Creep stage o r = creep_rested (2 * live_count Move o.hits o.body) stage o r
+recovered_range k stage o r = r
+
+pub still_same : (o : Object) → IsSame o (still o)
+still_same o = elim (is_creep o.kind) as (λ b. IsSame o (if b then record o { other_ticks = 0 } else o)) [
+  | true ↦ record { id = refl; kind = refl; x = refl; y = refl; owner = refl; other = refl }
+  | false ↦ IsSame-refl o
+]
+
+still_by : (k : Kind) (o : Object) → IsInRangeIn k moved o → IsInRangeIn k between (if is_creep k then record o { other_ticks = 0 } else o)
+still_by Creep o r = r.rested
+still_by Controller o r = r
+still_by k o r = r
+
+-- A creep that moved is in the ranges between ticks once it is still.
+pub still_range : (o : Object) → IsInRangeIn o.kind moved o → IsInRangeIn (still o).kind between (still o)
+still_range o r = subst (λ (k : Kind). IsInRangeIn k between (still o)) (sym (still_same o).kind) (still_by o.kind o r)
+
+-- ---- containers and roads
+
+abbrev weathered_by : Kind → Bool → Bool → Object → Object
+weathered_by k in_owned b o =
+    if b then record o { timer = o.timer - 1 }
+    else record o { hits = o.hits - decay_hits k; timer = full_timer k in_owned }
+
+weathered_same : (k : Kind) (in_owned b : Bool) (o : Object) → IsSame o (weathered_by k in_owned b o)
+weathered_same k in_owned true o = record { id = refl; kind = refl; x = refl; y = refl; owner = refl; other = refl }
+weathered_same k in_owned false o = record { id = refl; kind = refl; x = refl; y = refl; owner = refl; other = refl }
+
+full_range : (k : Kind) (in_owned : Bool) → decays k ≡ true → IsFrom1To (full_timer k true) (full_timer k in_owned)
+full_range Container true is = (omega arith, omega arith)
+full_range Container false is = (omega arith, omega arith)
+full_range Road in_owned is = (omega arith, omega arith)
+full_range k in_owned is = absurd (cc)
+
+positive : (n : ℕ) → (n == 0) ≡ false → 1 ≤ n
+positive n is = grind arith
+
+-- It stays in its ranges where it has hits left.
+weathered_range : (k : Kind) (in_owned b : Bool) (stage : Stage) (o : Object) → decays k ≡ true → nat_lt 1 o.timer ≡ b → ((weathered_by k in_owned b o).hits == 0) ≡ false → IsInRangeIn k stage o → IsInRangeIn k stage (weathered_by k in_owned b o)
+weathered_range Container in_owned true stage o is runs some s = let more = ltb-true 1 o.timer runs in record { owner = s.owner; hits = s.hits; energy = s.energy; timer = (omega (arith, more), omega (arith, s.timer)); extra = s.extra; progress = s.progress; other = s.other; other_ticks = s.other_ticks; body = s.body }
+weathered_range Container in_owned false stage o is runs some s = record { owner = s.owner; hits = (positive (o.hits - 5000) some, omega (arith, s.hits)); energy = s.energy; timer = full_range Container in_owned refl; extra = s.extra; progress = s.progress; other = s.other; other_ticks = s.other_ticks; body = s.body }
+weathered_range Road in_owned true stage o is runs some s = let more = ltb-true 1 o.timer runs in record { owner = s.owner; hits = s.hits; energy = s.energy; timer = (omega (arith, more), omega (arith, s.timer)); extra = s.extra; progress = s.progress; other = s.other; other_ticks = s.other_ticks; body = s.body }
+weathered_range Road in_owned false stage o is runs some s = record { owner = s.owner; hits = (positive (o.hits - 100) some, omega (arith, s.hits)); energy = s.energy; timer = full_range Road in_owned refl; extra = s.extra; progress = s.progress; other = s.other; other_ticks = s.other_ticks; body = s.body }
+weathered_range k in_owned b stage o is runs some s = absurd (cc)
+
+decays_free : (k : Kind) → decays k ≡ true → (is_source k ≡ false) × (is_controller k ≡ false)
+decays_free Container is = (refl, refl)
+decays_free Road is = (refl, refl)
+decays_free k is = absurd (cc)
 
 -- ---- the steps
 
-module _ (players : ℕ → Bool) (within : Bool) where
-  pub keeps_renewed : (part : RoomPart) → KeepsRoomRules players within part → KeepsRoomRules players within (renewed part)
+module _ (players : ℕ → Bool) (stage : Stage) where
+  abbrev Kept : RoomPart → Type 0
+  Kept part = KeepsRoomRules players stage part
+
+  pub keeps_recovered : (part : RoomPart) → Kept part → Kept (recovered part)
+  keeps_recovered part k = keeps_each players stage (λ object. Some (recovered_as object.kind object)) (λ object after is.
+      (let one : recovered_as object.kind object ≡ after = cc in
+      subst (λ (o : Object). IsSame object o × (IsInRangeIn object.kind stage object → IsInRangeIn o.kind stage o)) one (as_itself stage object (recovered_as object.kind object) (recovered_same object.kind object) (recovered_range object.kind stage object)))) part k
+
+  pub keeps_renewed : (part : RoomPart) → KeepsRoomRules players stage part → KeepsRoomRules players stage (renewed part)
   keeps_renewed part k =
       let taken = is_taken (controller_of part) in
-      keeps_each players within (λ object. renewed_as object.kind (source_capacity taken) object) (λ object after is. as_itself within object after (renewed_stays object.kind (source_capacity taken) object after is) (renewed_keeps object.kind (source_capacity taken) within object after (within_most taken) is)) part k
+      keeps_each players stage (λ object. renewed_as object.kind (source_capacity taken) object) (λ object after is. as_itself stage object after (renewed_stays object.kind (source_capacity taken) object after is) (renewed_keeps object.kind (source_capacity taken) stage object after (within_most taken) is)) part k
 
-  pub keeps_decayed : (part : RoomPart) → KeepsRoomRules players within part → KeepsRoomRules players within (decayed part)
-  keeps_decayed part k = keeps_each players within (λ object. decayed_as object.kind object) (λ object after is. as_itself within object after (decayed_stays object.kind object after is) (decayed_keeps object.kind within object after is)) part k
+  pub keeps_decayed : (part : RoomPart) → KeepsRoomRules players stage part → KeepsRoomRules players stage (decayed part)
+  keeps_decayed part k = keeps_each players stage (λ object. decayed_as object.kind object) (λ object after is. as_itself stage object after (decayed_stays object.kind object after is) (decayed_keeps object.kind stage object after is)) part k
+
+  -- ---- what decays, one after the other
+
+  standing_keeps : (in_owned b : Bool) (object : Object) (part : RoomPart) → Holds part object.id object → Kept part → decays object.kind ≡ true → nat_lt 1 object.timer ≡ b → Kept (standing_or_gone (weathered_by object.kind in_owned b object) part)
+  standing_keeps in_owned b object part h k falls runs =
+      let now : Object = weathered_by object.kind in_owned b object in
+      let same : IsSame object now = weathered_same object.kind in_owned b object in
+      let id : now.id ≡ object.id = same.id in
+      let free = decays_free object.kind falls in
+      let inside = k.inside object.id object h in
+      let tile : IsOpen players stage part.grounds now.x now.y = record {
+        column = subst (λ (n : ℕ). n ≤ 49) (sym same.x) inside.column;
+        row = subst (λ (n : ℕ). n ≤ 49) (sym same.y) inside.row;
+        ground = λ wall. k.tiles object.id object h (inl (free.0, free.1, subst (λ (n : ℕ). IsWall part.grounds n object.y) same.x (subst (λ (n : ℕ). IsWall part.grounds now.x n) same.y wall)));
+      } in
+      elim (now.hits == 0) as (λ gone. (now.hits == 0) ≡ gone → Kept (if gone then fallen now.x now.y now.energy (without now.id part) else with_object now part)) [
+        | true ↦ λ gone. keeps_fallen players stage (without now.id part) (keeps_without players stage part k now.id) now.x now.y now.energy tile
+        | false ↦ λ left. keeps_changed players stage part k object.id object now h same (λ r. subst (λ (q : Kind). IsInRangeIn q stage now) (sym same.kind) (weathered_range object.kind in_owned b stage object falls runs left r))
+      ] refl
+
+  decay_keeps : (in_owned : Bool) (object : Object) (part : RoomPart) → Holds part object.id object → Kept part → Kept (weathered_as in_owned object part)
+  decay_keeps in_owned object part h k =
+      elim (decays object.kind) as (λ b. decays object.kind ≡ b → Kept (if b then standing_or_gone (weathered in_owned object) part else part)) [
+        | true ↦ λ falls. standing_keeps in_owned (nat_lt 1 object.timer) object part h k falls refl
+        | false ↦ λ stands. k
+      ] refl
+
+  pub keeps_weathered : (part : RoomPart) → Kept part → Kept (buildings_decayed part)
+  keeps_weathered part k = keeps_over players stage (weathered_as (is_owned_room (controller_of part))) (decay_keeps (is_owned_room (controller_of part))) part k
+
+-- The creeps of a room have moved no more: it is between ticks again.
+pub keeps_rest : (players : ℕ → Bool) (part : RoomPart) → KeepsRoomRules players moved part → KeepsRoomRules players between (each (λ object. Some (still object)) part)
+keeps_rest players part k = keeps_turned players moved between (λ object. Some (still object)) (λ object after is.
+    (let one : still object ≡ after = cc in
+    subst (λ (o : Object). IsSame object o × (IsInRangeIn object.kind moved object → IsInRangeIn o.kind between o)) one (still_same object, still_range object))) part k

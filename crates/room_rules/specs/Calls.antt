@@ -1,7 +1,11 @@
 -- What the call of a rule asks of a room's table, and what it keeps beside the rule itself.
-use Rattle.std.specs.Prelude.{◌≡◌, ◌+◌, ◌-◌, ◌*◌, ◌^◌, ◌<◌, ◌≤◌}
-use Rattle.std.specs.List.{AllByRecursion}
+use Rattle.std.specs.Prelude.{◌≡◌, ◌≢◌, ℕ, ◌+◌, ◌-◌, ◌*◌, ◌^◌, ◌<◌, ◌≤◌, true, false, List}
+use Rattle.std.specs.List.{AllByRecursion, AllPairs}
+use Rattle.game_tables.specs.Kinds.{clash, is_creep}
+use Rattle.game_tables.specs.Bodies.{most_parts}
+use Rattle.object_store.specs.declared.object.Object.{Object}
 use Rattle.object_store.specs.Tables.{Table, IsOnTile, HasNoId}
+use Rattle.intent_book.specs.declared.intent.Intent.{Intent}
 
 -- A table that is ready for a rule which may make one object: there is memory for it and a serial, no object
 -- has its id, and all objects stand on tiles of the room.
@@ -19,3 +23,38 @@ pub record Keeps (old new : Table) : Type 0 where
   pub later : old.next ≤ new.next
   pub made : new.next ≤ old.next + 1
   pub tiles : AllByRecursion IsOnTile new.objects
+
+-- The same for a step of upkeep that may make so many objects.
+pub record IsReadyFor (many : ℕ) (table : Table) : Type 0 where
+  pub spare : many ≤ table.spare
+  pub serial : table.next + many ≤ 2 ^ 32 - 1
+  pub fresh : (serial : ℕ) → table.next ≤ serial → serial < 2 ^ 32
+      → HasNoId (table.index * 2 ^ 32 + serial) table.objects
+  pub tiles : AllByRecursion IsOnTile table.objects
+
+pub record KeepsUpTo (many : ℕ) (old new : Table) : Type 0 where
+  pub index : new.index ≡ old.index
+  pub used : new.next + new.spare ≡ old.next + old.spare
+  pub later : old.next ≤ new.next
+  pub made : new.next ≤ old.next + many
+  pub tiles : AllByRecursion IsOnTile new.objects
+
+-- Two objects of a tile are of kinds that may share it.
+abbrev pub AreApart : List Object → Type 0
+AreApart objects =
+    AllPairs (λ one other. one.x ≡ other.x → one.y ≡ other.y → clash one.kind other.kind ≡ false) objects
+
+-- A creep carries at most what a body of CARRY parts alone would.
+abbrev pub IsLoadWithin : Object → Type 0
+IsLoadWithin object = is_creep object.kind ≡ true → object.energy ≤ 50 * most_parts
+
+-- A table that is ready for movement: its objects stand on tiles of the room, which they share where their
+-- kinds may, and its creeps carry no more than a body can.
+pub record IsMovable (table : Table) : Type 0 where
+  pub tiles : AllByRecursion IsOnTile table.objects
+  pub apart : AreApart table.objects
+  pub loads : AllByRecursion IsLoadWithin table.objects
+
+-- No creep has two moves.
+abbrev pub AreActorsOnce : List Intent → Type 0
+AreActorsOnce moves = AllPairs (λ one other. one.actor ≢ other.actor) moves

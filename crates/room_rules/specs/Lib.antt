@@ -2,3 +2,4 @@ pub mod Within
 pub mod RoomRules
 pub mod Followed
 pub mod Calls
+pub mod Crossed

@@ -9,7 +9,7 @@ use Rattle.game_tables.specs.Kinds.{clash, is_controller, may_have_owner}
 use Rattle.world_rules.specs.World.{World}
 use Rattle.world_rules.specs.RoomParts.{RoomPart}
 use Rattle.world_rules.specs.Rules.{IsOnWrongTile}
-use Rattle.room_rules.specs.Within.{IsInRangeIn}
+use Rattle.room_rules.specs.Within.{Stage, IsInRangeIn}
 
 -- The object stands in the room under this id.
 abbrev pub Holds : RoomPart → ℕ → Object → Type 0
@@ -24,8 +24,8 @@ pub record HasRightOwner (players : ℕ → Bool) (object : Object) : Type 0 whe
   pub owner : object.owner ≢ 0 → (players object.owner ≡ true) × (may_have_owner object.kind ≡ true)
   pub other : object.other ≢ 0 → (players object.other ≡ true) × (is_controller object.kind ≡ true)
 
--- The room keeps its rules, where these are the players; the flag tells whether a tick is going on.
-pub record KeepsRoomRules (players : ℕ → Bool) (within : Bool) (part : RoomPart) : Type 0 where
+-- The room keeps its rules, where these are the players, at this stage of a tick.
+pub record KeepsRoomRules (players : ℕ → Bool) (stage : Stage) (part : RoomPart) : Type 0 where
   -- serials begin at 1
   pub begun : 1 ≤ part.next
   -- an object stands under its id, and one that was born here has a serial that was given
@@ -45,10 +45,10 @@ pub record KeepsRoomRules (players : ℕ → Bool) (within : Bool) (part : RoomP
       → Holds part one first → Holds part other second → is_controller first.kind ≡ true
       → ¬ (is_controller second.kind ≡ true)
   -- no field is out of its range
-  pub ranges : (id : ℕ) (object : Object) → Holds part id object → ¬ ¬ IsInRangeIn object.kind within object
+  pub ranges : (id : ℕ) (object : Object) → Holds part id object → ¬ ¬ IsInRangeIn object.kind stage object
 
--- The change of a room's part keeps the rules of the room, within a tick and between ticks.
+-- The change of a room's part keeps the rules of the room, at each stage of a tick.
 abbrev pub KeepsRules : (RoomPart → RoomPart) → Type 0
 KeepsRules change =
-    (players : ℕ → Bool) (within : Bool) (part : RoomPart)
-    → KeepsRoomRules players within part → KeepsRoomRules players within (change part)
+    (players : ℕ → Bool) (stage : Stage) (part : RoomPart)
+    → KeepsRoomRules players stage part → KeepsRoomRules players stage (change part)

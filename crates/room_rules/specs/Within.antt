@@ -1,5 +1,5 @@
 -- The ranges of fields within a tick, where they are wider than between ticks.
-use Rattle.std.specs.Prelude.{◌≡◌, ◌≢◌, ◌≤◌, Bool, true, false, [], length}
+use Rattle.std.specs.Prelude.{◌≡◌, ◌≢◌, ◌≤◌, [], length}
 use Rattle.game_tables.specs.Bodies.{most_parts}
 use Rattle.game_tables.specs.Fields.{most_energy, most_timer, most_extra, most_other_ticks}
 use Rattle.game_tables.specs.Kinds.{hits_max}
@@ -8,6 +8,23 @@ use Rattle.game_tables.specs.declared.kind.Kind.{Kind}
 use Rattle.game_tables.specs.declared.kind.Kind.TheVariants.{Creep, Controller}
 use Rattle.object_store.specs.declared.object.Object.{Object}
 use Rattle.world_rules.specs.Rules.{IsFrom1To, IsProgress, IsDowngradeTimer, IsCreep, IsController, IsInRangeAs}
+
+-- How far a tick is: between ticks, after movement and before crossings, or within.
+pub data Stage : Type 0 where
+  between : Stage
+  moved : Stage
+  within : Stage
+
+-- where movement leads
+abbrev pub after_movement : Stage → Stage
+after_movement between = moved
+after_movement moved = moved
+after_movement within = within
+
+-- After movement a creep keeps whether it moved.
+pub record IsCreepMoved (object : Object) : Type 0 where
+  pub other_ticks : object.other_ticks ≤ 1
+  pub rested : IsCreep (record object { other_ticks = 0 })
 
 -- A creep may have lost all its hits, its load may be above what its live parts carry but not above what all
 -- do, and it keeps whether it moved.
@@ -37,10 +54,11 @@ pub record IsControllerWithin (object : Object) : Type 0 where
   pub reserved : object.other ≢ 0 → IsFrom1To (most_other_ticks Controller) object.other_ticks
   pub body : object.body ≡ []
 
--- The fields are in the kind's ranges: of those within a tick, or of those between ticks.
-abbrev pub IsInRangeIn : Kind → Bool → Object → Type 0
-IsInRangeIn Creep true object = IsCreepWithin object
-IsInRangeIn Creep false object = IsCreep object
-IsInRangeIn Controller true object = IsControllerWithin object
-IsInRangeIn Controller false object = IsController object
-IsInRangeIn kind within object = IsInRangeAs kind object
+-- The fields are in the kind's ranges at this stage of a tick.
+abbrev pub IsInRangeIn : Kind → Stage → Object → Type 0
+IsInRangeIn Creep between object = IsCreep object
+IsInRangeIn Creep moved object = IsCreepMoved object
+IsInRangeIn Creep within object = IsCreepWithin object
+IsInRangeIn Controller within object = IsControllerWithin object
+IsInRangeIn Controller stage object = IsController object
+IsInRangeIn kind stage object = IsInRangeAs kind object

@@ -87,7 +87,7 @@ module _ (action : Action) (entry : Intent) (part : RoomPart) where
       let scene = scene_with entry part found.0 found.1 in
       let takes = holds_all found.0 found.1 stand.0 stand.1 both.0 in
       let hold = and_left (all_hold (checks action scene)) (nat_lt 0 found.0.hits) takes in
-      let before = creep_checks scene ++ amount_checks scene ++ part_checks (needed_part action) scene in
+      let before = creep_checks scene ++ amount_checks action scene ++ part_checks (needed_part action) scene in
       record {
         there = stand.0;
         at = stand.1;

@@ -1,12 +1,12 @@
 -- The rules in force stay in their rooms.
-use Rattle.std.proofs.Common.{ℕ, ◌+◌, ◌-◌, ◌*◌, ◌==◌, min, nat_lt, List, Option, Some, None}
+use Rattle.std.proofs.Common.{ℕ, ◌+◌, ◌-◌, ◌*◌, ◌==◌, min, nat_lt, Bool, List, Option, Some, None}
 use Rattle.std.specs.List.{filter, find}
 use Rattle.std.specs.FinMap.{get, values}
 use Rattle.game_tables.specs.Kinds.{source_capacity}
 use Rattle.game_tables.specs.declared.kind.Kind.{Kind}
 use Rattle.game_tables.specs.declared.action.Action.{Action}
 use Rattle.game_tables.specs.declared.action.Action.TheVariants.{DropLoad, Transfer, Withdraw, Pickup, Harvest, Repair, Build}
-use Rattle.object_store.specs.Controllers.{is_taken}
+use Rattle.object_store.specs.Controllers.{is_taken, is_owned_room}
 use Rattle.object_store.specs.Stores.{building_of, free_room}
 use Rattle.object_store.specs.declared.object.Object.{Object}
 use Rattle.intent_book.specs.declared.intent.Intent.{Intent}
@@ -19,7 +19,8 @@ use Rattle.world_rules.specs.Loads.{with_more, with_less, handed_over, transferr
 use Rattle.world_rules.specs.Work.{live_work, harvested_by, hits_gained, repair_cost, repaired_by, total_of, work_put, building_on, advanced, built_as, built_by}
 use Rattle.world_rules.specs.Steps.{over_objects}
 use Rattle.world_rules.specs.Movement.{Mover, movers, has_mover, stepped, worn_as, moved_by}
-use Rattle.world_rules.specs.Upkeep.{renewed_as, decayed_as}
+use Rattle.world_rules.specs.Moves.{candidates, fatigue}
+use Rattle.world_rules.specs.Upkeep.{recovered_as, renewed_as, decays, weathered, standing_or_gone, weathered_as, buildings_decayed, decayed_as}
 use Rattle.world_rules.specs.Tick.{rule_of, book}
 use Rattle.world_rules.proofs.Follows.{follows_self, follows_trans, follows_if, follows_object, follows_without, follows_new, follows_over, follows_each}
 
@@ -100,40 +101,6 @@ rule_follows Repair entry part = follows_parties Repair repaired_by repair_follo
 rule_follows Build entry part = follows_parties Build built_by (λ creep site. build_follows creep site (building_of site)) entry part
 rule_follows _ entry part = follows_self part
 
-rests : (sums : Sums) → StaysInRoom (λ part. part)
-rests sums part = follows_self part
-
-pub book_orderly : IsOrderly book
-book_orderly = record {
-  effect = λ entry. rule_follows entry.action entry;
-  moved = λ list part. follows_self part;
-  steps = (
-    rests,
-    (
-      rests,
-      (
-        rests,
-        (
-          rests,
-          (
-            rests,
-            (
-              rests,
-              (
-                rests,
-                (
-                  (λ sums part. follows_each (λ object. renewed_as object.kind (source_capacity (is_taken (controller_of part))) object) part),
-                  (rests, ((λ sums. follows_each (λ object. decayed_as object.kind object)), tt)),
-                ),
-              ),
-            ),
-          ),
-        ),
-      ),
-    ),
-  );
-}
-
 -- ---- movement
 
 pub moved_follows : (fatigue : Object → Mover → ℕ) (list : List Mover) → StaysInRoom (moved_by fatigue list)
@@ -145,3 +112,54 @@ moved_follows fatigue list part =
     follows_trans part after (over_objects wear after)
     (follows_over step (λ object now. follows_object (stepped fatigue object (find (λ one. one.creep == object.id) set)) now) part)
     (follows_over wear (λ object now. follows_object (worn_as object.kind (filter (λ creep. has_mover set creep.id) (values after.objects)) object) now) after)
+
+-- ---- upkeep
+
+left_follows : (building : Object) → StaysInRoom (standing_or_gone building)
+left_follows building part =
+    let gone : RoomPart = without building.id part in
+    follows_if (building.hits == 0) part (fallen building.x building.y building.energy gone) (with_object building part)
+    (follows_trans part gone (fallen building.x building.y building.energy gone) (follows_without building.id part) (follows_fallen building.x building.y building.energy gone))
+    (follows_object building part)
+
+weathered_follows : (in_owned : Bool) (object : Object) → StaysInRoom (weathered_as in_owned object)
+weathered_follows in_owned object part = follows_if (decays object.kind) part (standing_or_gone (weathered in_owned object) part) part (left_follows (weathered in_owned object) part) (follows_self part)
+
+buildings_follow : StaysInRoom buildings_decayed
+buildings_follow part = follows_over (weathered_as (is_owned_room (controller_of part))) (weathered_follows (is_owned_room (controller_of part))) part
+
+-- ---- the book
+
+rests : (sums : Sums) → StaysInRoom (λ part. part)
+rests sums part = follows_self part
+
+pub book_orderly : IsOrderly book
+book_orderly = record {
+  effect = λ entry. rule_follows entry.action entry;
+  moved = λ list part. moved_follows (fatigue part) (candidates part list) part;
+  steps = (
+    rests,
+    (
+      rests,
+      (
+        rests,
+        (
+          (λ sums. follows_each (λ object. Some (recovered_as object.kind object))),
+          (
+            rests,
+            (
+              rests,
+              (
+                rests,
+                (
+                  (λ sums part. follows_each (λ object. renewed_as object.kind (source_capacity (is_taken (controller_of part))) object) part),
+                  ((λ sums. buildings_follow), ((λ sums. follows_each (λ object. decayed_as object.kind object)), tt)),
+                ),
+              ),
+            ),
+          ),
+        ),
+      ),
+    ),
+  );
+}

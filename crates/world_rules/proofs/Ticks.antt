@@ -1,11 +1,13 @@
 -- The tick's number, which no rule and no change of a room's part touches.
-use Rattle.std.proofs.Common.{◌≡◌, ℕ, ◌+◌, ◌++◌, List, [], ◌∷◌, Option, Some, None, refl, ap, ◌∙◌}
+use Rattle.std.proofs.Common.{◌≡◌, ℕ, ◌+◌, ◌++◌, if◌then◌else◌, true, false, List, [], ◌∷◌, Option, Some, None, refl, ap, ◌∙◌}
 use Rattle.std.specs.List.{filter_map}
 use Rattle.std.specs.FinMap.{get, keys}
 use Rattle.game_tables.specs.declared.action.Action.{Action}
 use Rattle.intent_book.specs.declared.intent.Intent.{Intent}
 use Rattle.intent_book.specs.declared.player_run.PlayerRun.{PlayerRun}
-use Rattle.world_rules.specs.World.{Frame, World}
+use Rattle.object_store.specs.declared.object.Object.{Object}
+use Rattle.world_rules.specs.World.{Placed, Frame, World}
+use Rattle.world_rules.specs.Crossings.{Place, beyond, may_enter, with_object_on, crossed_to, crossed_by, crossed_over, crossers}
 use Rattle.world_rules.specs.RoomParts.{RoomPart, in_frame, in_room, in_rooms, in_every_room}
 use Rattle.world_rules.specs.RuleBook.{Sums, Step, RuleBook}
 use Rattle.world_rules.specs.Intents.{all_actions, kept, room_of, entries_of}
@@ -45,5 +47,22 @@ module _ (rules : RuleBook) (before : World) where
       ∙ rooms_tick (movement rules before list) (keys after.world.rooms) after.world
       ∙ actions_tick all_actions (kept before list) (begun before)
 
+-- ---- crossings
+
+to_tick : (world : World) (id : ℕ) (object : Object) (place : Option Place) → (crossed_to world id object place).tick ≡ world.tick
+to_tick world id object None = refl
+to_tick world id object (Some place) =
+    elim (may_enter world place) as (λ b. (if b then with_object_on world id object place else world).tick ≡ world.tick) [ true ↦ refl | false ↦ refl ]
+
+by_tick : (world : World) (id : ℕ) (found : Option Placed) → (crossed_by world id found).tick ≡ world.tick
+by_tick world id None = refl
+by_tick world id (Some placed) = to_tick world id placed.object (beyond world placed)
+
+over_tick : (ids : List ℕ) (world : World) → (crossed_over ids world).tick ≡ world.tick
+over_tick [] world = refl
+over_tick (id ∷ later) world = over_tick later (crossed_by world id (get world.objects id)) ∙ by_tick world id (get world.objects id)
+
 pub next_world-tick : (world : World) (runs : List PlayerRun) → (next_world world runs).tick ≡ world.tick + 1
-next_world-tick world runs = ap (λ (n : ℕ). n + 1) (inner_tick book world (intents_of runs))
+next_world-tick world runs =
+    let within : World = (inner book world (intents_of runs)).world in
+    ap (λ (n : ℕ). n + 1) (over_tick (crossers within) within ∙ inner_tick book world (intents_of runs))

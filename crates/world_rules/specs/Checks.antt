@@ -8,9 +8,9 @@ use Rattle.game_tables.specs.Actions.{is_target, max_range, needed_part}
 use Rattle.game_tables.specs.Bodies.{live_count}
 use Rattle.game_tables.specs.Kinds.{is_creep, obstructs}
 use Rattle.game_tables.specs.declared.action.Action.{Action}
-use Rattle.game_tables.specs.declared.action.Action.TheVariants.{DropLoad, Transfer, Withdraw, Pickup, Heal, RangedHeal, Harvest, Repair, Build}
+use Rattle.game_tables.specs.declared.action.Action.TheVariants.{DropLoad, Transfer, Withdraw, Pickup, Heal, RangedHeal, Harvest, Repair, Build, Move}
 use Rattle.game_tables.specs.declared.code.Code.{Code}
-use Rattle.game_tables.specs.declared.code.Code.TheVariants.{Done, NotOwner, NotFound, NotEnoughResources, InvalidTarget, Full, NotInRange, InvalidArgs, NoBodypart}
+use Rattle.game_tables.specs.declared.code.Code.TheVariants.{Done, NotOwner, NotFound, NotEnoughResources, InvalidTarget, Full, NotInRange, InvalidArgs, Tired, NoBodypart}
 use Rattle.game_tables.specs.declared.kind.Kind.{Kind}
 use Rattle.game_tables.specs.declared.kind.Kind.TheVariants.{Creep}
 use Rattle.game_tables.specs.declared.kind.Part.{Part}
@@ -70,9 +70,18 @@ creep_checks scene =
     ∷ (holds_of scene.actor (λ object. object.owner == scene.player), NotOwner)
     ∷ []
 
--- An amount is not negative.
-abbrev pub amount_checks : Scene → List Check
-amount_checks scene = (is_some scene.amount, InvalidArgs) ∷ []
+-- The amount of a move is the number of its direction.
+abbrev pub is_amount_of : Action → ℕ → Bool
+is_amount_of Move direction = nat_le 1 direction && nat_le direction 8
+is_amount_of action amount = true
+
+abbrev pub is_amount : Action → Option ℕ → Bool
+is_amount action None = false
+is_amount action (Some amount) = is_amount_of action amount
+
+-- An amount is not negative, and a direction one of the eight.
+abbrev pub amount_checks : Action → Scene → List Check
+amount_checks action scene = (is_amount action scene.amount, InvalidArgs) ∷ []
 
 -- The creep has a live part of the kind that the action needs.
 abbrev pub part_checks : Option Part → Scene → List Check
@@ -153,11 +162,12 @@ further_checks Build scene =
     (holds_of scene.target (λ site. site.owner == scene.player), NotOwner)
     ∷ holds_least 1 scene.actor
     ∷ (holds_of scene.target (λ site. not (is_in_the_way scene.around site)), InvalidTarget) ∷ []
+further_checks Move scene = (holds_of scene.actor (λ creep. creep.extra == 0), Tired) ∷ []
 further_checks _ scene = []
 
 abbrev pub checks : Action → Scene → List Check
 checks action scene =
-    creep_checks scene ++ amount_checks scene ++ part_checks (needed_part action) scene
+    creep_checks scene ++ amount_checks action scene ++ part_checks (needed_part action) scene
     ++ target_checks (max_range action) action scene ++ further_checks action scene
 
 -- ---- in a rule

@@ -1,5 +1,5 @@
--- Worked examples of the frame of a tick, with toy rules, which the check computes.
-use Rattle.std.specs.Prelude.{◌≡◌, ℕ, ◌+◌, ◌==◌, ◌&&◌, not, Bool, if◌then◌else◌, List, [], ◌∷◌, length, map, replicate, Option, Some, None}
+-- Worked examples of the frame of a tick, with toy rules but for crossings, which the check computes.
+use Rattle.std.specs.Prelude.{◌≡◌, ℕ, ◌+◌, ◌==◌, ◌&&◌, not, Bool, if◌then◌else◌, pos, List, [], ◌∷◌, length, map, replicate, Option, Some, None}
 use Rattle.std.specs.List.{filter, list_any}
 use Rattle.std.specs.FinMap.{from_entries, get}
 use Rattle.room_terrain.specs.declared.name.RoomName.{RoomName}
@@ -18,7 +18,7 @@ use Rattle.world_rules.specs.Steps.{over_objects}
 use Rattle.world_rules.specs.Intents.{all_actions, same_entry, last_of_each, undropped}
 use Rattle.world_rules.specs.Tick.{Gain, Course, begun, after_kind, sums_of}
 use Rattle.world_rules.specs.Movement.{Mover, movers}
-use Rattle.world_rules.specs.Crossings.{Place, crossed}
+use Rattle.world_rules.specs.Crossings.{crossed}
 
 -- a creep on a tile
 abbrev pub creep_on : ℕ → ℕ → ℕ → Object
@@ -203,23 +203,19 @@ first_left frame harms = record {
 abbrev pub room_of_ground : RoomName → Ground → Frame
 room_of_ground name surface = record { name = name; grounds = replicate 2500 surface; next = 100 }
 
--- Room 1 lies east of room 0, and nothing lies north or south.
-abbrev pub beyond : World → Placed → Option Place
-beyond world placed =
-    let x : ℕ = placed.object.x in
-    let y : ℕ = placed.object.y in
-    if (placed.room == 0) && (x == 49) then Some (record { room = 1; x = 0; y = y })
-    else if (placed.room == 1) && (x == 0) then Some (record { room = 0; x = 49; y = y })
-    else None
+-- E0S0 and E1S0, which lies east of it
+abbrev pub west : RoomName
+west = record { column = pos 0; row = pos 0 }
 
--- room 0 of plains alone, room 1 of this ground, and these objects
-abbrev pub two_rooms : RoomName → Ground → List (ℕ × Placed) → World
-two_rooms name surface objects =
-    world_with ((0, room_of_ground name Plain) ∷ (1, room_of_ground name surface) ∷ []) objects
+abbrev pub east : RoomName
+east = record { column = pos 1; row = pos 0 }
 
--- room 0 without the other
-abbrev pub west_alone : RoomName → List (ℕ × Placed) → World
-west_alone name objects = world_with ((0, room_of_ground name Plain) ∷ []) objects
+-- room 0 of plains in the west alone, and with room 1 of this ground in the east
+abbrev pub west_room : List (ℕ × Frame)
+west_room = (0, room_of_ground west Plain) ∷ []
+
+abbrev pub both_rooms : Ground → List (ℕ × Frame)
+both_rooms surface = (0, room_of_ground west Plain) ∷ (1, room_of_ground east surface) ∷ []
 
 -- a creep in a room that has moved onto its tile
 abbrev pub moved_to : ℕ → ℕ → ℕ → ℕ → ℕ × Placed
@@ -236,8 +232,8 @@ container_at id room x y = standing room (record (creep_on id x y) { kind = kind
 -- In the two rooms, room 1 of this ground, these objects stand before crossings, and those after them.
 abbrev pub Cross : Ground → List (ℕ × Placed) → List (ℕ × Placed) → Type 0
 Cross surface before after =
-    (name : RoomName) → crossed beyond (two_rooms name surface before) ≡ two_rooms name surface after
+    crossed (world_with (both_rooms surface) before) ≡ world_with (both_rooms surface) after
 
 -- In room 0 alone.
 abbrev pub CrossAlone : List (ℕ × Placed) → List (ℕ × Placed) → Type 0
-CrossAlone before after = (name : RoomName) → crossed beyond (west_alone name before) ≡ west_alone name after
+CrossAlone before after = crossed (world_with west_room before) ≡ world_with west_room after

@@ -15,6 +15,7 @@ pub mod Seen
 pub mod Rules
 pub mod Sound
 pub mod Movement
+pub mod Moves
 pub mod Crossings
 pub mod Examples
 pub mod FrameExamples

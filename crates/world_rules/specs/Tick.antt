@@ -12,6 +12,8 @@ use Rattle.intent_book.specs.declared.player_run.PlayerRun.{PlayerRun}
 use Rattle.world_rules.specs.Drops.{dropped}
 use Rattle.world_rules.specs.Loads.{transferred, withdrawn, picked_up}
 use Rattle.world_rules.specs.Work.{harvested, repaired, built}
+use Rattle.world_rules.specs.Moves.{moved}
+use Rattle.world_rules.specs.Crossings.{crossed}
 use Rattle.world_rules.specs.Upkeep.{steps}
 use Rattle.world_rules.specs.World.{World}
 use Rattle.world_rules.specs.RoomParts.{RoomPart, part_at, in_room, in_every_room}
@@ -159,13 +161,9 @@ book =
     record {
       harm = λ entry part. no_harm;
       effect = λ entry. rule_of entry.action entry;
-      moved = λ list part. part;
+      moved = moved;
       steps = steps;
     }
-
--- Creeps that moved onto a border tile cross to the next room. Crossings are not in force yet.
-abbrev pub crossed : World → World
-crossed world = world
 
 -- ---- accounts
 

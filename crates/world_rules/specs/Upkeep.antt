@@ -1,13 +1,28 @@
 -- The steps of upkeep at the end of a tick. Each is a change of a room's part, over its objects in rising id.
-use Rattle.std.specs.Prelude.{ℕ, ◌-◌, ◌==◌, max, nat_lt, if◌then◌else◌, List, [], ◌∷◌, Option, Some, None}
-use Rattle.game_tables.specs.Kinds.{source_capacity, renewal_ticks, pile_decay}
+use Rattle.std.specs.Prelude.{ℕ, ◌-◌, ◌*◌, ◌==◌, max, nat_lt, Bool, true, false, if◌then◌else◌, List, [], ◌∷◌, ◌++◌, Option, Some, None}
+use Rattle.game_tables.specs.Bodies.{live_count}
+use Rattle.game_tables.specs.Kinds.{full_timer, source_capacity, renewal_ticks, pile_decay}
 use Rattle.game_tables.specs.declared.kind.Kind.{Kind}
-use Rattle.game_tables.specs.declared.kind.Kind.TheVariants.{Source, Pile}
-use Rattle.object_store.specs.Controllers.{is_taken}
+use Rattle.game_tables.specs.declared.kind.Kind.TheVariants.{Source, Creep, Container, Road, Pile}
+use Rattle.game_tables.specs.declared.kind.Part.TheVariants.{Move}
+use Rattle.object_store.specs.Controllers.{is_taken, is_owned_room}
 use Rattle.object_store.specs.declared.object.Object.{Object}
 use Rattle.world_rules.specs.RoomParts.{RoomPart, controller_of}
 use Rattle.world_rules.specs.RuleBook.{Step}
-use Rattle.world_rules.specs.Steps.{each}
+use Rattle.world_rules.specs.Changes.{with_object, without}
+use Rattle.world_rules.specs.Drops.{fallen}
+use Rattle.world_rules.specs.Steps.{over_objects, each}
+
+-- ---- creeps
+
+-- Fatigue falls by 2 for each live MOVE part, down to 0.
+abbrev pub recovered_as : Kind → Object → Object
+recovered_as Creep creep = record creep { extra = creep.extra - 2 * live_count Move creep.hits creep.body }
+recovered_as _ object = object
+
+-- Creeps recover.
+abbrev pub recovered : RoomPart → RoomPart
+recovered part = each (λ object. Some (recovered_as object.kind object)) part
 
 -- ---- sources
 
@@ -29,6 +44,44 @@ renewed_as _ capacity object = Some object
 abbrev pub renewed : RoomPart → RoomPart
 renewed part =
     each (λ object. renewed_as object.kind (source_capacity (is_taken (controller_of part))) object) part
+
+-- ---- containers and roads
+
+-- It decays: a container or a road.
+abbrev pub decays : Kind → Bool
+decays Container = true
+decays Road = true
+decays _ = false
+
+-- the hits that it loses at a time
+abbrev pub decay_hits : Kind → ℕ
+decay_hits Container = 5000
+decay_hits _ = 100
+
+-- Its timer falls by 1, and at 0 it loses hits and the timer is full again.
+abbrev pub weathered : Bool → Object → Object
+weathered in_owned building =
+    if nat_lt 1 building.timer then record building { timer = building.timer - 1 }
+    else record building {
+      hits = building.hits - decay_hits building.kind;
+      timer = full_timer building.kind in_owned;
+    }
+
+-- What has no hits left is gone, and its energy falls on its tile.
+abbrev pub standing_or_gone : Object → RoomPart → RoomPart
+standing_or_gone building part =
+    if building.hits == 0
+    then fallen building.x building.y building.energy (without building.id part)
+    else with_object building part
+
+abbrev pub weathered_as : Bool → Object → RoomPart → RoomPart
+weathered_as in_owned object part =
+    if decays object.kind then standing_or_gone (weathered in_owned object) part else part
+
+-- Containers and roads decay, one after the other; containers slower in a room whose controller somebody
+-- owns.
+abbrev pub buildings_decayed : RoomPart → RoomPart
+buildings_decayed part = over_objects (weathered_as (is_owned_room (controller_of part))) part
 
 -- ---- piles
 
@@ -52,17 +105,27 @@ decayed part = each (λ object. decayed_as object.kind object) part
 abbrev pub unchanged : Step
 unchanged sums part = part
 
--- the ten steps, in their order
-abbrev pub steps : List Step
-steps =
+-- the steps up to the gain of spawns
+abbrev pub first_steps : List Step
+first_steps =
     unchanged  -- hits change by healing and damage, and what has none left is gone
     ∷ unchanged  -- loads above the capacity fall
     ∷ unchanged  -- creeps age and die
-    ∷ unchanged  -- fatigue falls
+    ∷ (λ sums. recovered)
     ∷ unchanged  -- spawns gain energy
-    ∷ unchanged  -- spawns make creeps
-    ∷ unchanged  -- controllers lose time
-    ∷ (λ sums. renewed)
-    ∷ unchanged  -- containers and roads decay
-    ∷ (λ sums. decayed)
     ∷ []
+
+-- what spawns and controllers do
+abbrev pub middle_steps : List Step
+middle_steps =
+    unchanged  -- spawns make creeps
+    ∷ unchanged  -- controllers lose time
+    ∷ []
+
+-- the steps from the renewal of sources on
+abbrev pub last_steps : List Step
+last_steps = (λ sums. renewed) ∷ (λ sums. buildings_decayed) ∷ (λ sums. decayed) ∷ []
+
+-- the ten steps, in their order
+abbrev pub steps : List Step
+steps = first_steps ++ middle_steps ++ last_steps

@@ -168,6 +168,10 @@ pub fn crossing_examples()
     ensures both { Cross Plain (moved_to 1 0 49 10 ∷ moved_to 2 1 0 10 ∷ [])
         (resting_at 1 0 49 10 ∷ resting_at 2 1 0 10 ∷ []) }
 
+    // West too, and from a corner nowhere.
+    ensures west { Cross Plain (moved_to 1 1 0 10 ∷ []) (resting_at 1 0 49 10 ∷ []) }
+    ensures corner { Cross Plain (moved_to 1 0 49 49 ∷ []) (resting_at 1 0 49 49 ∷ []) }
+
     // So does one beyond whose border lies a wall or no room; a swamp and what is no creep stop none.
     ensures walled { Cross Wall (moved_to 1 0 49 10 ∷ []) (resting_at 1 0 49 10 ∷ []) }
     ensures outside { CrossAlone (moved_to 1 0 49 10 ∷ []) (resting_at 1 0 49 10 ∷ []) }

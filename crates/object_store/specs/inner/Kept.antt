@@ -1,5 +1,6 @@
 -- The slot of a room's controller. For private clauses.
-use Rattle.std.specs.Prelude.{◌≡◌, ℕ, ◌<◌, ◌⊎◌, true, false, List, length, Option, Some, IfSome, option_map}
+use Rattle.std.specs.Prelude.{◌≡◌, ℕ, ◌<◌, ◌==◌, ◌&&◌, ◌⊎◌, Bool, true, false, List, length, Option, Some, IfSome, option_map}
+use Rattle.game_tables.specs.Numbers.{kind_number}
 use Rattle.game_tables.specs.Kinds.{is_controller}
 use Rattle.game_tables.specs.declared.kind.Kind.{Kind}
 use Rattle.object_store.specs.declared.object.Object.{Object}
@@ -17,3 +18,7 @@ abbrev pub Stays : Option ℕ → ℕ → Kind → Kind → Type 0
 Stays kept slot was kind =
     ((is_controller kind ≡ true) × (kept ≡ Some slot))
     ⊎ ((is_controller kind ≡ false) × (is_controller was ≡ false))
+
+-- It is an object of the kind on the tile.
+abbrev pub is_kind_on : ℕ → ℕ → Kind → Object → Bool
+is_kind_on x y kind o = (o.x == x) && (o.y == y) && (kind_number o.kind == kind_number kind)

@@ -1,6 +1,7 @@
 use Rattle.std.specs.Prelude.{length}
 use Rattle.world_rules.specs.World.{world_of}
-use Rattle.world_rules.specs.Tick.{book, crossed}
+use Rattle.world_rules.specs.Crossings.{crossed}
+use Rattle.world_rules.specs.Tick.{book}
 use Rattle.world_rules.proofs.Orderly.{book_orderly}
 use Rattle.room_commutes.proofs.Schedule.{schedule_ruled}
 use Rattle.room_commutes.proofs.Points.{points_summed}
