@@ -1,0 +1,10 @@
+pub mod Held
+pub mod Tables
+pub mod Candidates
+pub mod Arriving
+pub mod Stored
+pub mod Deciding
+pub mod Landed
+pub mod Eached
+pub mod Moved
+pub mod Examples

@@ -1,0 +1,12 @@
+// Movement: which creeps of a room step in a tick, and what they leave.
+#![tactic(auto)]
+
+mod arrivals;
+mod candidate;
+mod landing;
+mod moving;
+#[cfg(test)]
+mod tests;
+mod walk;
+
+pub use moving::settle_moves;
