@@ -1,11 +1,12 @@
 -- What a call of an action checks of what is seen, its rule finds in the room.
 use Rattle.std.proofs.Common.{◌≡◌, ℕ, ℤ, pos, ◌≤◌, ◌==◌, ◌&&◌, ◌||◌, not, nat_le, nat_lt, Bool, true, List, [], ◌∷◌, ◌++◌, Option, Some, None, option_map, inl, inr, refl, sym, ap, subst, ◌∙◌, arith}
 use Rattle.std.specs.FinMap.{values}
+use Rattle.std.specs.Option.{unwrap_or}
 use Rattle.std.proofs.lemmas.Bool.{and_parts, cases_Bool, eqb-true, leb-true, le-leb}
 use Rattle.game_tables.specs.Actions.{is_target, max_range, needed_part}
 use Rattle.game_tables.specs.Bodies.{live_count}
 use Rattle.game_tables.specs.declared.action.Action.{Action}
-use Rattle.game_tables.specs.declared.action.Action.TheVariants.{DropLoad, Transfer, Withdraw, Pickup, Harvest, Repair, Build}
+use Rattle.game_tables.specs.declared.action.Action.TheVariants.{DropLoad, Transfer, Withdraw, Pickup, Harvest, Repair, Build, Move}
 use Rattle.game_tables.specs.declared.code.Code.{Code}
 use Rattle.game_tables.specs.declared.code.Code.TheVariants.{Done}
 use Rattle.game_tables.specs.declared.kind.Part.{Part}
@@ -17,12 +18,12 @@ use Rattle.intent_book.specs.declared.intent.Intent.{Intent}
 use Rattle.wasm_store.specs.Memory.{Memory}
 use Rattle.world_rules.specs.World.{Placed, world_of}
 use Rattle.world_rules.specs.RoomParts.{RoomPart, part_of}
-use Rattle.world_rules.specs.Checks.{Check, Scene, all_hold, amount_checks, are_near, checks, controller_around, creep_checks, first_failing, further_checks, holds_of, part_checks, reaches_itself, scene_of, standing_at, target_checks}
+use Rattle.world_rules.specs.Checks.{Check, Scene, all_hold, amount_checks, are_near, checks, controller_around, creep_checks, first_failing, further_checks, holds_of, is_amount, part_checks, reaches_itself, scene_of, standing_at, target_checks}
 use Rattle.world_rules.specs.Sound.{IsSound}
 use Rattle.visible_view.specs.Sights.{Sight, sight_of}
 use Rattle.action_checks.proofs.Passing.{all_hold_where_done, fails_early, hold_both}
 use Rattle.host_calls.specs.Desks.{Desk}
-use Rattle.host_calls.specs.Replies.{act_code, id_of, objects_around, record_checks, scene_seen, seen, wanted, wish_of}
+use Rattle.host_calls.specs.Replies.{act_code, amount_of, id_of, objects_around, record_checks, scene_seen, seen, wanted, wish_of}
 use Rattle.host_calls.specs.Agreement.{CallsAgree, IsRecorded, Passes}
 use Rattle.host_calls.proofs.SeenStands.{around_stands, its_part, seen_stands, stands_in_part}
 
@@ -49,6 +50,11 @@ hold_parts (check ∷ early) late holds =
     (ap (λ (b : Bool). b && all_hold early) first.0 ∙ rest.0, rest.1)
 
 -- ---- group by group, of one actor
+
+-- The amount that is recorded is that of the call.
+amount_again : (action : Action) (found : Option ℕ) → (is_amount action found && true) ≡ true → (is_amount action (Some (unwrap_or found 0)) && true) ≡ true
+amount_again action None holds = absurd cc
+amount_again action (Some amount) holds = holds
 
 part_again : (needed : Option Part) (one other : Scene) → one.actor ≡ other.actor → all_hold (part_checks needed one) ≡ true → all_hold (part_checks needed other) ≡ true
 part_again None one other same holds = refl
@@ -101,6 +107,7 @@ further_lower Pickup scene amount some holds = holds
 further_lower Harvest scene amount some holds = holds
 further_lower Repair scene amount some holds = holds
 further_lower Build scene amount some holds = holds
+further_lower Move scene amount some holds = holds
 further_lower _ scene amount some holds = refl
 
 further_moved : (action : Action) (scene : Scene) (actor target : Option Placed) (around : List Object) → scene.actor ≡ actor → scene.target ≡ target → scene.around ≡ around
@@ -122,6 +129,10 @@ module _ (scene : Scene) (actor target : Option Placed) (around : List Object) (
   alone holds =
       further_lower DropLoad (record scene { actor = actor; target = scene.target; around = around }) amount some (further_moved DropLoad scene actor scene.target around same_actor refl same_around holds)
 
+  alone_moving : all_hold (further_checks Move scene) ≡ true → all_hold (further_checks Move again) ≡ true
+  alone_moving holds =
+      further_lower Move (record scene { actor = actor; target = scene.target; around = around }) amount some (further_moved Move scene actor scene.target around same_actor refl same_around holds)
+
   further_again : (action : Action) → ((r : ℕ) → max_range action ≡ Some r → scene.target ≡ target) → all_hold (further_checks action scene) ≡ true → all_hold (further_checks action again) ≡ true
   further_again DropLoad same_target holds = alone holds
   further_again Transfer same_target holds = beside Transfer (same_target 1 refl) holds
@@ -130,6 +141,7 @@ module _ (scene : Scene) (actor target : Option Placed) (around : List Object) (
   further_again Harvest same_target holds = beside Harvest (same_target 1 refl) holds
   further_again Repair same_target holds = beside Repair (same_target 3 refl) holds
   further_again Build same_target holds = beside Build (same_target 3 refl) holds
+  further_again Move same_target holds = alone_moving holds
   further_again _ same_target holds = refl
 
 -- Where an action has a range, its target is within it.
@@ -163,16 +175,16 @@ module _ (action : Action) (sight : Sight) (id target amount : ℤ) (actor stand
 
   pub all_again : all_hold (checks action one) ≡ true → all_hold (checks action other) ≡ true
   all_again holds =
-      let last = hold_parts (creep_checks one ++ amount_checks one ++ part_checks (needed_part action) one ++ target_checks (max_range action) action one) (further_checks action one) holds in
-      let late = hold_parts (creep_checks one ++ amount_checks one ++ part_checks (needed_part action) one) (target_checks (max_range action) action one) last.0 in
-      let early = hold_parts (creep_checks one ++ amount_checks one) (part_checks (needed_part action) one) late.0 in
-      let first = hold_parts (creep_checks one) (amount_checks one) early.0 in
+      let last = hold_parts (creep_checks one ++ amount_checks action one ++ part_checks (needed_part action) one ++ target_checks (max_range action) action one) (further_checks action one) holds in
+      let late = hold_parts (creep_checks one ++ amount_checks action one ++ part_checks (needed_part action) one) (target_checks (max_range action) action one) last.0 in
+      let early = hold_parts (creep_checks one ++ amount_checks action one) (part_checks (needed_part action) one) late.0 in
+      let first = hold_parts (creep_checks one) (amount_checks action one) early.0 in
       let least : 1 ≤ one.least = omega arith in
       let same_target : (r : ℕ) → max_range action ≡ Some r → one.target ≡ standing = λ r ranged. near r (within_range (max_range action) action one late.1 r ranged) in
-      hold_both (creep_checks other ++ amount_checks other ++ part_checks (needed_part action) other ++ target_checks (max_range action) action other) (further_checks action other)
-      (hold_both (creep_checks other ++ amount_checks other ++ part_checks (needed_part action) other) (target_checks (max_range action) action other)
-      (hold_both (creep_checks other ++ amount_checks other) (part_checks (needed_part action) other)
-      (hold_both (creep_checks other) (amount_checks other) (creep_again first.0) refl)
+      hold_both (creep_checks other ++ amount_checks action other ++ part_checks (needed_part action) other ++ target_checks (max_range action) action other) (further_checks action other)
+      (hold_both (creep_checks other ++ amount_checks action other ++ part_checks (needed_part action) other) (target_checks (max_range action) action other)
+      (hold_both (creep_checks other ++ amount_checks action other) (part_checks (needed_part action) other)
+      (hold_both (creep_checks other) (amount_checks action other) (creep_again first.0) (amount_again action (amount_of amount) first.1))
       (part_again (needed_part action) one other same early.1))
       (target_again (max_range action) action one other same near late.1))
       (further_again one actor standing around (Some entry.amount) same same_around least action same_target last.1)

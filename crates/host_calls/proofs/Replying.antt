@@ -6,7 +6,7 @@ use Rattle.std.proofs.lemmas.List.{length-take}
 use Rattle.game_tables.specs.Codes.{code_number}
 use Rattle.game_tables.specs.Limits.{most_memory}
 use Rattle.game_tables.specs.declared.action.Action.{Action}
-use Rattle.game_tables.specs.declared.action.Action.TheVariants.{DropLoad, Transfer, Withdraw, Pickup, Harvest, Repair, Build}
+use Rattle.game_tables.specs.declared.action.Action.TheVariants.{DropLoad, Transfer, Withdraw, Pickup, Harvest, Repair, Build, Move}
 use Rattle.game_tables.specs.declared.code.Code.{Code}
 use Rattle.game_tables.specs.declared.code.Code.TheVariants.{Done, InvalidArgs}
 use Rattle.intent_book.specs.declared.intent.Intent.{Intent}
@@ -51,6 +51,8 @@ reply_of_size call.Repair desk memory args =
     act_size Repair desk memory (argument args 0) (argument args 1) (pos 0)
 reply_of_size call.Build desk memory args =
     act_size Build desk memory (argument args 0) (argument args 1) (pos 0)
+reply_of_size call.Move desk memory args =
+    act_size Move desk memory (argument args 0) (pos 0) (argument args 1)
 reply_of_size _ desk memory args = (refl, refl)
 
 reply_to_size : (found : Option Call) (desk : Desk) (memory : Memory) (args : List ℤ) → KeepsSize memory (reply_to found desk memory args)
@@ -109,6 +111,8 @@ reply_of_unchanged call.Repair desk memory args =
     act_unchanged Repair desk memory (argument args 0) (argument args 1) (pos 0)
 reply_of_unchanged call.Build desk memory args =
     act_unchanged Build desk memory (argument args 0) (argument args 1) (pos 0)
+reply_of_unchanged call.Move desk memory args =
+    act_unchanged Move desk memory (argument args 0) (pos 0) (argument args 1)
 reply_of_unchanged _ desk memory args = λ _. (refl, refl)
 
 reply_to_unchanged : (found : Option Call) (desk : Desk) (memory : Memory) (args : List ℤ) → ChangesOnlyAt0 desk memory (reply_to found desk memory args)

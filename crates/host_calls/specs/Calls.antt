@@ -12,7 +12,8 @@ all_calls =
     call.Tick ∷ call.Me ∷ call.Allowance ∷ call.Bucket ∷ call.Points ∷ call.Level ∷ call.Rooms ∷ call.Room
     ∷ call.RoomName ∷ call.Terrain ∷ call.Count ∷ call.Find ∷ call.Get
     ∷ call.MemoryLength ∷ call.MemoryRead ∷ call.MemoryWrite ∷ call.DropLoad ∷ call.Transfer ∷ call.Withdraw
-    ∷ call.Pickup ∷ call.Harvest ∷ call.Repair ∷ call.Build ∷ []
+    ∷ call.Pickup ∷ call.Harvest ∷ call.Repair ∷ call.Build
+    ∷ call.Move ∷ []
 
 -- the call of a number
 abbrev pub call_at : ℕ → Option Call
@@ -49,6 +50,7 @@ row call.Pickup = record { name = codes "pickup"; params = I64 ∷ I64 ∷ []; r
 row call.Harvest = record { name = codes "harvest"; params = I64 ∷ I64 ∷ []; result = I32 }
 row call.Repair = record { name = codes "repair"; params = I64 ∷ I64 ∷ []; result = I32 }
 row call.Build = record { name = codes "build"; params = I64 ∷ I64 ∷ []; result = I32 }
+row call.Move = record { name = codes "move"; params = I64 ∷ I32 ∷ []; result = I32 }
 
 -- The signature is that of the call.
 pub record IsSignature (sig : HostSig) (of : Call) : Type 0 where

@@ -4,7 +4,7 @@ use Rattle.std.specs.Option.{unwrap_or}
 use Rattle.game_tables.specs.Codes.{code_number}
 use Rattle.game_tables.specs.Limits.{most_memory}
 use Rattle.game_tables.specs.declared.action.Action.{Action}
-use Rattle.game_tables.specs.declared.action.Action.TheVariants.{DropLoad, Transfer, Withdraw, Pickup, Harvest, Repair, Build}
+use Rattle.game_tables.specs.declared.action.Action.TheVariants.{DropLoad, Transfer, Withdraw, Pickup, Harvest, Repair, Build, Move}
 use Rattle.game_tables.specs.declared.code.Code.{Code}
 use Rattle.game_tables.specs.declared.code.Code.TheVariants.{Done, NotFound, Full, InvalidArgs}
 use Rattle.room_terrain.specs.Tiles.{ground_number}
@@ -200,6 +200,10 @@ repair_reply desk memory id target = act_reply Repair desk memory id target (pos
 abbrev pub build_reply : Desk → Memory → ℤ → ℤ → Reply
 build_reply desk memory id target = act_reply Build desk memory id target (pos 0)
 
+-- move: the amount is the number of the direction
+abbrev pub move_reply : Desk → Memory → ℤ → ℤ → Reply
+move_reply desk memory id direction = act_reply Move desk memory id (pos 0) direction
+
 -- ---- all calls
 
 abbrev pub reply_of : Call → Desk → Memory → List ℤ → Reply
@@ -230,6 +234,7 @@ reply_of call.Pickup desk memory args = pickup_reply desk memory (argument args 
 reply_of call.Harvest desk memory args = harvest_reply desk memory (argument args 0) (argument args 1)
 reply_of call.Repair desk memory args = repair_reply desk memory (argument args 0) (argument args 1)
 reply_of call.Build desk memory args = build_reply desk memory (argument args 0) (argument args 1)
+reply_of call.Move desk memory args = move_reply desk memory (argument args 0) (argument args 1)
 
 -- the reply to a call with as many arguments as its type has, and to any other
 abbrev pub reply_to : Option Call → Desk → Memory → List ℤ → Reply

@@ -28,9 +28,10 @@ pub enum Call {
     Harvest,
     Repair,
     Build,
+    Move,
 }
 
-static CALLS: [Call; 23] = [
+static CALLS: [Call; 24] = [
     Call::Tick,
     Call::Me,
     Call::Allowance,
@@ -54,6 +55,7 @@ static CALLS: [Call; 23] = [
     Call::Harvest,
     Call::Repair,
     Call::Build,
+    Call::Move,
 ];
 
 impl Call {

@@ -136,6 +136,7 @@ impl<'a, 'v> Desk<'a, 'v> {
             Call::Harvest => told(self.act(Action::Harvest, first, second, 0)),
             Call::Repair => told(self.act(Action::Repair, first, second, 0)),
             Call::Build => told(self.act(Action::Build, first, second, 0)),
+            Call::Move => told(self.act(Action::Move, first, 0, second)),
         }
     }
 

@@ -326,3 +326,29 @@ fn a_creep_may_be_in_the_way_of_a_building(rt: HostRuntime) -> Result<(), Fail> 
     check_codes(&rt, Action::Build, Some(&crowded), &rows);
     Ok(())
 }
+
+#[test]
+fn a_move_is_refused_by_its_first_check(rt: HostRuntime) {
+    let creep = thing(3, Kind::Creep, 1, 20, 20);
+    let storage = thing(4, Kind::Storage, 1, 21, 50);
+    let foreign = Object { owner: 2, ..creep };
+    let hurt = Object { hits: 100, ..creep };
+    let tired = Object { extra: 1, ..creep };
+    let dead = Object { hits: 0, ..tired };
+    let rows: [Row; 13] = [
+        (None, None, 0, Code::NotFound),
+        (Some(&storage), None, 0, Code::NotFound),
+        (Some(&foreign), None, 0, Code::NotOwner),
+        (Some(&dead), None, -1, Code::InvalidArgs),
+        (Some(&dead), None, 0, Code::InvalidArgs),
+        (Some(&dead), None, 9, Code::InvalidArgs),
+        (Some(&dead), None, 2_147_483_647, Code::InvalidArgs),
+        (Some(&dead), None, 1, Code::NoBodypart),
+        (Some(&tired), None, 8, Code::Tired),
+        (Some(&hurt), None, 1, Code::Done),
+        (Some(&creep), None, 1, Code::Done),
+        (Some(&creep), None, 8, Code::Done),
+        (Some(&creep), None, 0x1_0000_0005, Code::Done),
+    ];
+    check_codes(&rt, Action::Move, None, &rows);
+}

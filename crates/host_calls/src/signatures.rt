@@ -4,7 +4,7 @@ ghost use Rattle.host_calls.specs.Calls.{AreSignatures, all_calls, call_at, row}
 
 use wasm_module::{HostSig, ValType};
 
-static SIGNATURES: [HostSig; 23] = [
+static SIGNATURES: [HostSig; 24] = [
     HostSig {
         name: "tick",
         params: &[],
@@ -118,6 +118,11 @@ static SIGNATURES: [HostSig; 23] = [
     HostSig {
         name: "build",
         params: &[ValType::I64, ValType::I64],
+        result: Some(ValType::I32),
+    },
+    HostSig {
+        name: "move",
+        params: &[ValType::I64, ValType::I32],
         result: Some(ValType::I32),
     },
 ];

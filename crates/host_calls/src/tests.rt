@@ -42,6 +42,7 @@ fn calls_have_names_numbers_and_arguments(rt: HostRuntime) -> Result<(), Fail> {
         (20, Call::Harvest, "harvest", 2),
         (21, Call::Repair, "repair", 2),
         (22, Call::Build, "build", 2),
+        (23, Call::Move, "move", 2),
     ];
     assert_eq!(rt; host_sigs().len(), calls.len());
     for (number, call, name, arguments) in calls {
@@ -51,8 +52,8 @@ fn calls_have_names_numbers_and_arguments(rt: HostRuntime) -> Result<(), Fail> {
         assert_eq!(rt; Call::of_number(number), Some(call));
         assert_eq!(rt; parameters(number), Some(arguments));
     }
-    assert_eq!(rt; Call::of_number(23), None);
-    assert_eq!(rt; parameters(23), None);
+    assert_eq!(rt; Call::of_number(24), None);
+    assert_eq!(rt; parameters(24), None);
     assert_eq!(rt; Call::of_number(u32::MAX), None);
     assert_eq!(rt; parameters(u32::MAX), None);
     Ok(())
@@ -160,7 +161,7 @@ fn check_answers(rt: &impl Abort, alloc: Global, view: &View) -> Result<(), Allo
     let mut desk = Desk::new(alloc, view, player, b"text")?;
     let mut pages = Pages::new(alloc, 0, 0)?;
     let none: &[i64] = &[];
-    let rows: [(u32, &[i64], i64); 37] = [
+    let rows: [(u32, &[i64], i64); 39] = [
         (0, none, 7),
         (1, none, 1),
         (2, none, 50),
@@ -190,7 +191,8 @@ fn check_answers(rt: &impl Abort, alloc: Global, view: &View) -> Result<(), Allo
         (20, &[7, 8], -5),
         (21, &[7, 8], -5),
         (22, &[7, 8], -5),
-        (23, none, -10),
+        (23, &[7, 1], -5),
+        (24, none, -10),
         (0, &[1], -10),
         (7, none, -10),
         (16, &[7], -10),
@@ -198,6 +200,7 @@ fn check_answers(rt: &impl Abort, alloc: Global, view: &View) -> Result<(), Allo
         (19, &[7], -10),
         (19, &[7, 8, 1], -10),
         (22, &[7, 8, 1], -10),
+        (23, &[7], -10),
     ];
     for (call, args, answer) in rows {
         assert_eq!(rt; asked(&mut desk, call, args, &mut pages), answer);

@@ -18,12 +18,12 @@ use Rattle.world_rules.proofs.Follows.{follows_self}
 use Rattle.world_rules.proofs.Lifting.{frame_stored}
 use Rattle.world_rules.proofs.Same.{same_lists, tables_at}
 use Rattle.room_rules.specs.Calls.{IsReady}
+use Rattle.room_rules.specs.Within.{between}
 use Rattle.room_rules.specs.RoomRules.{is_player}
 use Rattle.room_rules.specs.Followed.{part_stored, FollowsAt}
 use Rattle.room_rules.proofs.Sound.{sound_keeps}
 use Rattle.room_rules.proofs.Followed.{followed_sound}
 use Rattle.ruled_tick.specs.inner.Entered.{entered_in, entered_all, many_in, widened, IsRuled, IsRuledIn, HasRoomFor, IsActed}
-use Rattle.ruled_tick.specs.inner.Ticked.{ticked_room, AreInPlace, IsRuledRooms}
 use Rattle.ruled_tick.proofs.Actions.{entered_append}
 use Rattle.ruled_tick.proofs.Entered.{frame_at, is_ready, ruled_sound, ruled_world}
 use Rattle.ruled_tick.proofs.Places.{get_set, split_at}
@@ -35,7 +35,7 @@ module _ (stored : Stored) (entries : List Entry) (rooms : List Room) (sound : I
   abbrev now : Stored
   now = record stored { rooms = rooms }
 
-  wide_follows : (k n : ℕ) (found : Option Room) → slice_get stored.rooms k ≡ found → FollowsAt (is_player (world_of stored)) found (option_map (widened n) found)
+  wide_follows : (k n : ℕ) (found : Option Room) → slice_get stored.rooms k ≡ found → FollowsAt (is_player (world_of stored)) between found (option_map (widened n) found)
   wide_follows k n None is = tt
   wide_follows k n (Some room) is = record {
     name = refl;
@@ -48,7 +48,7 @@ module _ (stored : Stored) (entries : List Entry) (rooms : List Room) (sound : I
 
   wide_sound : IsSound now
   wide_sound = followed_sound stored now sound (λ k.
-      subst (FollowsAt (is_player (world_of stored)) (slice_get stored.rooms k)) (sym (are k)) (wide_follows k (many_in k entries) (slice_get stored.rooms k) refl))
+      subst (FollowsAt (is_player (world_of stored)) between (slice_get stored.rooms k)) (sym (are k)) (wide_follows k (many_in k entries) (slice_get stored.rooms k) refl))
       (record { rising = sound.accounts; players = λ player listed. listed; fewer = λ player. omega arith })
 
   wide_listed : (n : ℕ) (found : Option Room) → option_map listed_room (option_map (widened n) found) ≡ option_map listed_room found
@@ -176,27 +176,3 @@ acted_next stored entries i entry rooms inside is acted =
 pub acted_then : (stored : Stored) (entries : List Entry) (i : ℕ) (entry : Entry) (rooms : List Room) → i < length entries → entry ≡ get_or entries i entry → IsActed stored (take i entries ++ entry ∷ []) (drop (i + 1) entries) rooms → IsActed stored (take (i + 1) entries) (drop (i + 1) entries) rooms
 acted_then stored entries i entry rooms inside is acted =
     subst (λ (done : List Entry). IsActed stored done (drop (i + 1) entries) rooms) (ap (λ (e : Entry). take i entries ++ e ∷ []) is ∙ sym (take_more entries i entry inside)) acted
-
--- ---- after the last entry
-
-ticked_index : (index : ℕ) (found : Option Room) (room : Room) → ((old : Room) → found ≡ Some old → old.table.index ≡ index) → option_map ticked_room found ≡ Some room → room.table.index ≡ index
-ticked_index index None room places at = absurd cc
-ticked_index index (Some old) room places at =
-    let same : ticked_room old ≡ room = cc in
-    ap (λ (r : Room). r.table.index) (sym same) ∙ places old refl
-
-pub ticked_in_place : (rooms : List Room) → AreInPlace rooms → AreInPlace (map ticked_room rooms)
-ticked_in_place rooms places index room at =
-    ticked_index index (slice_get rooms index) room (λ old is. places index old is) (sym (slice_get-map ticked_room rooms index) ∙ at)
-
-pub acted_last : (stored : Stored) (entries : List Entry) (i : ℕ) (rooms : List Room) (next : Stored) → length entries ≤ i → IsActed stored (take i entries) (drop i entries) rooms
-    → next ≡ record { tick = stored.tick + 1; rooms = map ticked_room rooms; accounts = [] } → IsRuledRooms stored entries next
-acted_last stored entries i rooms next past acted is = record {
-  acted = record stored { rooms = rooms };
-  tick = refl;
-  accounts = refl;
-  rooms = acted.many;
-  sound = acted.sound;
-  same = acted.same ∙ ap (λ (done : List Entry). entered_all (world_of stored) (map placed done)) (take_all i entries past);
-  next = is;
-}

@@ -18,6 +18,7 @@ use Rattle.world_rules.proofs.Orderly.{book_orderly}
 use Rattle.world_rules.proofs.Lifting.{stored_part, in_room-stored, other_rooms, room_at}
 use Rattle.world_rules.proofs.Same.{once, tables_at}
 use Rattle.room_rules.specs.Calls.{IsReady}
+use Rattle.room_rules.specs.Within.{between}
 use Rattle.room_rules.specs.RoomRules.{KeepsRoomRules, is_player}
 use Rattle.room_rules.specs.Followed.{part_stored, FollowsRoom, FollowsAt, FollowRooms}
 use Rattle.room_rules.proofs.Sound.{sound_keeps}
@@ -30,7 +31,7 @@ abbrev pub frame_at : Option Room → Option Frame
 frame_at found = option_map (λ room. (listed_room room).frame) found
 
 -- a room that stays follows itself
-pub stays_at : (w : Stored) → IsSound w → (k : ℕ) (found : Option Room) → slice_get w.rooms k ≡ found → FollowsAt (is_player (world_of w)) found found
+pub stays_at : (w : Stored) → IsSound w → (k : ℕ) (found : Option Room) → slice_get w.rooms k ≡ found → FollowsAt (is_player (world_of w)) between found found
 stays_at w s k None is = tt
 stays_at w s k (Some room) is = record {
   name = refl;
@@ -58,7 +59,7 @@ module _ (tick : ℕ) (accounts : List Account) (before : List Room) (room : Roo
   place : room.table.index ≡ index
   place = s.places index room (room_at before room after)
 
-  keeps : KeepsRoomRules players false (part_stored room)
+  keeps : KeepsRoomRules players between (part_stored room)
   keeps = sound_keeps was s index room (room_at before room after)
 
   -- a table of a sound world is ready, where serials and memory are left
@@ -90,26 +91,26 @@ module _ (tick : ℕ) (accounts : List Account) (before : List Room) (room : Roo
     follows : Follows (part_stored room) (part_stored other)
     follows = subst (Follows (part_stored room)) (sym part_then) (book_orderly.effect entry (part_stored room))
 
-    follows_here : FollowsRoom players room other
+    follows_here : FollowsRoom players between room other
     follows_here = record {
       name = refl;
       terrain = refl;
       index = follows.index;
       rising = r.rising;
       follows = follows;
-      keeps = subst (KeepsRoomRules players false) (sym part_then) (rule_keeps entry.action entry players false (part_stored room) keeps);
+      keeps = subst (KeepsRoomRules players between) (sym part_then) (rule_keeps entry.action entry players between (part_stored room) keeps);
     }
 
-    follow : FollowRooms players was is
-    follow k = elim (k == index) as (λ b. (k == index) ≡ b → FollowsAt players (slice_get was.rooms k) (slice_get is.rooms k)) [
+    follow : FollowRooms players between was is
+    follow k = elim (k == index) as (λ b. (k == index) ≡ b → FollowsAt players between (slice_get was.rooms k) (slice_get is.rooms k)) [
       | true ↦ λ at. (
           let here : k ≡ index = eqb-true k index at in
           let first : slice_get was.rooms k ≡ Some room = ap (slice_get was.rooms) here ∙ room_at before room after in
           let second : slice_get is.rooms k ≡ Some other = ap (slice_get is.rooms) here ∙ room_at before other after in
-          subst (λ (found : Option Room). FollowsAt players found (slice_get is.rooms k)) (sym first) (subst (FollowsAt players (Some room)) (sym second) follows_here)
+          subst (λ (found : Option Room). FollowsAt players between found (slice_get is.rooms k)) (sym first) (subst (FollowsAt players between (Some room)) (sym second) follows_here)
           )
       | false ↦ λ apart.
-          subst (FollowsAt players (slice_get was.rooms k)) (other_rooms before room other after k (eqb-false k index apart)) (stays_at was s k (slice_get was.rooms k) refl)
+          subst (FollowsAt players between (slice_get was.rooms k)) (other_rooms before room other after k (eqb-false k index apart)) (stays_at was s k (slice_get was.rooms k) refl)
     ] refl
 
     pub ruled_sound : IsSound is

@@ -1,7 +1,7 @@
 -- A tick of what is stored, with its accounts after the runs, is the next world.
-use Rattle.std.proofs.Common.{◌≡◌, ℕ, List, [], ◌∷◌, map, length, refl, sym, ap, subst, ◌∙◌}
+use Rattle.std.proofs.Common.{◌≡◌, ℕ, ◌+◌, List, [], ◌∷◌, map, length, refl, sym, ap, subst, ◌∙◌}
 use Rattle.std.specs.Ordering.{nat_cmp}
-use Rattle.std.specs.FinMap.{from_entries, entries}
+use Rattle.std.specs.FinMap.{FinMap, from_entries, entries}
 use Rattle.intent_book.specs.declared.intent.Intent.{Intent}
 use Rattle.intent_book.specs.declared.player_run.PlayerRun.{PlayerRun}
 use Rattle.object_store.specs.declared.account.Account.{Account}
@@ -9,14 +9,17 @@ use Rattle.object_store.specs.Stored.{Stored}
 use Rattle.kept_entries.specs.declared.entries.Entry.{Entry}
 use Rattle.kept_entries.specs.Turns.{AreKept}
 use Rattle.world_rules.specs.World.{World, world_of}
-use Rattle.world_rules.specs.Tick.{account_raised, account_after, book, crossed, gained, intents_of, plain_world, next_world, ruled, run_of}
+use Rattle.world_rules.specs.Crossings.{crossed, crossed_over}
+use Rattle.world_rules.specs.Tick.{account_raised, account_after, book, gained, intents_of, plain_world, next_world, ruled, run_of}
 use Rattle.world_rules.specs.Sound.{IsSound}
 use Rattle.world_rules.proofs.Keys.{keyed, accounts_sorted, entries_of_sorted}
-use Rattle.std.proofs.lemmas.List.{length-map}
-use Rattle.ruled_tick.specs.inner.Ticked.{accounted, ticked, ticked_room, IsRuledRooms}
+use Rattle.object_store.specs.declared.world.Room.{Room}
+use Rattle.exit_crossing.specs.declared.leaving.Crosser.{Crosser}
+use Rattle.exit_crossing.specs.Crossing.{AreCrossers, IsReadyToCross, KeepsFrames}
+use Rattle.ruled_tick.specs.inner.Ticked.{accounted, IsRuledRooms}
 use Rattle.ruled_tick.proofs.Actions.{none_gained}
-use Rattle.ruled_tick.proofs.Steps.{ticked-IsRuled}
 use Rattle.ruled_tick.proofs.Follows.{accounted-player, changed-IsSound}
+use Rattle.ruled_tick.proofs.Leaving.{as_many, over_accounts, over_other, over_tick}
 
 abbrev player_of : Account → ℕ
 player_of account = account.player
@@ -39,55 +42,87 @@ module _ (change : ℕ → ℕ → Account → Account) (same : (account : Accou
       let after : World = ruled book crossed world list in
       record after { accounts = from_entries (map (λ (e : ℕ × Account). (e.0, change (gained book world list e.0) e.0 e.1)) (entries after.accounts)) }
 
-  -- what is stored after the rooms of a tick, with its accounts changed
-  pub earned_is : (w after_rooms : Stored) (list : List Intent) → IsSound w → after_rooms.accounts ≡ w.accounts → world_of after_rooms ≡ ruled book crossed (world_of w) list
-      → world_of (record after_rooms { accounts = map earned w.accounts }) ≡ with_earned (world_of w) list
+  -- a world that is ruled but for its accounts, with those changed
+  pub earned_is : (w : Stored) (after_rooms : World) (list : List Intent) → IsSound w → after_rooms.accounts ≡ (world_of w).accounts → after_rooms ≡ ruled book crossed (world_of w) list
+      → record after_rooms { accounts = from_entries (keyed player_of (map earned w.accounts)) } ≡ with_earned (world_of w) list
   earned_is w after_rooms list sound accounts is =
       let gain : ℕ → ℕ = gained book (world_of w) list in
       let changed : List (ℕ × Account) → List (ℕ × Account) = λ es. map (λ (e : ℕ × Account). (e.0, change (gain e.0) e.0 e.1)) es in
-      let after : World → World = λ world. record world { accounts = from_entries (changed (entries world.accounts)) } in
-      let with_accounts : List (ℕ × Account) → World = λ es. record (world_of after_rooms) { accounts = from_entries es } in
+      let with_accounts : List (ℕ × Account) → World = λ es. record after_rooms { accounts = from_entries es } in
       let none : (player : ℕ) → gain player ≡ 0 = none_gained (world_of w) list in
       sym (
-      ap after (sym is)
-      ∙ ap (λ (all : List Account). with_accounts (changed (entries (from_entries {R = nat_cmp} (keyed player_of all))))) accounts
+      ap (λ (world : World). record world { accounts = from_entries (changed (entries world.accounts)) }) (sym is)
+      ∙ ap (λ (all : FinMap nat_cmp Account). with_accounts (changed (entries all))) accounts
       ∙ ap (λ (es : List (ℕ × Account)). with_accounts (changed es)) (entries_of_sorted (keyed player_of w.accounts) (accounts_sorted w.accounts sound.accounts))
       ∙ ap with_accounts (earned_keyed gain none w.accounts)
       )
 
--- of two stored worlds the second is the first after its rooms, with these accounts
-module _ (w : Stored) (list : List Entry) (sound : IsSound w) (next : Stored) (r : IsRuledRooms w list next) (f : Account → Account) (same : (account : Account) → (f account).player ≡ account.player)
-    (after : Stored) (is : after ≡ record next { accounts = map f w.accounts }) where
-  pub after_is : after ≡ record (ticked r.acted) { accounts = map f w.accounts }
-  after_is = is ∙ ap (λ (s : Stored). record s { accounts = map f w.accounts }) r.next
+-- The first world is ruled rooms with these accounts, and the second comes of it by the crossings.
+module _ (w : Stored) (entries : List Entry) (sound : IsSound w) (next : Stored) (crossers : List Crosser) (r : IsRuledRooms w entries next crossers) (f : Account → Account) (same : (account : Account) → (f account).player ≡ account.player)
+    (pushed : Stored) (is : pushed ≡ record next { accounts = map f w.accounts }) where
+  ids : List ℕ
+  ids = map (λ crosser. crosser.id) crossers
 
-  pub after-IsSound : IsSound after
-  after-IsSound = subst IsSound (sym (after_is ∙ (λ i. record (ticked r.acted) { accounts = map f (sym r.accounts i) }))) (changed-IsSound f same r.acted r.sound)
+  pushed_is : pushed ≡ record r.rested { tick = w.tick + 1; accounts = map f w.accounts }
+  pushed_is = is ∙ ap (λ (s : Stored). record s { accounts = map f w.accounts }) r.next
 
-module _ (w : Stored) (list : List Entry) (sound : IsSound w) (next : Stored) (r : IsRuledRooms w list next) where
-  module _ (after : Stored) (is : after ≡ record next { accounts = map (account_raised 0) w.accounts }) where
-    -- with the points raised
-    pub plain-IsRuled : (intents : List Intent) → AreKept (world_of w) intents list → world_of after ≡ plain_world (world_of w) intents
-    plain-IsRuled intents are =
-        ap world_of (after_is w list sound next r (account_raised 0) (λ account. refl) after is)
-        ∙ earned_is (λ gain player account. account_raised gain account) (λ account. refl) w (ticked r.acted) intents sound r.accounts (ticked-IsRuled w r.acted intents list are r.sound r.same)
+  pub pushed-IsSound : IsSound pushed
+  pushed-IsSound =
+      subst IsSound (sym (pushed_is ∙ (λ i. record r.rested { tick = w.tick + 1; accounts = map f (sym r.accounts i) }))) (changed-IsSound f same r.rested (w.tick + 1) r.sound)
 
-    pub plain-IsSound : IsSound after
-    plain-IsSound = after-IsSound w list sound next r (account_raised 0) (λ account. refl) after is
+  pub pushed_rooms : pushed.rooms ≡ r.rested.rooms
+  pushed_rooms = ap (λ (s : Stored). s.rooms) pushed_is
 
-  module _ (runs : List PlayerRun) (after : Stored) (is : after ≡ record next { accounts = map (accounted runs) w.accounts }) where
-    -- with the accounts after the runs
-    pub ran-IsNext : AreKept (world_of w) (intents_of runs) list → world_of after ≡ next_world (world_of w) runs
-    ran-IsNext are =
-        ap world_of (after_is w list sound next r (accounted runs) (accounted-player runs) after is)
-        ∙ earned_is (λ gain player account. account_after gain account (run_of player runs)) (accounted-player runs) w (ticked r.acted) (intents_of runs) sound r.accounts (ticked-IsRuled w r.acted (intents_of runs) list are r.sound r.same)
+  pub pushed_ready : IsReadyToCross pushed.rooms
+  pushed_ready = subst IsReadyToCross (sym pushed_rooms) r.ready
 
-    pub ran-IsSound : IsSound after
-    ran-IsSound = after-IsSound w list sound next r (accounted runs) (accounted-player runs) after is
+  pub pushed_crossers : AreCrossers pushed.rooms crossers
+  pushed_crossers = subst (λ (rooms : List Room). AreCrossers rooms crossers) (sym pushed_rooms) r.crossers
 
--- there are as many rooms
-pub ruled_many : (w : Stored) (list : List Entry) (next : Stored) → IsRuledRooms w list next → length next.rooms ≡ length w.rooms
-ruled_many w list next r = ap (λ (s : Stored). length s.rooms) r.next ∙ length-map r.acted.rooms ticked_room ∙ r.rooms
+  -- the world before its accounts change
+  abbrev gone : World
+  gone = crossed_over (map (λ crosser. crosser.id) crossers) (world_of r.rested)
+
+  abbrev after_rooms : World
+  after_rooms = record gone { tick = w.tick + 1 }
+
+  gone_accounts : gone.accounts ≡ (world_of w).accounts
+  gone_accounts =
+      over_accounts (map (λ crosser. crosser.id) crossers) (world_of r.rested) ∙ ap (λ (accounts : List Account). from_entries {R = nat_cmp} (keyed player_of accounts)) r.accounts
+
+  pub is_ruled : (intents : List Intent) → AreKept (world_of w) intents entries → after_rooms ≡ ruled book crossed (world_of w) intents
+  is_ruled intents are =
+      let tick : gone.tick ≡ w.tick = over_tick (map (λ crosser. crosser.id) crossers) (world_of r.rested) ∙ r.tick in
+      (λ i. record gone { tick = sym tick i + 1 })
+      ∙ ap (λ (world : World). record world { tick = world.tick + 1 }) (r.same intents are)
+
+  module _ (later : Stored) (crossing : world_of later ≡ crossed_over (map (λ crosser. crosser.id) crossers) (world_of pushed)) where
+    pub later_is : world_of later ≡ record after_rooms { accounts = from_entries (keyed player_of (map f w.accounts)) }
+    later_is =
+        crossing
+        ∙ ap (λ (s : Stored). crossed_over (map (λ crosser. crosser.id) crossers) (world_of s)) pushed_is
+        ∙ over_other (w.tick + 1) (from_entries (keyed player_of (map f w.accounts))) (map (λ crosser. crosser.id) crossers) (world_of r.rested)
+
+    pub many : KeepsFrames pushed later → length later.rooms ≡ length w.rooms
+    many keeps = as_many pushed.rooms later.rooms keeps.rooms ∙ ap length pushed_rooms ∙ r.rooms
+
+-- with the points raised
+pub plain-IsRuled : (w : Stored) (entries : List Entry) → IsSound w → (next : Stored) (crossers : List Crosser) → IsRuledRooms w entries next crossers → (pushed later : Stored) → pushed ≡ record next { accounts = map (account_raised 0) w.accounts }
+    → world_of later ≡ crossed_over (map (λ crosser. crosser.id) crossers) (world_of pushed) → (intents : List Intent) → AreKept (world_of w) intents entries → world_of later ≡ plain_world (world_of w) intents
+plain-IsRuled w entries sound next crossers r pushed later is crossing intents are =
+    later_is w entries sound next crossers r (account_raised 0) (λ account. refl) pushed is later crossing
+    ∙ earned_is (λ gain player account. account_raised gain account) (λ account. refl) w (after_rooms w entries sound next crossers r (account_raised 0) (λ account. refl) pushed is) intents sound
+    (gone_accounts w entries sound next crossers r (account_raised 0) (λ account. refl) pushed is)
+    (is_ruled w entries sound next crossers r (account_raised 0) (λ account. refl) pushed is intents are)
+
+-- with the accounts after the runs
+pub ran-IsNext : (w : Stored) (entries : List Entry) → IsSound w → (next : Stored) (crossers : List Crosser) → IsRuledRooms w entries next crossers → (runs : List PlayerRun) (pushed later : Stored) → pushed ≡ record next { accounts = map (accounted runs) w.accounts }
+    → world_of later ≡ crossed_over (map (λ crosser. crosser.id) crossers) (world_of pushed) → AreKept (world_of w) (intents_of runs) entries → world_of later ≡ next_world (world_of w) runs
+ran-IsNext w entries sound next crossers r runs pushed later is crossing are =
+    later_is w entries sound next crossers r (accounted runs) (accounted-player runs) pushed is later crossing
+    ∙ earned_is (λ gain player account. account_after gain account (run_of player runs)) (accounted-player runs) w (after_rooms w entries sound next crossers r (accounted runs) (accounted-player runs) pushed is) (intents_of runs) sound
+    (gone_accounts w entries sound next crossers r (accounted runs) (accounted-player runs) pushed is)
+    (is_ruled w entries sound next crossers r (accounted runs) (accounted-player runs) pushed is (intents_of runs) are)
 
 -- ---- a copy of a world
 

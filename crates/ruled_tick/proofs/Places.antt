@@ -110,3 +110,7 @@ split_at {A} (first ∷ xs) (suc i) x y at =
 -- a slice that was lent and written back
 pub written_back : {A : Type 0} (xs new : List A) (len : ℕ) → length new ≡ length xs → len ≡ length xs → take len (new ++ drop (length new) xs) ≡ new
 written_back {A} xs new len long same = ap (λ (n : ℕ). take n (new ++ drop (length new) xs)) (same ∙ sym long) ∙ take-append_seam new (drop (length new) xs)
+
+pub read_middle : {A : Type 0} (before : List A) (x : A) (after : List A) → slice_get (before ++ x ∷ after) (length before) ≡ Some x
+read_middle [] x after = refl
+read_middle (first ∷ before) x after = read_middle before x after

@@ -97,7 +97,7 @@ fn entries_of_two_rooms_are_ruled(rt: HostRuntime) -> Result<(), Fail> {
         // (another player's creep, and nobody's entry)
         entry(2, Action::DropLoad, 4, 1),
         entry(0, Action::DropLoad, 6, 1),
-        // (an action that is not in force)
+        // (a harvest of nothing, by a creep without a part to work with)
         entry(2, Action::Harvest, 4_294_967_298, 0),
         // (no load)
         entry(2, Action::DropLoad, 4_294_967_298, 5),

@@ -1,69 +1,81 @@
 -- What one tick makes of what is stored.
-use Rattle.std.specs.Prelude.{◌≡◌, ℕ, ◌+◌, List, [], ◌++◌, length, map, filter_map, Option, option_and_then, Some, None, slice_get}
-use Rattle.std.specs.List.{AllByRecursion}
-use Rattle.game_tables.specs.Kinds.{source_capacity}
+use Rattle.std.specs.Prelude.{◌≡◌, ℕ, ◌+◌, ◌-◌, ◌*◌, ◌^◌, ◌<◌, ◌≤◌, ◌==◌, ◌&&◌, max, Bool, List, [], ◌++◌, length, map, Option, Some, None, slice_get, slice_index_or}
+use Rattle.std.specs.List.{AllByRecursion, filter}
+use Rattle.game_tables.specs.Actions.{action_number}
+use Rattle.game_tables.specs.declared.action.Action.TheVariants.{Move}
 use Rattle.object_store.specs.declared.account.Account.{Account}
-use Rattle.object_store.specs.declared.object.Object.{Object}
 use Rattle.object_store.specs.declared.world.Room.{Room}
-use Rattle.object_store.specs.Tables.{Table, IsOnTile}
+use Rattle.object_store.specs.Tables.{Table, IsRising, IsOnTile, HasNoId}
 use Rattle.object_store.specs.Stored.{Stored}
-use Rattle.object_store.specs.Controllers.{controller_among, is_taken}
+use Rattle.intent_book.specs.declared.intent.Intent.{Intent}
 use Rattle.intent_book.specs.declared.player_run.PlayerRun.{PlayerRun}
 use Rattle.kept_entries.specs.declared.entries.Entry.{Entry}
-use Rattle.kept_entries.specs.Turns.{placed}
+use Rattle.kept_entries.specs.Turns.{AreKept}
 use Rattle.world_rules.specs.World.{world_of}
-use Rattle.world_rules.specs.Tick.{account_after, run_of}
+use Rattle.world_rules.specs.RoomParts.{RoomPart}
+use Rattle.world_rules.specs.RuleBook.{Sums}
+use Rattle.world_rules.specs.RoomTick.{room_after_steps}
+use Rattle.world_rules.specs.Moves.{moved}
+use Rattle.world_rules.specs.Crossings.{crossed, crossed_over}
+use Rattle.world_rules.specs.Upkeep.{steps}
+use Rattle.world_rules.specs.Tick.{account_after, book, inner, run_of}
 use Rattle.world_rules.specs.Sound.{IsSound}
-use Rattle.world_rules.specs.Upkeep.{renewed_as, decayed_as}
-use Rattle.ruled_tick.specs.declared.upkeep.Upkept.{Upkept}
-use Rattle.ruled_tick.specs.declared.upkeep.Upkept.TheVariants.{Stays, Changes, Goes}
-use Rattle.ruled_tick.specs.inner.Entered.{entered_all}
+use Rattle.room_rules.specs.Calls.{IsMovable}
+use Rattle.room_rules.specs.Followed.{part_stored}
+use Rattle.exit_crossing.specs.declared.leaving.Crosser.{Crosser}
+use Rattle.exit_crossing.specs.Crossing.{AreCrossers, IsReadyToCross, most_arrivals}
 
--- ---- objects
+-- ---- moves
 
--- the capacity of the sources among the objects of a room
-abbrev pub capacity_among : List Object → ℕ
-capacity_among objects = source_capacity (is_taken (controller_among objects))
+-- The entry is a move of a creep in the room.
+abbrev pub is_move_in : ℕ → Entry → Bool
+is_move_in room entry = (entry.room == room) && (action_number entry.intent.action == action_number Move)
 
--- an object after its renewal, where sources have this capacity
-abbrev pub renewed_to : ℕ → Object → Option Object
-renewed_to capacity object = renewed_as object.kind capacity object
+-- the moves of a room among entries
+abbrev pub moves_in : ℕ → List Entry → List Intent
+moves_in room entries = map (λ entry. entry.intent) (filter (is_move_in room) entries)
 
--- an object after its decay
-abbrev pub decayed_by_kind : Object → Option Object
-decayed_by_kind object = decayed_as object.kind object
-
--- an object after the steps of upkeep, in their order
-abbrev pub upkept : ℕ → Object → Option Object
-upkept capacity object = option_and_then decayed_by_kind (renewed_to capacity object)
-
--- what is left of an object
-abbrev pub left_of : Object → Upkept → Option Object
-left_of object Stays = Some object
-left_of object (Changes left) = Some left
-left_of object Goes = None
+-- These are the moves of each of so many rooms.
+pub record AreMoves (rooms : ℕ) (entries : List Entry) (lists : List (List Intent)) : Type 0 where
+  pub long : length lists ≡ rooms
+  pub each : (room : ℕ) → room < rooms → slice_index_or lists room [] ≡ moves_in room entries
 
 -- ---- rooms
 
--- the objects of a room that are left, in their order
-abbrev pub ticked_table : Table → Table
-ticked_table table =
-    record table { objects = filter_map (upkept (capacity_among table.objects)) table.objects }
+-- what movement and upkeep make of a room's part
+abbrev pub ticked_part : List Intent → Sums → RoomPart → RoomPart
+ticked_part moves sums part = room_after_steps sums steps (moved moves part)
 
--- The objects before a place are kept up, and those from it on are still as they were.
-pub record IsUpkeptTo (capacity : ℕ) (start : Table) (place : ℕ) (now : Table) : Type 0 where
-  pub done : List Object
-  pub later : List Object
-  pub whole : start.objects ≡ done ++ later
-  pub count : length (filter_map (upkept capacity) done) ≡ place
-  pub table : now ≡ record start { objects = filter_map (upkept capacity) done ++ later }
-  pub tiles : AllByRecursion IsOnTile now.objects
+-- A table that is ready for movement, and no object has an id that the room will give.
+pub record IsReadyToTick (table : Table) : Type 0 where
+  pub movable : IsMovable table
+  pub fresh : (serial : ℕ) → table.next ≤ serial → serial < 2 ^ 32
+      → HasNoId (table.index * 2 ^ 32 + serial) table.objects
 
-abbrev pub ticked_room : Room → Room
-ticked_room room = record room { table = ticked_table room.table }
+-- It has serials and memory for as many objects as it has, and memory for those that may come beside.
+pub record HasMemory (old new : Table) : Type 0 where
+  pub serials : old.next + length old.objects ≤ 2 ^ 32 - 1
+  pub same : new ≡ record old { spare = max old.spare (length old.objects + most_arrivals) }
 
-abbrev pub ticked : Stored → Stored
-ticked stored = record stored { tick = stored.tick + 1; rooms = map ticked_room stored.rooms }
+-- A room after movement and upkeep.
+pub record IsTicked (moves : List Intent) (room later : Room) : Type 0 where
+  pub name : later.name ≡ room.name
+  pub terrain : later.terrain ≡ room.terrain
+  pub index : later.table.index ≡ room.table.index
+  pub part : (sums : Sums) → part_stored later ≡ ticked_part moves sums (part_stored room)
+  pub rising : IsRising later.table.objects
+  pub tiles : AllByRecursion IsOnTile later.table.objects
+  pub spare : most_arrivals ≤ later.table.spare
+
+abbrev pub IsTickedAt : List Intent → Option Room → Option Room → Type 0
+IsTickedAt moves None None = Unit {0}
+IsTickedAt moves (Some room) (Some later) = IsTicked moves room later
+IsTickedAt moves room later = ⊥
+
+-- All rooms after movement and upkeep.
+abbrev pub AreTicked : List Entry → List Room → List Room → Type 0
+AreTicked entries old new =
+    (index : ℕ) → IsTickedAt (moves_in index entries) (slice_get old index) (slice_get new index)
 
 -- an account after these runs, in which no player gains points
 abbrev pub accounted : List PlayerRun → Account → Account
@@ -73,12 +85,18 @@ accounted runs account = account_after 0 account (run_of account.player runs)
 abbrev pub AreInPlace : List Room → Type 0
 AreInPlace rooms = (index : ℕ) (room : Room) → slice_get rooms index ≡ Some room → room.table.index ≡ index
 
--- Without accounts, it is a tick of the rooms as these entries leave them.
-pub record IsRuledRooms (stored : Stored) (entries : List Entry) (after : Stored) : Type 0 where
-  pub acted : Stored
-  pub tick : acted.tick ≡ stored.tick
-  pub accounts : acted.accounts ≡ stored.accounts
-  pub rooms : length acted.rooms ≡ length stored.rooms
-  pub sound : IsSound acted
-  pub same : world_of acted ≡ entered_all (world_of stored) (map placed entries)
-  pub next : after ≡ record (ticked acted) { accounts = [] }
+-- Without accounts, it is a tick of the rooms up to crossings, and with these to cross it is the tick by any
+-- entries of which these are the ones that count.
+pub record IsRuledRooms (stored : Stored) (entries : List Entry) (later : Stored)
+    (list : List Crosser) : Type 0 where
+  pub rested : Stored
+  pub tick : rested.tick ≡ stored.tick
+  pub accounts : rested.accounts ≡ stored.accounts
+  pub rooms : length rested.rooms ≡ length stored.rooms
+  pub sound : IsSound rested
+  pub ready : IsReadyToCross rested.rooms
+  pub crossers : AreCrossers rested.rooms list
+  pub same : (intents : List Intent) → AreKept (world_of stored) intents entries
+      → crossed_over (map (λ crosser. crosser.id) list) (world_of rested)
+      ≡ crossed (inner book (world_of stored) intents).world
+  pub next : later ≡ record rested { tick = stored.tick + 1; accounts = [] }

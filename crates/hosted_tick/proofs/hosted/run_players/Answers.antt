@@ -1,5 +1,5 @@
 -- No more entries count than the runs want.
-use Rattle.std.proofs.Common.{◌≡◌, ◌≤◌, List, length, ap, sym, subst, arith}
+use Rattle.std.proofs.Common.{List, length, ap, sym, subst, arith}
 use Rattle.intent_book.specs.declared.player_run.PlayerRun.{PlayerRun}
 use Rattle.world_rules.specs.Tick.{intents_of}
 use Rattle.world_rules.specs.World.{world_of}

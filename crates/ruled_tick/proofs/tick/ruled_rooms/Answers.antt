@@ -1,10 +1,19 @@
-use Rattle.std.proofs.Common.{◌≡◌, ◌+◌, ◌^◌, ◌<◌, List, [], map, length, take, drop, option_map, slice_get, sym, ap, subst, ◌∙◌, arith}
-use Rattle.std.proofs.lemmas.List.{length-take-le}
+use Rattle.std.proofs.Common.{◌≡◌, ◌+◌, ◌^◌, ◌<◌, List, [], ◌++◌, map, length, take, drop, option_map, slice_get, sym, ap, subst, ◌∙◌, arith}
+use Rattle.std.specs.List.{AllByRecursion}
+use Rattle.std.proofs.lemmas.List.{length-map, length-take-le}
 use Rattle.object_store.specs.declared.world.Room.{Room}
+use Rattle.object_store.specs.Stored.{Stored}
+use Rattle.world_rules.specs.World.{world_of}
+use Rattle.world_rules.specs.Crossings.{crossers}
+use Rattle.object_store.specs.Tables.{IsOnTile}
+use Rattle.exit_crossing.specs.declared.leaving.Crosser.{Crosser}
+use Rattle.exit_crossing.specs.Crossing.{AreCrossers, AreIdsApart, rested_room}
 use Rattle.ruled_tick.specs.inner.Entered.{many_in, widened, IsActed, IsRuledIn}
-use Rattle.ruled_tick.specs.inner.Ticked.{ticked_room, AreInPlace}
-use Rattle.ruled_tick.proofs.Acted.{acted_first, acted_last, acted_more, acted_next, acted_ready, acted_then, ticked_in_place}
+use Rattle.ruled_tick.specs.inner.Ticked.{moves_in, AreInPlace, AreTicked, IsReadyToTick}
+use Rattle.ruled_tick.proofs.Acted.{acted_first, acted_more, acted_next, acted_ready, acted_then}
+use Rattle.ruled_tick.proofs.Moves.{actors_once}
 use Rattle.ruled_tick.proofs.Places.{written_back}
+use Rattle.ruled_tick.proofs.Ruled.{are_ruled, ready, ready_to_tick, ticked_ids, ticked_places, ticked_tiles}
 use Rattle.ruled_tick.proofs.tick.ruled_rooms.Goals as goal
 
 pub loop-entry-init : goal.loop-entry-init
@@ -51,24 +60,101 @@ loop-entry-preserved c =
     (acted_then world entries i entry new c.loop-entry-test.true c.entry-item.is
     (acted_more world (take i entries) entry (drop (i + 1) entries) items (acted_next world entries i entry items c.loop-entry-test.true c.entry-item.is c.loop-entry.invariant) new ruled))
 
-pub world_of_rooms-requires-clause-places : goal.world_of_rooms-requires-clause-places
-world_of_rooms-requires-clause-places c =
+pub tick_all-requires-clause-ready : goal.tick_all-requires-clause-ready
+tick_all-requires-clause-ready c = λ index room at.
+    let acted = c.loop-entry.invariant in
+    ready_to_tick (record c.args.world { rooms = c.loop-entry.rooms.items }) acted.sound index room (ap (λ (xs : List Room). slice_get xs index) (sym c.deref_mut-2.ensures.value) ∙ at)
+
+pub tick_all-requires-clause-once : goal.tick_all-requires-clause-once
+tick_all-requires-clause-once c = λ index. actors_once (world_of c.args.world) c.requires.kept.0 c.args.entries.now c.requires.kept.1 index
+
+pub all_crossers-requires-clause-places : goal.all_crossers-requires-clause-places
+all_crossers-requires-clause-places c = λ index room at.
+    let world = c.args.world in
+    let entries = c.args.entries.now in
+    let i = c.loop-entry.entry-index in
     let items = c.loop-entry.rooms.items in
     let new = c.tick_all.new.rooms in
     let value = c.deref_mut-2.ensures.value in
     let long : length new ≡ length c.deref_mut-2.result.now = c.tick_all.auto.rooms in
     let full : c.loop-entry.rooms.len ≡ length items = omega (arith, c.deref_mut-2.ensures.len, ap length value) in
-    subst AreInPlace (sym (written_back items new c.loop-entry.rooms.len (long ∙ ap length value) full ∙ c.tick_all.ensures ∙ ap (map ticked_room) value))
-    (ticked_in_place items c.loop-entry.invariant.sound.places)
+    let third : c.deref_mut-3.result.now ≡ new = c.deref_mut-3.ensures.value ∙ written_back items new c.loop-entry.rooms.len (long ∙ ap length value) full in
+    let ticked : AreTicked entries items new = subst (λ (xs : List Room). AreTicked entries xs new) value c.in_ok-tick_all.ensures in
+    ticked_places world entries c.requires.kept.0 c.requires.kept.1 i items c.loop-entry.invariant c.loop-entry-test.false new ticked index room (ap (λ (xs : List Room). slice_get xs index) (sym third) ∙ at)
+
+pub all_crossers-requires-clause-tiles : goal.all_crossers-requires-clause-tiles
+all_crossers-requires-clause-tiles c =
+    let world = c.args.world in
+    let entries = c.args.entries.now in
+    let i = c.loop-entry.entry-index in
+    let items = c.loop-entry.rooms.items in
+    let new = c.tick_all.new.rooms in
+    let value = c.deref_mut-2.ensures.value in
+    let long : length new ≡ length c.deref_mut-2.result.now = c.tick_all.auto.rooms in
+    let full : c.loop-entry.rooms.len ≡ length items = omega (arith, c.deref_mut-2.ensures.len, ap length value) in
+    let third : c.deref_mut-3.result.now ≡ new = c.deref_mut-3.ensures.value ∙ written_back items new c.loop-entry.rooms.len (long ∙ ap length value) full in
+    let ticked : AreTicked entries items new = subst (λ (xs : List Room). AreTicked entries xs new) value c.in_ok-tick_all.ensures in
+    subst (λ (xs : List Room). AllByRecursion (λ (room : Room). AllByRecursion IsOnTile room.table.objects) xs) (sym third)
+    (ticked_tiles world entries c.requires.kept.0 c.requires.kept.1 i items c.loop-entry.invariant c.loop-entry-test.false new ticked)
+
+pub all_crossers-requires-clause-ids : goal.all_crossers-requires-clause-ids
+all_crossers-requires-clause-ids c =
+    let world = c.args.world in
+    let entries = c.args.entries.now in
+    let i = c.loop-entry.entry-index in
+    let items = c.loop-entry.rooms.items in
+    let new = c.tick_all.new.rooms in
+    let value = c.deref_mut-2.ensures.value in
+    let long : length new ≡ length c.deref_mut-2.result.now = c.tick_all.auto.rooms in
+    let full : c.loop-entry.rooms.len ≡ length items = omega (arith, c.deref_mut-2.ensures.len, ap length value) in
+    let third : c.deref_mut-3.result.now ≡ new = c.deref_mut-3.ensures.value ∙ written_back items new c.loop-entry.rooms.len (long ∙ ap length value) full in
+    let ticked : AreTicked entries items new = subst (λ (xs : List Room). AreTicked entries xs new) value c.in_ok-tick_all.ensures in
+    subst AreIdsApart (sym third) (ticked_ids world entries c.requires.kept.0 c.requires.kept.1 i items c.loop-entry.invariant c.loop-entry-test.false new ticked)
+
+pub world_of_rooms-requires-clause-places : goal.world_of_rooms-requires-clause-places
+world_of_rooms-requires-clause-places c =
+    let world = c.args.world in
+    let entries = c.args.entries.now in
+    let i = c.loop-entry.entry-index in
+    let items = c.loop-entry.rooms.items in
+    let new = c.tick_all.new.rooms in
+    let value = c.deref_mut-2.ensures.value in
+    let long : length new ≡ length c.deref_mut-2.result.now = c.tick_all.auto.rooms in
+    let full : c.loop-entry.rooms.len ≡ length items = omega (arith, c.deref_mut-2.ensures.len, ap length value) in
+    let third : c.deref_mut-3.result.now ≡ new = c.deref_mut-3.ensures.value ∙ written_back items new c.loop-entry.rooms.len (long ∙ ap length value) full in
+    let ticked : AreTicked entries items new = subst (λ (xs : List Room). AreTicked entries xs new) value c.in_ok-tick_all.ensures in
+    let last = c.all_crossers.new.rooms in
+    let all_long : length last ≡ length c.deref_mut-3.result.now = c.all_crossers.auto.rooms in
+    let rested : last ≡ map rested_room new = c.in_ok-crossers.ensures.rested ∙ ap (map rested_room) third in
+    let second : List Room = take c.loop-entry.rooms.len (new ++ drop (length new) items) in
+    let same : second ≡ new = written_back items new c.loop-entry.rooms.len (long ∙ ap length value) full in
+    let final : take c.loop-entry.rooms.len (last ++ drop (length last) second) ≡ last =
+    written_back second last c.loop-entry.rooms.len (all_long ∙ ap length third ∙ sym (ap length same)) (full ∙ sym (ap length same ∙ long ∙ ap length value)) in
+    subst AreInPlace (sym (final ∙ rested)) (ready world entries c.requires.kept.0 c.requires.kept.1 i items c.loop-entry.invariant c.loop-entry-test.false new ticked).places
 
 pub returns-clause-rooms : goal.returns-clause-rooms
 returns-clause-rooms c =
     let world = c.args.world in
+    let entries = c.args.entries.now in
+    let i = c.loop-entry.entry-index in
     let items = c.loop-entry.rooms.items in
     let new = c.tick_all.new.rooms in
     let value = c.deref_mut-2.ensures.value in
     let long : length new ≡ length c.deref_mut-2.result.now = c.tick_all.auto.rooms in
     let full : c.loop-entry.rooms.len ≡ length items = omega (arith, c.deref_mut-2.ensures.len, ap length value) in
-    let rooms = written_back items new c.loop-entry.rooms.len (long ∙ ap length value) full ∙ c.tick_all.ensures ∙ ap (map ticked_room) value in
-    acted_last world c.args.entries.now c.loop-entry.entry-index items c.in_ok-next.next c.loop-entry-test.false c.loop-entry.invariant
-    (c.in_ok-next.ensures ∙ (λ i. record { tick = c.tick-tick.ensures i + 1; rooms = rooms i; accounts = [] }))
+    let third : c.deref_mut-3.result.now ≡ new = c.deref_mut-3.ensures.value ∙ written_back items new c.loop-entry.rooms.len (long ∙ ap length value) full in
+    let ticked : AreTicked entries items new = subst (λ (xs : List Room). AreTicked entries xs new) value c.in_ok-tick_all.ensures in
+    let last = c.all_crossers.new.rooms in
+    let all_long : length last ≡ length c.deref_mut-3.result.now = c.all_crossers.auto.rooms in
+    let rested : last ≡ map rested_room new = c.in_ok-crossers.ensures.rested ∙ ap (map rested_room) third in
+    let second : List Room = take c.loop-entry.rooms.len (new ++ drop (length new) items) in
+    let same : second ≡ new = written_back items new c.loop-entry.rooms.len (long ∙ ap length value) full in
+    let final : take c.loop-entry.rooms.len (last ++ drop (length last) second) ≡ last =
+    written_back second last c.loop-entry.rooms.len (all_long ∙ ap length third ∙ sym (ap length same)) (full ∙ sym (ap length same ∙ long ∙ ap length value)) in
+    let crossing : List Crosser = c.in_ok-crossers.crossers.items in
+    are_ruled world entries c.requires.kept.0 c.requires.kept.1 i items c.loop-entry.invariant c.loop-entry-test.false new ticked crossing
+    (λ s at. c.in_ok-crossers.ensures.list s (at ∙ sym third))
+    (subst (λ (xs : List Room). AreCrossers xs crossing) rested c.in_ok-crossers.ensures.crossers)
+    c.in_ok-next.next
+    (c.in_ok-next.ensures ∙ (λ j. record { tick = c.tick-tick.ensures j + 1; rooms = (final ∙ rested) j; accounts = [] }))
+    (long ∙ ap length value)

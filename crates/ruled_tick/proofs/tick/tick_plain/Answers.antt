@@ -1,4 +1,6 @@
-use Rattle.std.proofs.Common.{◌≡◌, length, ap, arith}
+use Rattle.std.proofs.Common.{◌≡◌, List, length, ap, sym, subst, arith}
+use Rattle.intent_book.specs.declared.intent.Intent.{Intent}
+use Rattle.kept_entries.specs.Turns.{AreKept}
 use Rattle.std.proofs.lemmas.Result.{IfOk-weaker}
 use Rattle.object_store.specs.Stored.{Stored}
 use Rattle.world_rules.specs.World.{world_of}
@@ -18,3 +20,8 @@ returns-clause-ruled c =
     IfOk-weaker c.tick_taken.result (TicksWith c.deref.result.now c.in_ok-copy.field-0) (λ (next : Stored). world_of next ≡ plain_world (world_of world) intents)
     (λ next is. copy_ticks c.in_ok-copy.field-0 world next c.deref.result.now c.in_ok-entries.entries.items intents c.in_ok-copy.ensures c.deref.ensures.value c.in_ok-entries.ensures is)
     c.tick_taken.ensures.ruled
+
+pub tick_taken-requires-clause-kept : goal.tick_taken-requires-clause-kept
+tick_taken-requires-clause-kept c =
+    let intents : List Intent = c.args.intents.now in
+    (intents, subst (λ (w : Stored). AreKept (world_of w) intents c.deref.result.now) (sym c.in_ok-copy.ensures) (subst (AreKept (world_of c.args.world.now) intents) (sym c.deref.ensures.value) c.in_ok-entries.ensures))

@@ -1,7 +1,7 @@
 use Rattle.std.proofs.Common.{◌++◌, List, length, slice_get, sym, ap, ◌∙◌}
 use Rattle.object_store.specs.declared.world.Room.{Room}
 use Rattle.object_store.specs.Stored.{Stored}
-use Rattle.ruled_tick.proofs.Upkeeping.{read_middle}
+use Rattle.ruled_tick.proofs.Places.{read_middle}
 use Rattle.ruled_tick.proofs.tick.world_of_rooms.Goals as goal
 
 pub push_room-requires-clause-index : goal.push_room-requires-clause-index

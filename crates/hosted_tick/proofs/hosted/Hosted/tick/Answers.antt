@@ -11,6 +11,12 @@ use Rattle.hosted_tick.specs.Hosting.{Held, IsHosted}
 use Rattle.hosted_tick.proofs.After.{hosted_after, next_of}
 use Rattle.hosted_tick.proofs.hosted.Hosted.tick.Goals as goal
 
+-- (the entries count of what the runs want)
+pub next_world-requires-clause-kept : goal.next_world-requires-clause-kept
+next_world-requires-clause-kept c =
+    let wanted = intents_of c.in_ok-runs.field-0.runs.items in
+    (wanted, subst (λ (entries : List Entry). AreKept (world_of c.self.inside.world) wanted entries) (sym c.deref.ensures.value) c.in_ok-runs.ensures.kept)
+
 pub returns-clause-next : goal.returns-clause-next
 returns-clause-next c =
     let world = c.self.inside.world in

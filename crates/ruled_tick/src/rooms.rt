@@ -1,0 +1,92 @@
+// Movement and upkeep of all rooms.
+ghost use Rattle.std.specs.Prelude.{◌≡◌, ◌∷◌, ◌++◌, [], ℕ, List, Some, slice_get, OnOk, IfOk};
+ghost use Rattle.object_store.specs.declared.world.Room.{Room};
+ghost use Rattle.kept_entries.specs.declared.entries.Entry.{Entry};
+ghost use Rattle.room_rules.specs.Calls.{AreActorsOnce};
+ghost use Rattle.ruled_tick.specs.inner.Ticked.{moves_in, AreMoves, AreTicked, IsReadyToTick, IsTicked, HasMemory};
+
+use creep_move::settle_moves;
+use game_tables::Action;
+use intent_book::{Intent, Intents};
+use kept_entries::Entry;
+use object_store::{Room, RoomTable};
+use std::alloc::{AllocError as NoMemory, Global};
+use upkeep_rules::{upkeep_first, upkeep_last};
+
+/// Lets the creeps of each room move, by those of the entries that are moves, and keeps the rooms up.
+pub fn tick_all(alloc: Global, rooms: &mut [Room], entries: &[Entry]) -> Result<(), NoMemory>
+    requires ready { (index : ℕ) (room : Room) → slice_get rooms.old index ≡ Some room → IsReadyToTick room.table }
+    requires once { (index : ℕ) → AreActorsOnce (moves_in index entries.now) }
+    ensures { OnOk result (AreTicked entries.now rooms.old rooms.new) }
+{
+    let moves = moves_by_room(alloc, rooms.len(), entries)?;
+    for (index, room) in rooms.iter_mut().enumerate() {
+        tick_room(room, moves[index].as_slice())?;
+    }
+    Ok(())
+}
+
+// The moves of each room.
+fn moves_by_room(alloc: Global, rooms: usize, entries: &[Entry]) -> Result<Vec<Intents>, NoMemory>
+    ensures { IfOk result (λ moves. AreMoves rooms entries.now moves.items) }
+{
+    let mut moves = no_moves(alloc, rooms)?;
+    for entry in entries {
+        add_move(&mut moves, entry)?;
+    }
+    Ok(moves)
+}
+
+// No moves for so many rooms.
+fn no_moves(alloc: Global, rooms: usize) -> Result<Vec<Intents>, NoMemory>
+    ensures { IfOk result (λ moves. AreMoves rooms [] moves.items) }
+{
+    let mut moves = Vec::with_capacity(alloc, rooms)?;
+    for _ in 0..rooms {
+        moves.push(Intents::new(alloc))?;
+    }
+    Ok(moves)
+}
+
+// Adds an entry to the moves of its room, if it is a move and there is such a room.
+fn add_move(moves: &mut [Intents], entry: &Entry) -> Result<(), NoMemory>
+    ensures { OnOk result ((rooms : ℕ) (done : List Entry) → AreMoves rooms done moves.old
+        → AreMoves rooms (done ++ entry.now ∷ []) moves.new) }
+{
+    let index = entry.room as usize;
+    if index < moves.len() && matches!(entry.intent.action, Action::Move) {
+        moves[index].push(entry.intent)?;
+    }
+    Ok(())
+}
+
+// A room after movement and upkeep.
+fn tick_room(room: &mut Room, moves: &[Intent]) -> Result<(), NoMemory>
+    requires ready { IsReadyToTick room.old.table }
+    requires once { AreActorsOnce moves.now }
+    ensures { OnOk result (IsTicked moves.now room.old room.new) }
+{
+    settle_moves(&room.terrain, &mut room.table, moves);
+    upkeep_first(&mut room.table);
+    take_memory(&mut room.table)?;
+    upkeep_last(&mut room.table);
+    let _rising = room.table.objects();
+    Ok(())
+}
+
+// Takes memory for the piles that upkeep may make and the creeps that may come, where there isn't as much. A
+// room without serials for so many is refused as one without memory; one that keeps the rules has at most
+// 7,500 objects.
+fn take_memory(table: &mut RoomTable) -> Result<(), NoMemory>
+    ensures { OnOk result (HasMemory table.old table.new) }
+{
+    let len = u64::from(table.len());
+    let most = u64::from(u32::MAX);
+    if u64::from(table.next()) + len > most || 2 * len + MOST_ARRIVALS > most {
+        return Err(NoMemory);
+    }
+    table.reserve(len + MOST_ARRIVALS)
+}
+
+// A creep may come to each border tile of a room.
+const MOST_ARRIVALS: u64 = 196;
