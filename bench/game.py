@@ -1,7 +1,7 @@
 """The game's numbers, what objects hold, and what creeps do, for the checks and the measures.
 
 It is a second, slow writing of the tables in docs/players.md and of the rules in docs/formats.md, which shares nothing with the program.
-An object is what a world file has of it, with every key.
+An object is what a world file has of it, with every key. How creeps step stands in bench/movement.py.
 """
 
 SECOND = 1 << 32
@@ -16,7 +16,7 @@ TOTALS = {"spawn": 15_000, "extension": 3000, "storage": 30_000, "container": 50
 MOST_PILE = 10**9
 
 NOT_OWNER, NOT_FOUND, NOT_ENOUGH, INVALID_TARGET, FULL = -1, -5, -6, -7, -8
-NOT_IN_RANGE, INVALID, NO_BODYPART = -9, -10, -12
+NOT_IN_RANGE, INVALID, TIRED, NO_BODYPART = -9, -10, -11, -12
 
 
 def thing(kind, id, x, y, **fields):
@@ -58,12 +58,25 @@ def capacity(one, objects):
     return {"spawn": 300, "storage": 1_000_000, "container": 2000}.get(one["kind"], 0)
 
 
+def full_timer(kind, objects):
+    """How long a building of a room with these objects keeps its hits."""
+    controller = controller_of(objects)
+    return {"road": 1000, "container": 500 if controller and controller["owner"] else 100}.get(kind, 0)
+
+
 def free_room(one, objects):
     return max(0, capacity(one, objects) - one["energy"])
 
 
 def hits_max(one):
     return 100 * len(one["body"]) if one["kind"] == "creep" else HITS.get(one["kind"], 0)
+
+
+def place_of(name):
+    """The column and the row of a room's name."""
+    row = max(name.rfind("N"), name.rfind("S"))
+    column, line = int(name[1:row]), int(name[row + 1 :])
+    return (-1 - column if name[0] == "W" else column), (-1 - line if name[row] == "N" else line)
 
 
 def distance(one, other):
@@ -89,7 +102,11 @@ ACTIONS = {
     "harvest": Action(9, "work", ("source",), 1),
     "repair": Action(10, "work", BUILDINGS, 3),
     "build": Action(11, "work", ("site",), 3),
+    "move": Action(22, "move"),
 }
+
+# What a step in a direction adds to x and to y, by its number: clockwise from the top.
+DIRECTIONS = {1: (0, -1), 2: (1, -1), 3: (1, 0), 4: (1, 1), 5: (0, 1), 6: (-1, 1), 7: (-1, 0), 8: (-1, -1)}
 
 # An entry doesn't count where the same creep has one of these actions too.
 DROPPED_BY = {"harvest": ("repair", "build"), "build": ("repair",)}
@@ -110,7 +127,7 @@ def refusal(name, player, actor, target, amount, least, objects):
         return NOT_FOUND
     if actor[1]["owner"] != player:
         return NOT_OWNER
-    if amount < 0:
+    if amount < 0 or name == "move" and amount not in DIRECTIONS:
         return INVALID
     if action.part and live(actor[1], action.part) == 0:
         return NO_BODYPART
@@ -144,6 +161,7 @@ FURTHER = {
     "harvest": of_harvest,
     "repair": lambda _, creep, *__: ((creep["energy"] > 0, NOT_ENOUGH),),
     "build": of_build,
+    "move": lambda _, creep, *__: ((creep["extra"] == 0, TIRED),),
 }
 
 
@@ -185,16 +203,24 @@ class Course:
         else:
             self.make(index, "pile", one["x"], one["y"], energy=min(MOST_PILE, amount))
 
-    def act(self, player, name, id, target, amount):
-        """What an entry does, on the world as those before it left it: whether it did anything."""
+    def parties(self, player, name, id, target, amount):
+        """The creep and the target of an entry, each a room's index and an object, where its checks hold on the world as those before it left
+        it, and else None."""
         actor, target = self.found.get(id), self.found.get(target)
         objects = self.rooms[actor[0]]["objects"] if actor else []
         # (an object that stands elsewhere is none here)
         target = target if target and actor and target[0] == actor[0] else None
         if refusal(name, player, actor, target, amount, 1, objects) or actor[1]["hits"] == 0:
-            return False
-        getattr(self, "do_" + name)(*actor, target and target[1], amount)
-        return True
+            return None
+        return actor, target
+
+    def act(self, player, name, id, target, amount):
+        """What an entry does: whether it did anything."""
+        found = self.parties(player, name, id, target, amount)
+        if found:
+            actor, target = found
+            getattr(self, "do_" + name)(*actor, target and target[1], amount)
+        return found is not None
 
     def room_for(self, index, one):
         return free_room(one, self.rooms[index]["objects"])
@@ -241,7 +267,6 @@ class Course:
         if site["progress"] < TOTALS[kind]:
             return
         self.remove(index, site)
-        controller = controller_of(self.rooms[index]["objects"])
-        timer = {"road": 1000, "container": 500 if controller and controller["owner"] else 100}.get(kind, 0)
+        timer = full_timer(kind, self.rooms[index]["objects"])
         owner = site["owner"] if kind in ("spawn", "extension", "storage") else 0
         self.make(index, kind, site["x"], site["y"], owner=owner, hits=HITS[kind], timer=timer)

@@ -59,6 +59,7 @@ HOST_CALLS = {
     "harvest": (I64 * 2, I32),
     "repair": (I64 * 2, I32),
     "build": (I64 * 2, I32),
+    "move": (I64 + I32, I32),
 }
 
 

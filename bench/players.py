@@ -53,8 +53,9 @@ def road(index, serial):
     return thing("road", index * SECOND + serial, x, y, timer=1000)
 
 
-def of_rooms(rooms, players):
-    listed_rooms = [room(name_of(index), 5000, *objects) for index, objects in enumerate(rooms)]
+def of_rooms(rooms, players, terrains=()):
+    grounds = list(terrains) or [None] * len(rooms)
+    listed_rooms = [room(name_of(index), 5000, *objects, terrain=grounds[index]) for index, objects in enumerate(rooms)]
     return bytes_of(world(*listed_rooms, players=players))
 
 
@@ -118,6 +119,7 @@ IMPORTS = {
     "harvest": "(param i64 i64) (result i32)",
     "repair": "(param i64 i64) (result i32)",
     "build": "(param i64 i64) (result i32)",
+    "move": "(param i64 i32) (result i32)",
 }
 STEP = "(local.set $i (i32.add (local.get $i) (i32.const 1)))"
 SCRAMBLED = "(i32.shr_u (i32.mul (local.get $i) (i32.const 0x9E3779B1)) (i32.const 8))"
@@ -178,6 +180,8 @@ COSTLY = {
     "transfers that are refused": (calling("transfer", id_of(SCRAMBLED_ENTRY), id_of(f"(i32.xor {SCRAMBLED_ENTRY} (i32.const 1))"), "(i32.const 51)"), 500),
     "pickups of what is no pile": (calling("pickup", id_of(SCRAMBLED_ENTRY), id_of(f"(i32.xor {SCRAMBLED_ENTRY} (i32.const 1))")), 500),
     "harvests without WORK": (calling("harvest", id_of(SCRAMBLED_ENTRY), "(i64.const 1)"), 500),
+    "moves without MOVE": (calling("move", id_of(SCRAMBLED_ENTRY), f"(i32.add (i32.and {SCRAMBLED} (i32.const 7)) (i32.const 1))"), 500),
+    "moves in no direction": (calling("move", id_of(SCRAMBLED_ENTRY), "(i32.const 9)"), 500),
     "memory_length": (calling("memory_length"), 500),
     "memory_write of 64 KiB": (calling("memory_write", "(i32.const 0)", "(i32.const 65536)", more=MEMORY), 10),
     "memory_read of 64 KiB": (text_of(["memory_read", "memory_write"], "(drop (call $memory_read (i32.const 0)))", MEMORY, WHOLE_TEXT), 10),

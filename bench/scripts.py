@@ -6,9 +6,9 @@ The answers of the host's calls stand here by a writing of the table in docs/pla
 import math
 import struct
 
-from game import BUILDINGS, FULL, INVALID, KINDS, NOT_FOUND, PARTS, capacity, hits_max, part_hits, refusal
+from game import BUILDINGS, FULL, INVALID, KINDS, NOT_FOUND, PARTS, capacity, hits_max, part_hits, place_of, refusal
 from modules import HOST_CALLS, I32, leb, player_module, signed_leb
-from worlds import UNIT, Run, account_of, allowance, place_of
+from worlds import UNIT, Run, account_of, allowance
 
 PAGE = 1 << 16
 MOST_TEXT = 65_536
@@ -147,6 +147,9 @@ class Desk:
 
     def answer_build(self, _, id, target):
         return self.acted("build", id, target)
+
+    def answer_move(self, _, id, direction):
+        return self.acted("move", id, amount=direction)
 
 
 # ---- instructions: a word and its numbers

@@ -1,5 +1,5 @@
 #!/usr/bin/env python3
-"""Measures the rules of a tick in the built program: python3 bench/ticks.py PROGRAM [--quick] [--works].
+"""Measures the rules of a tick in the built program: python3 bench/ticks.py PROGRAM [--quick] [--works] [--moves].
 
 Run it in the repository's top folder once the program is built (README.md). A tick's time is that of bench/players.py: the difference of
 runs of several ticks and of one. Where players drop, the same players make the same calls in a second run, each for more than the creep
@@ -12,10 +12,13 @@ see the same rooms. The second table has rooms in which 1,000 creeps each do one
 beside the same worlds with an empty `loop` and with the same calls all refused. What an entry takes is there what its call and its rule
 take together, less that of the empty `loop`; it should be at most a microsecond, and in no shape more than three times that in another.
 
+The third table has worlds whose creeps move (bench/moves.py), in the same columns: rooms that are full of them, in rings and chains, against walls
+and all onto few tiles, 20,000 creeps in 400 rooms, and a crosser at each exit. There the same calls are refused because the creeps are tired.
+
 Where crates/world_bench is built, a line says what a copy of the tables of 400 rooms takes, to hold the tick without entries against.
-Where valgrind is installed the third table has the allocations of a tick and their bytes, by the difference of runs of
-three ticks and of one. With --quick each row is run once, in fewer ticks, and there is no third table. With --works there is the second
-table alone.
+Where valgrind is installed the last table has the allocations of a tick and their bytes, by the difference of runs of
+three ticks and of one. With --quick each row is run once, in fewer ticks, and there is no last table. With --works there is the second
+table alone, and with --moves the third.
 """
 
 import os
@@ -27,6 +30,7 @@ import tempfile
 import time
 
 from game import SECOND, thing
+from moves import SHAPES as MOVE_SHAPES, Movement
 from players import Bench, EMPTY, TILES, for_each, of_rooms, players_of, road, together
 from scripts import Script, unkept
 from works import SHAPES, Work
@@ -107,21 +111,35 @@ def row(bench, name, first, objects, owned):
     print(f"{name:52}{objects:9,}{entries:9,}{tick * 1e3:10.2f}{tick * 1e9 / objects:14,.0f}{each}", flush=True)
 
 
-def work_row(bench, shape, rooms):
-    """A row of a shape: nanoseconds an entry."""
-    work, other = Work(shape, rooms), Work(shape, rooms, refused=True)
-    name = f"{shape.name}, {rooms} room{'s' if rooms > 1 else ''}"
-    tick, _ = bench.tick(work.world(), work.uploads(), TICKS)
-    empty, _ = bench.tick(work.world(), for_each(shape.players, EMPTY), TICKS)
+def entry_head(what):
+    print(f"{what:34}{'objects':>8}{'entries':>8}{'tick ms':>9}{'empty':>9}{'refused':>9}{'ns an entry':>13}{'its rule':>12}{'its refusal':>12}")
+
+
+def entry_row(bench, name, it, other):
+    """A row of a world whose creeps act, beside the other in which their calls are refused: nanoseconds an entry."""
+    tick, _ = bench.tick(it.world(), it.uploads(), TICKS)
+    empty, _ = bench.tick(it.world(), for_each(len(it.players), EMPTY), TICKS)
     refused, _ = bench.tick(other.world(), other.uploads(), TICKS)
-    each, ruled, called = ((more - less) * 1e9 / work.entries() for more, less in ((tick, empty), (tick, refused), (refused, empty)))
-    print(f"{name:34}{work.objects():8,}{work.entries():8,}{tick * 1e3:9.2f}{empty * 1e3:9.2f}{refused * 1e3:9.2f}{each:13,.0f}{ruled:12,.0f}{called:12,.0f}", flush=True)
+    each, ruled, called = ((more - less) * 1e9 / it.entries() for more, less in ((tick, empty), (tick, refused), (refused, empty)))
+    print(f"{name:34}{it.objects():8,}{it.entries():8,.0f}{tick * 1e3:9.2f}{empty * 1e3:9.2f}{refused * 1e3:9.2f}{each:13,.0f}{ruled:12,.0f}{called:12,.0f}", flush=True)
     return each
+
+
+def work_row(bench, shape, rooms):
+    name = f"{shape.name}, {rooms} room{'s' if rooms > 1 else ''}"
+    return entry_row(bench, name, Work(shape, rooms), Work(shape, rooms, refused=True))
+
+
+def moves(bench):
+    """Creeps that all move, and that can't."""
+    entry_head("creeps that move")
+    for shape in MOVE_SHAPES:
+        entry_row(bench, shape.name, Movement(shape), Movement(shape, refused=True))
 
 
 def works(bench):
     """1,000 creeps that each do one thing, and whether no entry takes more than it should."""
-    print(f"{'1,000 creeps':34}{'objects':>8}{'entries':>8}{'tick ms':>9}{'empty':>9}{'refused':>9}{'ns an entry':>13}{'its rule':>12}{'its refusal':>12}")
+    entry_head("1,000 creeps")
     found = {(shape.name, rooms): work_row(bench, shape, rooms) for shape in SHAPES for rooms in (1, 400)}
     most, least = max(found, key=found.get), min(found, key=found.get)
     times = found[most] / found[least] if found[least] > 0 else float("inf")
@@ -162,14 +180,16 @@ def copies(first):
 
 
 def main():
-    words = [word for word in sys.argv[1:] if word not in ("--quick", "--works")]
+    words = [word for word in sys.argv[1:] if word not in ("--quick", "--works", "--moves")]
     if len(words) != 1 or not os.path.isfile(words[0]):
-        sys.exit("no program: python3 bench/ticks.py PROGRAM [--quick] [--works]")
+        sys.exit("no program: python3 bench/ticks.py PROGRAM [--quick] [--works] [--moves]")
     place = "/dev/shm" if os.path.isdir("/dev/shm") else None
     with tempfile.TemporaryDirectory(dir=place) as folder:
         bench = Bench(os.path.abspath(words[0]), folder, "--quick" in sys.argv)
-        if "--works" in sys.argv:
-            works(bench)
+        alone = [table for word, table in (("--works", works), ("--moves", moves)) if word in sys.argv]
+        for table in alone:
+            table(bench)
+        if alone:
             return
         print(f"{'shape':52}{'objects':>9}{'entries':>9}{'tick ms':>10}{'ns an object':>14}{'ns an entry':>13}")
         row(bench, "400 rooms of 50 objects, nothing dropped", scattered(False)[0], 20_000, {})
@@ -183,8 +203,9 @@ def main():
         seen, _ = bench.tick(together(64, 300), for_each(64, EMPTY), TICKS)
         copies(scattered(False)[0])
         print(f"64 players in each of 300 rooms, idle and with empty loops: {idle * 1e3:.2f} and {seen * 1e3:.2f} ms")
-        print()
-        works(bench)
+        for table in (works, moves):
+            print()
+            table(bench)
         if bench.quick or not shutil.which("valgrind"):
             return
         print()

@@ -1,14 +1,17 @@
 """Worlds for the checks: the world file, the journal's contents, the tick and the printed lines.
 
 It is a second, slow writing of docs/formats.md, which shares nothing with the program. A world is what its file
-says, as Python has it from JSON. What creeps do in a tick stands in bench/game.py.
+says, as Python has it from JSON. What creeps do in a tick stands in bench/game.py and bench/movement.py, and the end of
+a tick in bench/upkeep.py.
 """
 
 import copy
 import json
 import struct
 
-from game import ACTIONS, FIELDS, KINDS, PARTS, Course, counting, hits_max, source_room, thing
+from game import ACTIONS, FIELDS, KINDS, PARTS, Course, counting, hits_max, place_of, thing
+from movement import crossed, moved
+from upkeep import settled
 
 MIB = 1 << 20
 CORNERS = (0, 49, 2450, 2499)
@@ -126,13 +129,6 @@ def account_bytes(account):
     memory = bytes.fromhex(account["memory"])
     numbers = struct.pack("<IIIQI", account["player"], account["limit"], account["bucket"], account["points"], len(memory))
     return numbers + memory
-
-
-def place_of(name):
-    """The column and the row of a room's name."""
-    row = max(name.rfind("N"), name.rfind("S"))
-    column, line = int(name[1:row]), int(name[row + 1 :])
-    return (-1 - column if name[0] == "W" else column), (-1 - line if name[row] == "N" else line)
 
 
 def base_content(it):
@@ -272,26 +268,28 @@ def stream_of(uploads):
 # ---- the tick
 
 
-def renewed(source, most):
-    if source["timer"] > 0:
-        source["timer"] -= 1
-        if source["timer"] == 0:
-            source["energy"] = max(source["energy"], most)
-    elif source["energy"] < most:
-        source["timer"] = 300
+def in_rising_id(it):
+    for place in it["rooms"]:
+        place["objects"].sort(key=lambda one: one["id"])
 
 
 def acted(it, runs):
-    """What the entries of these runs make of a world: how often an action had an effect, and how often it had none."""
-    course, done = Course(it["rooms"]), {}
+    """What the entries of these runs make of a world: how often an action had an effect, and how often it had none. Creeps step when all
+    else is done."""
+    course, done, moves = Course(it["rooms"]), {}, []
     wanted = [(run.player, counting(run.entries)) for run in sorted(runs, key=lambda run: run.player)]
     for action in ACTIONS:
         for player, entries in wanted:
             for name, creep in sorted(key for key in entries if key[0] == action):
-                effect = course.act(player, name, creep, *entries[name, creep])
+                target, amount = entries[name, creep]
+                if name == "move":
+                    moves.append((player, creep, amount))
+                    continue
+                effect = course.act(player, name, creep, target, amount)
                 done[name, effect] = done.get((name, effect), 0) + 1
-    for place in it["rooms"]:
-        place["objects"].sort(key=lambda one: one["id"])
+    stepping = len(moved(course, moves))
+    done |= {("move", effect): count for effect, count in ((True, stepping), (False, len(moves) - stepping)) if count}
+    in_rising_id(it)
     return done
 
 
@@ -300,13 +298,9 @@ def ticked(it, runs=()):
     it = full(it)
     it["tick"] += 1
     acted(it, runs)
-    for place in it["rooms"]:
-        for one in place["objects"]:
-            if one["kind"] == "source":
-                renewed(one, source_room(place["objects"]))
-            if one["kind"] == "pile":
-                one["energy"] -= -(-one["energy"] // 1000)
-        place["objects"] = [one for one in place["objects"] if one["kind"] != "pile" or one["energy"] > 0]
+    settled(it["rooms"])
+    crossed(it["rooms"])
+    in_rising_id(it)
     for account in it["players"]:
         run = next((run for run in runs if run.player == account["player"]), None)
         units = -(-run.used // UNIT) if run else 0

@@ -3,7 +3,8 @@
 
 It runs behind `rt ci`, which builds crates/world_server/out/world_server. First come rooms whose tick is worked out by hand, which both
 the program and bench/game.py have to meet; then all calls over all sorts of objects; then random ones, of which every object is compared
-after each tick. With --model no program is run, and bench/game.py alone is held against the rooms that are worked out.
+after each tick. With --model no program is run, and bench/game.py alone is held against the rooms that are worked out. Who steps where is
+the subject of checks/moves.py; here creeps step and cross among all the other things that they do.
 """
 
 import os
@@ -16,7 +17,7 @@ sys.path.insert(0, os.path.join(TOP, "bench"))
 import compared_runs  # noqa: E402
 from checked_program import Checks  # noqa: E402
 from compared_runs import world_faults  # noqa: E402
-from game import ACTIONS, FULL, INVALID, INVALID_TARGET, NO_BODYPART, NOT_ENOUGH, NOT_FOUND, NOT_IN_RANGE, NOT_OWNER, SECOND, distance, thing  # noqa: E402
+from game import ACTIONS, DIRECTIONS, FULL, INVALID, INVALID_TARGET, NO_BODYPART, NOT_ENOUGH, NOT_FOUND, NOT_IN_RANGE, NOT_OWNER, SECOND, TIRED, distance, thing  # noqa: E402
 from scripts import MOST_ENTRIES, Table  # noqa: E402
 from worlds import Step, Upload, account_of, acted, full, grounds, objects_of, room, ticked, world  # noqa: E402
 
@@ -57,7 +58,7 @@ class Case:
     """A room whose tick is worked out by hand. Ids are the serials of the room.
 
     A call is a player, its name, its arguments, and its answer. After the tick the named fields have these values, some objects are gone,
-    and new ones stand there, from serial 20 on. All else is as it was."""
+    and new ones stand there, from serial 20 on. All else is as it was, but the timers of containers and roads are less by 1."""
 
     def __init__(self, name, objects, calls, after=(), gone=(), new=()):
         self.name, self.objects, self.calls = name, objects, calls
@@ -70,6 +71,7 @@ def falls(number, one, energy):
 
 
 def built(number, kind, at, timer=0, owner=0):
+    """A building where a site was; of a container or a road the timer has run for a tick."""
     x, y = at
     fields = {"owner": owner} if owner else {}
     return thing(kind, FIRST_NEW + number, x, y, timer=timer, **fields)
@@ -225,9 +227,9 @@ def of_work():
             both,
             after,
             gone=[1],
-            new=[built(0, "road", (10, 10), timer=1000)],
+            new=[built(0, "road", (10, 10), timer=999)],
         )
-    rooms = [("nobody's", controller(3), 100), ("another's", controller(3, 2, 8), 500), ("the player's", controller(3, 1, 1), 500), ("reserved", controller(3, other=1, other_ticks=2), 100)]
+    rooms = [("nobody's", controller(3), 99), ("another's", controller(3, 2, 8), 499), ("the player's", controller(3, 1, 1), 499), ("reserved", controller(3, other=1, other_ticks=2), 99)]
     for whose, it, timer in rooms:
         objects = [site(1, 10, 10, "container", 4999), creep(2, *WEST, 50), it]
         yield Case(f"a container in a room that is {whose}", objects, [(1, "build", 2, 1, 0)], {2: {"energy": 49}}, gone=[1], new=[built(0, "container", (10, 10), timer=timer)])
@@ -290,14 +292,44 @@ def of_several():
         [(1, "build", 6, 5, 0), (1, "harvest", 4, 1, 0), (2, "drop", 2, 0, 0), (1, "drop", 3, 5, 0)],
         {1: {"energy": 1498, "timer": 300}, 2: {"energy": 0}, 3: {"energy": 4}, 6: {"energy": 8}},
         gone=[5],
-        new=[falls(0, second, 4), falls(1, first, 8), falls(2, third, 1), built(3, "road", (12, 12), timer=1000)],
+        new=[falls(0, second, 4), falls(1, first, 8), falls(2, third, 1), built(3, "road", (12, 12), timer=999)],
     )
+
+
+def of_decay():
+    """Containers and roads whose timers run out, and creeps that recover."""
+    worn = [thing("container", 1, 8, 8, hits=5001, timer=1, energy=7), thing("container", 2, 9, 8, timer=1), thing("container", 3, 10, 8, hits=1, timer=2)]
+    worn += [thing("road", 4, 8, 9, hits=101, timer=1), thing("road", 5, 9, 9, timer=1), thing("road", 6, 10, 9, hits=1, timer=2)]
+    roads = {4: {"hits": 1, "timer": 1000}, 5: {"hits": 4900, "timer": 1000}}
+    rooms = [("without a controller", [], 100), ("that is nobody's", [controller(7)], 100), ("that is reserved", [controller(7, other=2, other_ticks=9)], 100), ("that is another's", [controller(7, 2, 1)], 500)]
+    for whose, of_room, timer in rooms:
+        after = {1: {"hits": 1, "timer": timer}, 2: {"hits": 245_000, "timer": timer}, **roads}
+        yield Case(f"what decays in a room {whose}", [*worn, *of_room], [], after)
+    ruins = [thing("container", 1, 8, 8, hits=5000, timer=1, energy=30), thing("container", 2, 9, 8, hits=1, timer=1, energy=2000), thing("container", 3, 10, 8, hits=4999, timer=1)]
+    ruins += [thing("road", 4, 8, 9, hits=100, timer=1), thing("road", 5, 9, 9, hits=1, timer=1)]
+    # (30 fall, and 2,000, of which 1 and 2 are lost)
+    yield Case("buildings that fall to pieces, in rising id", ruins, [], gone=[1, 2, 3, 4, 5], new=[falls(0, ruins[0], 29), falls(1, ruins[1], 1998)])
+    ruins = [pile(1, 8, 8, 100), thing("container", 2, 8, 8, hits=5000, timer=1, energy=30), thing("container", 3, 9, 8, hits=7, timer=1, energy=30), pile(4, 9, 8, 999_999_990)]
+    yield Case("piles on which a container falls to pieces", ruins, [], {1: {"energy": 129}, 4: {"energy": 999_000_000}}, gone=[2, 3])
+    ruins = [thing("container", 1, 10, 10, hits=5000, timer=1, energy=60), creep(2, *WEST), thing("container", 3, 10, 12, hits=5000, timer=1, energy=5), creep(4, *SOUTH, 20), creep(5, 11, 12, 3)]
+    yield Case(
+        "containers that are used as they fall, and one that is mended in time",
+        [*ruins, thing("container", 6, 12, 12, hits=5000, timer=1, energy=9)],
+        [(1, "withdraw", 2, 1, 0, 0), (1, "transfer", 4, 3, 0, 0), (1, "repair", 5, 6, 0)],
+        {2: {"energy": 50}, 4: {"energy": 0}, 5: {"energy": 2}, 6: {"hits": 100, "timer": 100}},
+        gone=[1, 3],
+        new=[falls(0, ruins[0], 9), falls(1, ruins[2], 24)],
+    )
+    tired = [creep(1, 8, 8, body=["move", "move", "work"], extra=5), creep(2, 9, 8, body=["move", "move"], extra=3), creep(3, 10, 8, body=["work"], extra=5)]
+    tired += [creep(4, 8, 9, body=["move", "move", "work"], hits=200, extra=500), creep(5, 9, 9, body=["move", "carry"], hits=100, extra=1), creep(6, 10, 9, body=["move"] * 50, extra=101)]
+    yield Case("creeps that recover by their move parts", tired, [], {1: {"extra": 1}, 2: {"extra": 0}, 4: {"extra": 498}, 6: {"extra": 1}})
 
 
 def of_refusals():
     """Calls that fail two checks: the first gives the code."""
     objects = [source(1, 0, 77), creep(2, *WEST), creep(3, *EAST, body=["carry"]), creep(4, *NORTH, 5, owner=2, body=["carry"]), thing("road", 5, 10, 12, timer=9), thing("road", 6, 30, 30, timer=9)]
     objects += [source(7, 0, 9, 30, 10), thing("container", 8, 8, 10, energy=2000, timer=9), thing("container", 9, 8, 11, timer=9), creep(10, 8, 9, 50), pile(11, 31, 30, 8)]
+    objects += [creep(17, 33, 33, body=["move"], extra=9), creep(18, 34, 33, body=["work"], extra=9), creep(19, 35, 33, body=["move", "work"], hits=100)]
     objects += [site(12, 30, 31, "road", 0, owner=2), site(13, 12, 11, "road", 0, owner=2), site(14, 11, 11, "container", 0), thing("container", 15, 31, 31, timer=9), pile(16, 8, 12, 3)]
     calls = [
         ("harvest", 99, 98, NOT_FOUND),
@@ -341,8 +373,19 @@ def of_refusals():
         ("drop", 4, -1, NOT_OWNER),
         ("drop", 2, -1, INVALID),
         ("drop", 2, 0, NOT_ENOUGH),
+        ("move", 99, 0, NOT_FOUND),
+        ("move", 1, 3, NOT_FOUND),
+        ("move", 4, 0, NOT_OWNER),
+        ("move", 4, 3, NOT_OWNER),
+        ("move", 2, 0, INVALID),
+        ("move", 17, -1, INVALID),
+        ("move", 17, 9, INVALID),
+        ("move", 2, 3, NO_BODYPART),
+        ("move", 18, 3, NO_BODYPART),
+        ("move", 19, 3, NO_BODYPART),
+        ("move", 17, 3, TIRED),
     ]
-    yield Case("of two faults the first", objects, [(1, *it) for it in calls], {1: {"timer": 76}, 7: {"timer": 8}, 11: {"energy": 7}, 16: {"energy": 2}})
+    yield Case("of two faults the first", objects, [(1, *it) for it in calls], {1: {"timer": 76}, 7: {"timer": 8}, 11: {"energy": 7}, 16: {"energy": 2}, 17: {"extra": 7}})
     crowded = [site(1, 10, 10, "extension", 0), creep(2, 10, 10), creep(3, *EAST, 5), site(4, 12, 10, "container", 0), creep(5, 12, 10, 5), site(6, 14, 10, "spawn", 0, owner=2), creep(7, 14, 10, owner=2)]
     calls = [(1, "build", 2, 1, NOT_ENOUGH), (1, "build", 3, 1, INVALID_TARGET), (1, "build", 5, 4, 0), (1, "build", 5, 6, NOT_OWNER), (1, "build", 5, 1, INVALID_TARGET)]
     yield Case("a creep where a building would obstruct", crowded, calls, {4: {"progress": 5}, 5: {"energy": 0}})
@@ -357,13 +400,15 @@ def with_ids(index, one):
 def called(index, call):
     """A call with ids in place of serials."""
     name, *arguments = call
-    ids = 1 if name == "drop" else 2
+    ids = 2 if ACTIONS[name].targets else 1
     return (name, *[index * SECOND + it for it in arguments[:ids]], *arguments[ids:])
 
 
 def expected(index, case):
     """The objects after the tick, by their ids."""
     before = full(world(room("E0S0", FIRST_NEW, *case.objects)))["rooms"][0]["objects"]
+    for one in before:
+        one["timer"] -= one["kind"] in ("container", "road")
     new = full(world(room("E0S0", FIRST_NEW, *case.new)))["rooms"][0]["objects"]
     objects = [{**one, **case.after.get(one["id"], {})} for one in before if one["id"] not in case.gone]
     return [with_ids(index, one) for one in objects + new]
@@ -386,7 +431,7 @@ def case_faults(index, case, place):
 
 def check_worked():
     """All rooms that are worked out by hand, in one run."""
-    cases = [*of_harvest(), *of_handing(), *of_piles(), *of_work(), *of_several(), *of_refusals()]
+    cases = [*of_harvest(), *of_handing(), *of_piles(), *of_work(), *of_several(), *of_decay(), *of_refusals()]
     rooms = [room(f"E{index}S0", FIRST_NEW, *[with_ids(index, one) for one in case.objects]) for index, case in enumerate(cases)]
     first = world(*rooms, players=[player(1), player(2)])
     calls = {number: [(called(index, call[:-1]), call[-1], case) for index, case in enumerate(cases) for by, *call in case.calls if by == number] for number in (1, 2)}
@@ -438,12 +483,14 @@ def crowd():
         thing("container", 25, 41, 40, energy=1000, timer=9),
     ]
     near[-3].update(x=30, y=30)
+    near += [creep(27, 20, 10, body=["move", "work"]), creep(28, 22, 10, body=["carry", "move"], extra=500), creep(29, 24, 10, owner=2, body=["move"])]
     second = [source(1, 5), creep(2, *WEST, 20), creep(3, *EAST, 0, owner=2), thing("container", 4, 8, 10, energy=5, timer=3), pile(5, 8, 11, 9), site(6, 8, 9, "road", 0), controller(7, other=2, other_ticks=9)]
     unseen = [source(1, 5), creep(2, *WEST, 20, owner=2), thing("container", 3, 8, 10, energy=5, timer=3)]
     rooms = [[with_ids(index, one) for one in objects] for index, objects in enumerate((near, second, unseen))]
     return world(*[room(f"E{index}S0", 30, *objects) for index, objects in enumerate(rooms)], players=[player(1), player(2), player(3)])
 
 
+HEADINGS = [-(1 << 31), -1, *range(10), 255, 256, 259, 1 << 16, (1 << 31) - 1]
 AMOUNTS = [0, 1, 10, 11, 20, 21, 30, 31, 50, 51, (1 << 31) - 1, -1, -(1 << 31)]
 
 
@@ -453,10 +500,12 @@ def check_calls():
     ids = [one["id"] for one in objects_of(first)] + [0, -1, 1 << 53, 26, SECOND * 3 + 1]
     creeps = [one["id"] for one in objects_of(first) if one["kind"] == "creep"] + [0, 1, 10, -3, 3 - (1 << 63), 3 + (1 << 53), 2 * SECOND + 9]
     plain = [(name, actor, target) for name in ("pickup", "harvest", "repair", "build") for actor in creeps for target in ids]
-    amounts = [(name, actor, target, amount) for name in ("transfer", "withdraw") for actor in creeps[:13] for target in ids for amount in AMOUNTS]
+    amounts = [(name, actor, target, amount) for name in ("transfer", "withdraw") for actor in creeps[:16] for target in ids for amount in AMOUNTS]
     random.Random(1).shuffle(amounts)
     calls = [*plain, *amounts]
     tables = [calls[at : at + 8000] for at in range(0, len(calls), 8000)]
+    # (last, so that all stand where they stood)
+    tables.append([("move", actor, heading) for heading in HEADINGS for actor in creeps])
     uploads = [Upload(tick, number, Table(table)) for tick, table in enumerate(tables) for number in (1, 2, 3)]
     steps = play("every call of each creep with each object", first, len(tables), uploads)
     seen = set()
@@ -471,6 +520,7 @@ def check_calls():
         "harvest": common | {NO_BODYPART, NOT_ENOUGH},
         "repair": common | {NO_BODYPART, NOT_ENOUGH},
         "build": common | {NO_BODYPART, NOT_ENOUGH},
+        "move": {0, NOT_FOUND, NOT_OWNER, INVALID, NO_BODYPART, TIRED},
     }
     for name, codes in wanted.items():
         found = {code for other, code in seen if other == name}
@@ -506,9 +556,13 @@ def check_full_record():
 
 # ---- random worlds and calls
 
+# Where the crowd of a room is, by a letter of its name: along x and along y.
+CROWDED = {"E": range(12), "W": range(38, 50), "S": range(12), "N": range(38, 50)}
+WITHOUT_MOVE = [name for name in ACTIONS if name != "move"]
+
 
 class Draw:
-    """Random worlds of two rooms and two players, and random calls in them."""
+    """Random worlds of four rooms around one corner and of two players, and random calls in them."""
 
     def __init__(self, seed):
         self.random = random.Random(seed)
@@ -518,14 +572,14 @@ class Draw:
 
     def body(self):
         parts = [self.random.choice(["work", "carry", "carry", "work", "move", "tough", "heal"]) for _ in range(self.random.randrange(1, 12))]
-        return parts + (["carry"] if self.chance(0.8) else [])
+        return parts + (["carry"] if self.chance(0.8) else []) + ["move"] * self.random.randrange(4)
 
     def creep(self, serial, x, y):
         body = self.body()
         hits = 100 * len(body) if self.chance(0.7) else self.random.randrange(1, 100 * len(body) + 1)
         live = [part for place, part in enumerate(body) if hits > 100 * (len(body) - 1 - place)]
         most = 50 * live.count("carry")
-        return thing("creep", serial, x, y, owner=self.random.choice((1, 2)), body=body, hits=hits, energy=self.random.choice((0, most, self.random.randint(0, most))), timer=9)
+        return thing("creep", serial, x, y, owner=self.random.choice((1, 2)), body=body, hits=hits, energy=self.random.choice((0, most, self.random.randint(0, most))), timer=9, extra=self.random.choice((0, 0, 0, self.random.randint(1, 40))))
 
     def fixed(self, serial, x, y, kind):
         """A thing that obstructs or lies about."""
@@ -535,8 +589,8 @@ class Draw:
             "spawn": lambda: {"owner": owner, "energy": number(0, 300), "hits": number(1, 5000)},
             "extension": lambda: {"owner": owner, "energy": number(0, 200), "hits": number(1, 1000)},
             "storage": lambda: {"owner": owner, "energy": self.random.choice((number(0, 99), number(0, 10**6), 999_990)), "hits": number(9000, 10_000)},
-            "container": lambda: {"energy": number(0, 2000), "hits": self.random.choice((number(1, 250_000), 249_950)), "timer": 9},
-            "road": lambda: {"hits": self.random.choice((number(1, 5000), 4950)), "timer": 9},
+            "container": lambda: {"energy": number(0, 2000), "hits": self.random.choice((number(1, 250_000), number(1, 10_000), 249_950)), "timer": number(1, 99)},
+            "road": lambda: {"hits": self.random.choice((number(1, 5000), number(1, 200), 4950)), "timer": self.random.choice((number(1, 99), number(1, 1000)))},
             "site": lambda: self.site(owner),
         }
         return thing(kind, serial, x, y, **made[kind]())
@@ -546,13 +600,17 @@ class Draw:
         return {"owner": owner, "extra": {"spawn": 4, "extension": 5, "storage": 6, "container": 7, "road": 8}[kind], "progress": max(0, total - self.random.randrange(1, 400))}
 
     def room(self, index, name):
-        """A crowd on 11 by 11 tiles, so that much is in range of each creep."""
-        tiles = [(x, y) for x in range(20, 31) for y in range(20, 31)]
-        self.random.shuffle(tiles)
+        """A crowd on 12 by 12 tiles in a corner of the room, so that much is in range of each creep. The corners of all rooms meet."""
+        around = [(x, y) for x in CROWDED[name[0]] for y in CROWDED[name[-2]]]
+        self.random.shuffle(around)
+        # (only creeps stand on the border, and nothing in the very corner)
+        tiles = [tile for tile in around if not {0, 49} & set(tile)]
+        border = [tile for tile in around if {0, 49} & set(tile) and not set(tile) <= {0, 49}]
         kinds = ["source"] * 12 + ["spawn"] * 3 + ["extension"] * 5 + ["storage"] * 2 + ["container"] * 6 + ["road"] * 8 + ["site"] * 30
         serials = self.random.sample(range(1, 400), len(kinds) + 80)
         objects = [self.fixed(serials.pop(), *tiles.pop(), kind) for kind in kinds]
-        objects += [self.creep(serials.pop(), *tiles.pop()) for _ in range(28)]
+        objects += [self.creep(serials.pop(), *tiles.pop()) for _ in range(18)]
+        objects += [self.creep(serials.pop(), *border.pop()) for _ in range(6)]
         # (creeps stand on piles, roads and sites as well as on plain ground)
         clear = [one for one in objects if one["kind"] in ("road", "container", "site")]
         objects += [self.creep(serials.pop(), one["x"], one["y"]) for one in self.random.sample(clear, 6)]
@@ -562,17 +620,28 @@ class Draw:
         if self.chance(0.8):
             level = self.random.choice((0, 6, 7, 8))
             fields = {"owner": self.random.choice((1, 2)), "level": level} if level else self.random.choice(({}, {"other": 1, "other_ticks": 9}, {"other": 2, "other_ticks": 9}))
-            objects.append(controller(serials.pop(), **fields))
-        return room(name, 400, *[with_ids(index, one) for one in objects], terrain=grounds())
+            objects.append({**controller(serials.pop(), **fields), "x": 25, "y": 25})
+        swamps = {50 * y + x: "2" for x, y in around if self.chance(0.3) and not {x, y} <= {0, 49}}
+        walls = {50 * y + x: "1" for x, y in (*tiles[:4], *border[:2])}
+        return room(name, 400, *[with_ids(index, one) for one in objects], terrain=grounds({**swamps, **walls}))
 
     def world(self):
-        return world(self.room(0, "W3N4"), self.room(1, "E5S6"), players=[player(1, 200, bucket=5000), player(2, 200, bucket=5000)])
+        names = ["E0N0", "W0S0", "W0N0", "E0S0"]
+        return world(*[self.room(index, name) for index, name in enumerate(names)], players=[player(number, 200, bucket=5000) for number in (1, 2)])
+
+    def heading(self, place, one):
+        """A direction, which mostly leads to where the others are."""
+        if self.chance(0.05):
+            return self.random.choice((0, -1, 9))
+        columns, rows = CROWDED[place["name"][0]], CROWDED[place["name"][-2]]
+        ways = [number for number, (x, y) in DIRECTIONS.items() if one["x"] + x in columns and one["y"] + y in rows]
+        return self.random.choice(ways if ways and self.chance(0.9) else list(DIRECTIONS))
 
     def amount(self):
         return self.random.choice((0, 0, 1, 2, 7, 10, 50, self.random.randint(0, 120)))
 
     def call(self, name, creep, target):
-        amounts = {"drop": (self.amount(),), "transfer": (target, self.amount()), "withdraw": (target, self.amount())}
+        amounts = {"drop": (self.amount(),), "transfer": (target, self.amount()), "withdraw": (target, self.amount()), "move": (self.random.randint(0, 9),)}
         return (name, creep, *amounts.get(name, (target,)))
 
     def near(self, name, creep, around):
@@ -590,9 +659,10 @@ class Draw:
                 if one["kind"] != "creep" or one["owner"] != number:
                     continue
                 # (much of what a creep does is dropped by repairs and builds of its own)
-                names = ["harvest"] if self.chance(0.2) else self.random.sample(list(ACTIONS), self.random.choice((1, 1, 2, 3, 7)))
+                names = ["harvest"] if self.chance(0.2) else self.random.sample(WITHOUT_MOVE, self.random.choice((1, 1, 2, 3, 7)))
                 targets = [(name, self.near(name, one, place["objects"])) for name in names]
                 found += [self.call(name, one["id"], target) for name, target in targets if target or name == "drop"]
+                found += [("move", one["id"], self.heading(place, one))] if self.chance(0.6) else []
         for _ in range(5):
             found.append(self.call(self.random.choice(list(ACTIONS)), self.random.choice(everything), self.random.choice(everything)))
         self.random.shuffle(found)
@@ -602,6 +672,11 @@ class Draw:
 def count_into(done, counts):
     for key, count in counts.items():
         done[key] = done.get(key, 0) + count
+
+
+def homes_of(it):
+    """The rooms of all objects, by their ids."""
+    return {one["id"]: index for index, place in enumerate(it["rooms"]) for one in place["objects"]}
 
 
 def check_random(seed, ticks):
@@ -614,7 +689,8 @@ def check_random(seed, ticks):
         uploads += [Upload(tick, number, table) for number, table in tables]
         runs = [table.run(it, number) for number, table in tables]
         count_into(done, acted(full(it), runs))
-        it = ticked(it, runs)
+        homes, it = homes_of(it), ticked(it, runs)
+        count_into(done, {"crossings": sum(homes.get(id, home) != home for id, home in homes_of(it).items())})
         steps.append(Step([(number, "accepted", table.content) for number, table in tables], runs, it))
     checks.note(f"the worlds of seed {seed} keep the rules", world_faults(first, steps))
     play(f"random calls of seed {seed}", first, ticks, uploads, steps=steps)
@@ -623,12 +699,14 @@ def check_random(seed, ticks):
 
 def check_randoms():
     done = {}
-    for seed, ticks in ((1, 110), (2, 110), (3, 110)):
+    for seed, ticks in ((1, 70), (2, 70), (3, 70)):
         count_into(done, check_random(seed, ticks))
     # (a drop that was recorded always does something, and a source is seldom emptied before its last creep)
     least = {(name, effect): 20 for name in ACTIONS for effect in (True, False)} | {("drop", False): 0, ("harvest", False): 1}
     few = [f"{name} {'did something' if effect else 'did nothing'} {done.get((name, effect), 0)} times" for (name, effect), most in least.items() if done.get((name, effect), 0) < most]
     checks.note("random calls of each action do something, and nothing, often enough", few)
+    crossings = done["crossings"]
+    checks.note("creeps cross often enough", [] if crossings >= 100 else [f"{crossings} times"])
 
 
 def main():

@@ -417,7 +417,7 @@ def function_of(kind=1):
 
 
 LATER = "heal ranged_heal dismantle attack ranged_mass_attack ranged_attack suicide claim_controller"
-LATER += " upgrade reserve attack_controller create_site remove_site spawn_creep move"
+LATER += " upgrade reserve attack_controller create_site remove_site spawn_creep"
 
 
 def import_refusals():

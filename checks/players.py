@@ -23,14 +23,16 @@ import tempfile
 
 TOP = os.path.dirname(os.path.dirname(os.path.abspath(__file__)))
 sys.path.insert(0, os.path.join(TOP, "bench"))
-from compared_runs import journal_faults, world_faults  # noqa: E402
-from game import BUILDINGS, FULL, NOT_ENOUGH, STORES, capacity, distance, hits_max, thing  # noqa: E402
-from scripts import Desk  # noqa: E402
-from worlds import Run, Step, allowance, full, journal_of, objects_of, output_of, ticked  # noqa: E402
+from compared_runs import ACTION_NAMES, journal_faults, world_faults  # noqa: E402
+from game import BUILDINGS, DIRECTIONS, FULL, NOT_ENOUGH, STORES, capacity, distance, hits_max, place_of, thing  # noqa: E402
+from movement import beyond, is_open, pace  # noqa: E402
+from scripts import Desk, gives_sight  # noqa: E402
+from worlds import Run, Step, allowance, contents_of, full, grounds, journal_of, objects_of, output_of, read_tick, ticked  # noqa: E402
 
 PLAYERS = os.path.join(TOP, "players")
 WORLD = os.path.join(TOP, "worlds/one_player.json")
 HARVEST = os.path.join(TOP, "worlds/harvest.json")
+WALK = os.path.join(TOP, "worlds/walk.json")
 MODEL = "--model" in sys.argv[1:]
 PROGRAM = os.path.abspath(sys.argv[1]) if len(sys.argv) > 1 else os.path.join(TOP, "crates/world_server/out/world_server")
 
@@ -207,7 +209,12 @@ def defined_constants():
     wanted |= {f"KIND_{name}": number for name, number in kinds.items() if name not in [snake(it) for it in later]}
     wanted |= {f"PART_{name}": number for name, number in numbers(["crates/game_tables/specs/Numbers.antt"], "part_number").items()}
     wanted |= {f"GROUND_{name}": number for name, number in numbers(["crates/room_terrain/specs/Tiles.antt"], "ground_number").items()}
+    wanted |= {f"DIRECTION_{name}": number for name, number in defined_directions().items()}
     return {**wanted, **defined_fields(), "MEMORY_MOST": defined_number("game_tables/specs/Limits.antt", "most_memory")}
+
+
+def defined_directions():
+    return numbers(["crates/room_terrain/specs/Geometry.antt"], "direction_number")
 
 
 def defined_number(path, name):
@@ -334,10 +341,11 @@ def check_actions(text):
     rows = table_under(text, "| Site of | Number | Work | Hits |")
     note("the table of sites", differ("sites", [[name, *map(whole, numbers_)] for name, *numbers_ in rows], wanted))
     check_powers(text)
+    check_steps(text)
 
 
 def check_powers(text):
-    """The sentences that say how much a part does, and how long a building lasts at first."""
+    """The sentences that say how much a part does, and how long a building lasts."""
     work, kinds = text_of("crates/world_rules/specs/Work.antt"), text_of("crates/game_tables/specs/Kinds.antt")
     harvested, mended, worked = (re.search(rf"{name}.*?(\d+) \* live_work creep", work, re.S)[1] for name in ("harvested_by creep", "hits_gained creep", "work_put kind creep"))
     timers = {name: int(ticks) for *name, ticks in re.findall(r"^full_timer (\w+) (\w+) = (\d+)$", kinds, re.M) for name in [" ".join(name)]}
@@ -350,6 +358,42 @@ def check_powers(text):
     plain = " ".join(text.split())
     for sentence in sentences:
         note(f"docs/players.md says {sentence[:40]!r}", None if sentence in plain else f"{sentence!r} does not stand there")
+
+
+def check_steps(text):
+    """What the text and the path finder say of the cost of a step, and of what wears and decays."""
+    moves, upkeep, kinds = (text_of("crates", it) for it in ("world_rules/specs/Moves.antt", "world_rules/specs/Upkeep.antt", "game_tables/specs/Kinds.antt"))
+    road, swamp, plain = (int(re.search(rf"^pace {it} = (\d+)$", moves, re.M)[1]) for it in ("true surface", r"false \(Some Swamp\)", "false other"))
+    load = int(re.search(r"\(creep\.energy \+ \d+\) / (\d+)", moves)[1])
+    rest = int(re.search(r"creep\.extra - (\d+) \* live_count Move", upkeep)[1])
+    lost, road_lost = (int(re.search(rf"^decay_hits {it} = (\d+)$", upkeep, re.M)[1]) for it in ("Container", "_"))
+    timers = {name: int(ticks) for *name, ticks in re.findall(r"^full_timer (\w+) (\w+) = (\d+)$", kinds, re.M) for name in [" ".join(name)]}
+    sentences = [
+        f"{road} on a road, and else {swamp} on swamp and {plain} on plain ground",
+        f"1 for each {load} of its load that were begun",
+        f"falls by {rest} for each move part with hits",
+        f"a container loses {lost:,} hits then, and its timer is {timers['Container true']} again where somebody owns the room's controller and else {timers['Container false']};",
+        f"a road loses {road_lost} hits, and its timer is {timers['Road in_owned']:,} again",
+    ]
+    words = " ".join(text.split())
+    for sentence in sentences:
+        note(f"docs/players.md says {sentence[:40]!r}", None if sentence in words else f"{sentence!r} does not stand there")
+    constants = header_constants(text_of("players/path.h"))
+    found = {name: constants.get(f"PATH_{name}") for name in ("ROAD", "PLAIN", "SWAMP")}
+    note("players/path.h has the cost of a step", differ("costs", found, {"ROAD": road, "PLAIN": plain, "SWAMP": swamp}))
+    check_path(text, constants)
+
+
+def check_path(text, constants):
+    """The functions of the path finder stand in the text, with the instructions that it says they take."""
+    functions = re.findall(r"^PATH_FUNCTION [\w ]+?(\w+)\(([^)]*)\)", text_of("players/path.h"), re.M)
+    wanted = {name: [re.sub(r".*\W", "", it) for it in params.split(",")] for name, params in functions}
+    rows = table_under(text, "| Function | Does |")
+    found = {name: params.split(", ") for cell, _ in rows for name, params in re.findall(r"`(\w+)\(([^)]*)\)`", cell)}
+    note("the functions of players/path.h", differ("functions", found, wanted))
+    rows = table_under(text, "| | Instructions |")
+    names = ("ROOM", "OBJECT", "GOING_ON", "TILE")
+    note("what the functions of players/path.h take", differ("instructions", [whole(most) for _, most in rows[:4]], [constants.get(f"PATH_COST_OF_{it}") for it in names]))
 
 
 def check_limits(text, header):
@@ -427,7 +471,7 @@ def check_streams(folder):
     check_outputs(folder, stream((0, 1, one)))
     status, out, _ = streamed(["--help"], folder)
     note("the help of upload_stream.py", differ("status", status, 0), None if b"TICK:PLAYER:FILE" in out else f"said {out!r}")
-    for uploads, player in (("worlds/one_player.uploads", "dropper"), ("worlds/harvest.uploads", "harvester")):
+    for uploads, player in (("worlds/one_player.uploads", "dropper"), ("worlds/harvest.uploads", "harvester"), ("worlds/walk.uploads", "walker")):
         wanted = stream((0, 1, bytes_of(f"players/{player}.wasm")))
         note(f"{uploads} is the upload of players/{player}.wasm", differ("stream", bytes_of(uploads), wanted))
 
@@ -688,7 +732,218 @@ def check_harvester(name, module):
     check_run(f"{name} with more objects than its budget is for", {**two_workers(), "players": [{"player": 1, "limit": 1}, {"player": 2, "limit": 0, "bucket": 1}]}, 1, module, 60, Harvester)
 
 
-CHECKS = {"dropper": check_dropper, "harvester": check_harvester}
+# ---- ways, which are judged by what they cost: of several ways of one cost a player may go any
+
+
+def leads_to_wall(world, place, tile):
+    """The tile beyond a border tile is a wall of a room that player 1 sees."""
+    name, (x, y) = beyond(place["name"], tile)
+    others = [it for it in world["rooms"] if place_of(it["name"]) == name and any(gives_sight(one, 1) for one in it["objects"])]
+    return any(it["terrain"][50 * y + x] == "1" for it in others)
+
+
+def exits_of(world, place):
+    """The border tiles to which players/walker.c goes in a room."""
+    column = 49 if place_of(place["name"])[0] % 2 == 0 else 0
+    return {(column, y) for y in range(1, 49) if not leads_to_wall(world, place, (column, y))}
+
+
+def around(one):
+    """The inner tiles within 1 of an object."""
+    return {(x, y) for x in range(one["x"] - 1, one["x"] + 2) for y in range(one["y"] - 1, one["y"] + 2) if 1 <= x <= 48 and 1 <= y <= 48}
+
+
+def beside(x, y):
+    return [(x + columns, y + rows) for columns, rows in DIRECTIONS.values()]
+
+
+def least_costs(place, goals, creeps):
+    """What the cheapest way from each tile of a room to one of the goals costs, where there is one, by a slow search over all tiles until
+    none gets cheaper: no way goes over a border tile but at its ends, nor over the tiles of these creeps."""
+    steps = {(x, y): pace(place, (x, y)) for x in range(50) for y in range(50) if is_open(place, x, y) and (x, y) not in creeps}
+    found = {tile: 0 for tile in goals if tile in steps}
+    changed = set(found)
+    while changed:
+        near = {tile for goal in changed for tile in beside(*goal) if tile in steps}
+        changed = set()
+        for tile in near:
+            ways = [found[it] + steps[it] for it in beside(*tile) if it in found and (it in goals or not {0, 49} & set(it))]
+            if min(ways, default=1 << 30) < found.get(tile, 1 << 30):
+                found[tile] = min(ways)
+                changed.add(tile)
+    return found
+
+
+class Leg:
+    """A part of a walk: from a tile of a room of a world to a goal there, which is a source or the exit."""
+
+    def __init__(self, world, index, start, source=None):
+        self.index, self.place, self.start, self.tiles = index, world["rooms"][index], start, []
+        self.is_out = source is None
+        self.goals = exits_of(world, self.place) if self.is_out else around(source)
+
+    def is_over(self):
+        return (self.tiles or [self.start])[-1] in self.goals
+
+    def faults(self):
+        creeps = {(one["x"], one["y"]) for one in self.place["objects"] if one["kind"] == "creep"} - {self.start}
+        spent, least = sum(pace(self.place, tile) for tile in self.tiles), least_costs(self.place, self.goals, creeps).get(self.start)
+        return [] if spent == least else [f"the way in room {self.index} from {self.start} by {self.tiles} costs {spent}, and the cheapest {least}"]
+
+
+def source_of(place):
+    return min((one for one in place["objects"] if one["kind"] == "source"), key=lambda one: one["id"], default=None)
+
+
+def first_leg(world, index, start):
+    """What the walker does first in a room: it goes to a source, where there is one."""
+    return Leg(world, index, start, source_of(world["rooms"][index]))
+
+
+def creep_in(world, id):
+    return next((index, one) for index, place in enumerate(world["rooms"]) for one in place["objects"] if one["id"] == id)
+
+
+def stepped(tile, direction):
+    return tuple(at + by for at, by in zip(tile, DIRECTIONS[direction]))
+
+
+def next_leg(leg, world, tile, direction):
+    """The leg of a creep that stands on this tile, and wants to step there in this tick, if it wants to step at all: where it came to a
+    source it goes out; and where it stands at the border, and didn't get over, it steps back first and comes again."""
+    if not leg.is_over():
+        return leg
+    if not leg.is_out:
+        return Leg(world, leg.index, tile)
+    return Leg(world, leg.index, stepped(tile, direction)) if direction else leg
+
+
+def walk_faults(file, steps, id, least):
+    """What is wrong of the walk of a creep: each leg that it ends is one of the cheapest, it waits only where it is tired or searches, and
+    it ends so many legs at least."""
+    before, faults, ended, idle = full(file), [], 0, 0
+    index, creep = creep_in(before, id)
+    leg = first_leg(before, index, (creep["x"], creep["y"]))
+    for step in steps:
+        tile, wanted = (creep["x"], creep["y"]), step.runs[0].entries.get(("move", id), (0, None))[1]
+        leg = next_leg(leg, before, tile, wanted)
+        idle = 0 if wanted or creep["extra"] else idle + 1
+        if idle > MOST_IDLE:
+            return [*faults, f"it stands still at {tile} of room {index} before tick {step.world['tick']}"]
+        if wanted and stepped(tile, wanted) != leg.start:
+            leg.tiles.append(stepped(tile, wanted))
+        before, (index, creep) = step.world, creep_in(step.world, id)
+        if wanted and leg.is_over():
+            ended += 1
+            faults += leg.faults()
+        if index != leg.index:
+            over = beyond(leg.place["name"], leg.tiles[-1])
+            faults += [] if over[1] == (creep["x"], creep["y"]) and leg.is_over() else [f"it came to {creep['x']}, {creep['y']} of room {index}"]
+            leg = first_leg(before, index, (creep["x"], creep["y"]))
+    return faults + ([] if ended >= least else [f"{ended} legs were ended, and not {least}"])
+
+
+# The walker searches for so many ticks at most, one after the other, those counted in which it saves units for it.
+MOST_IDLE = 30
+
+
+def steps_in(file, player, module, journal):
+    """The steps of a run, with what the journal says that the player wanted and kept in his memory text: what becomes of it is worked out
+    here."""
+    world, steps = full(file), []
+    for content in contents_of(journal)[1:]:
+        tick = read_tick(content)
+        entries = {(ACTION_NAMES[action], actor): (target, amount) for run in tick["runs"] for action, actor, target, amount, _ in run[4]}
+        text = next(it[4] for it in tick["accounts"] if it[0] == player)
+        run = Run(player, "finished", tick["runs"][0][3], text, entries)
+        world = ticked(world, [run])
+        steps.append(Step([] if steps else [(player, "accepted", module)], [run], world))
+    return steps
+
+
+def check_walk(name, file, module, ticks, id, least):
+    """The creep walks the cheapest ways, and so many legs at least."""
+    if MODEL:
+        note(name, *world_faults(file, []))
+        return
+    found = ran(name, file, 1, module, ticks)
+    if found:
+        steps = steps_in(file, 1, module, found[1])
+        faults = journal_faults(file, [])("journal.bin", found[1], journal_of(file, steps))
+        note(name, differ("lines", found[0], output_of(file, steps).decode()), *faults, *walk_faults(file, steps, id, least))
+
+
+def with_objects(file, index, *objects):
+    """The world with more objects in a room, under its next serials."""
+    file = json.loads(json.dumps(file))
+    place = file["rooms"][index]
+    for one in objects:
+        place["objects"].append({"id": (index << 32) + place["next"], **one})
+        place["next"] += 1
+    return file
+
+
+def standing(x, y, owner):
+    return {"kind": "creep", "x": x, "y": y, "owner": owner, "body": ["carry"], "timer": 9}
+
+
+def in_the_way():
+    """A creep on the road that the walker would go, which passes it round."""
+    return with_objects(sample(WALK), 0, standing(46, 24, 1))
+
+
+def beyond_the_border():
+    """Creeps of another player on all tiles to which the walker could go over."""
+    file = with_objects(sample(WALK), 1, *[standing(0, y, 2) for y in range(1, 49) if sample(WALK)["rooms"][1]["terrain"][50 * y] != "1"])
+    return {**file, "players": [*file["players"], {"player": 2, "limit": 0}]}
+
+
+def narrow_exit():
+    """Another creep of the player shows him the next room, in which all but the tile that is the farthest to come to is walls."""
+    file = with_objects(sample(WALK), 1, standing(20, 20, 1))
+    place = file["rooms"][1]
+    place["terrain"] = "".join("1" if tile % 50 == 0 and tile != 50 * 22 else ground for tile, ground in enumerate(place["terrain"]))
+    return file
+
+
+def along_the_border():
+    """A wall through the room, with a gap at the border, over which no way leads, and another one."""
+    tiles = {50 * y + x: "1" for y in range(50) for x in (0, 20, 49) if (x, y) not in ((20, 0), (20, 10))}
+    objects = [thing("creep", 1, 18, 2, owner=1, body=["move"], timer=9), thing("source", 2, 22, 2, energy=9)]
+    return {"version": 1, "tick": 0, "rooms": [{"name": "E0S0", "terrain": grounds(tiles), "next": 3, "objects": objects}], "players": [{"player": 1, "limit": 30}]}
+
+
+def maze():
+    """Two rooms side by side of walls with gaps at their ends in turn, with swamp and some roads."""
+    tiles = {50 * y + x: "1" for y in range(4, 48, 4) for x in range(50) if x not in ((2, 3) if y % 8 else (46, 47))}
+    tiles |= {50 * y + x: "2" for y in range(1, 49) for x in range(1, 49) if 50 * y + x not in tiles and (x * 7 + y * 3) % 5 < 2}
+    tiles |= {50 * y + x: "1" for x in (0, 49) for y in range(50) if y != 46}
+    tiles |= {50 * y + x: "1" for y in (0, 49) for x in range(50)}
+    roads = [thing("road", 3 + at, x, 2, timer=900) for at, x in enumerate(range(10, 20))]
+    # (of the two tiles of a gap one is taken by what obstructs, and in others there is what doesn't)
+    taken = [("extension", 3, 4), ("spawn", 46, 8), ("storage", 2, 12), ("controller", 47, 16), ("container", 2, 20), ("container", 3, 20)]
+    owned = {"extension": {"owner": 1}, "spawn": {"owner": 1}, "storage": {"owner": 1}, "container": {"timer": 9}, "controller": {}}
+    blocks = [thing(kind, 13 + at, x, y, **owned[kind]) for at, (kind, x, y) in enumerate(taken)]
+    creep = thing("creep", 1, 3, 2, owner=1, body=["work", "carry"] + ["move"] * 9, energy=50, timer=9)
+    first = {"name": "W1S5", "terrain": grounds(tiles), "next": 30, "objects": [creep, thing("source", 2, 30, 2, energy=9), *roads, *blocks]}
+    other = {"name": "W0S5", "terrain": grounds(tiles), "next": 30, "objects": [thing("source", (1 << 32) + 1, 5, 14, energy=9)]}
+    return {"version": 1, "tick": 9, "rooms": [first, other], "players": [{"player": 1, "limit": 25}]}
+
+
+def check_walker(name, module):
+    """What the module does is what players/walker.c says."""
+    file = sample(WALK)
+    check_walk(f"{name} in worlds/walk.json", file, module, 130, 2, 8)
+    check_walk(f"{name} with a budget that is saved", {**file, "players": [{"player": 1, "limit": 4, "bucket": 1}]}, module, 160, 2, 4)
+    check_walk(f"{name} with a budget for some tiles", {**file, "players": [{"player": 1, "limit": 9}]}, module, 120, 2, 4)
+    check_walk(f"{name} round a creep", in_the_way(), module, 60, 2, 4)
+    check_walk(f"{name} to the one tile that leads on", narrow_exit(), module, 60, 2, 3)
+    check_walk(f"{name} to a border that is taken", beyond_the_border(), module, 50, 2, 6)
+    check_walk(f"{name} beside a gap at the border", along_the_border(), module, 40, 1, 1)
+    check_walk(f"{name} in a maze", maze(), module, 960, 1, 3)
+
+
+CHECKS = {"dropper": check_dropper, "harvester": check_harvester, "walker": check_walker}
 
 
 def check_accepted(name, path):
@@ -704,7 +959,7 @@ def check_samples():
         path = os.path.join(PLAYERS, f"{player}.wasm")
         check_accepted(f"players/{player}.wasm is accepted", path)
         size = os.path.getsize(path)
-        note(f"players/{player}.wasm is small", None if size < 2048 else f"{size} bytes")
+        note(f"players/{player}.wasm is small", None if size < 6144 else f"{size} bytes")
         check(f"players/{player}.wasm", bytes_of(path))
 
 
@@ -721,7 +976,7 @@ void loop(void) {
     screeps_memory_write(text, sizeof text);
     screeps_drop(1, 0);
     sum += screeps_transfer(1, 2, 0) + screeps_withdraw(1, 2, 0) + screeps_pickup(1, 2);
-    sum += screeps_harvest(1, 2) + screeps_repair(1, 2) + screeps_build(1, 2);
+    sum += screeps_harvest(1, 2) + screeps_repair(1, 2) + screeps_build(1, 2) + screeps_move(1, DIRECTION_TOP_LEFT);
 }
 """
 
@@ -791,6 +1046,14 @@ def check_documented(folder, module):
         note("the module of the documented command", differ("module", bytes_of(folder, words[-1]), bytes_of(module)))
 
 
+def documented_player():
+    """The text of the player that docs/players.md has for the path finder."""
+    lines = text_of("docs/players.md").splitlines()
+    first = lines.index('    #include "path.h"')
+    last = next(at for at in range(first, len(lines)) if lines[at] and not lines[at].startswith("    "))
+    return "".join(f"{line[4:]}\n" for line in lines[first:last])
+
+
 def built_text(folder, name, text):
     """A player of this text, or None where it isn't built."""
     source, module = os.path.join(folder, f"{name}.c"), os.path.join(folder, f"{name}.wasm")
@@ -854,6 +1117,10 @@ def check_built(folder):
         check_accepted("a player with every call of the header is accepted", module)
         wanted = [("screeps", name, params, [answer]) for name, params, answer in defined_calls()]
         note("its imports", differ("imports", sorted(imports_of(bytes_of(module))), sorted(wanted)))
+    module = built_text(folder, "documented", documented_player())
+    if module:
+        check_accepted("the player of docs/players.md that finds its way is accepted", module)
+        check_walk("the player of docs/players.md that finds its way", along_the_border(), bytes_of(module), 40, 1, 1)
     module = built_text(folder, "memory", MEMORY)
     if module:
         check_accepted("a player that copies structs and fills arrays is accepted", module)

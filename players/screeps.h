@@ -26,6 +26,7 @@ enum {
     CODE_FULL = -8,                 /* there isn't so much room, or 4,096 intents are recorded in this tick */
     CODE_NOT_IN_RANGE = -9,         /* the target is too far away */
     CODE_INVALID_ARGS = -10,        /* an argument is out of its range */
+    CODE_TIRED = -11,               /* the creep is still tired of its last step */
     CODE_NO_BODYPART = -12          /* the creep has no part for it that has hits */
 };
 
@@ -190,5 +191,23 @@ SCREEPS_CALL(repair) int screeps_repair(long long creep, long long target);
  * CODE_NOT_ENOUGH_RESOURCES (it carries nothing), CODE_INVALID_TARGET (a creep stands where a spawn, an extension or a
  * storage would, too). */
 SCREEPS_CALL(build) int screeps_build(long long creep, long long target);
+
+/* Steps onto the tile that lies in a direction, after all that creeps do besides. What is no tile of the room, a wall, or one
+ * with a source, a controller, a spawn, an extension or a storage is not refused here, and then the creep stays; so it does
+ * where another creep comes onto the tile or stays there. Who steps onto a border tile goes to the next room. Or
+ * CODE_INVALID_ARGS (no direction), CODE_NO_BODYPART, CODE_TIRED (its FIELD_EXTRA is not 0). */
+SCREEPS_CALL(move) int screeps_move(long long creep, int direction);
+
+/* The directions, clockwise; y grows downwards. */
+enum {
+    DIRECTION_TOP = 1,
+    DIRECTION_TOP_RIGHT = 2,
+    DIRECTION_RIGHT = 3,
+    DIRECTION_BOTTOM_RIGHT = 4,
+    DIRECTION_BOTTOM = 5,
+    DIRECTION_BOTTOM_LEFT = 6,
+    DIRECTION_LEFT = 7,
+    DIRECTION_TOP_LEFT = 8
+};
 
 #endif
