@@ -4,7 +4,7 @@ ghost use Rattle.room_terrain.specs.declared.terrain.Ground.{Ground};
 ghost use Rattle.object_store.specs.Tables.{find_object};
 ghost use Rattle.world_rules.specs.World.{shown};
 ghost use Rattle.world_rules.specs.RoomParts.{table_part};
-ghost use Rattle.world_rules.specs.Checks.{both_of, holds_of, may_take_effect, parties};
+ghost use Rattle.world_rules.specs.Checks.{acting, both_of, holds_of, may_take_effect, parties};
 ghost use Rattle.action_checks.specs.inner.Passing.{placed_at};
 
 use crate::checks::{Scene, all_hold};
@@ -29,6 +29,18 @@ pub fn takes_effect(action: Action, room: &RoomTable, intent: &Intent) -> bool
         least: 1,
     };
     all_hold(action, &scene) && has_hits(scene.actor)
+}
+
+/// The creep of an entry, as it stands in the room, where the rule of the action does something with it.
+pub fn acting(action: Action, room: &RoomTable, intent: &Intent) -> Option<Object>
+    ensures { (grounds : List Ground)
+        → result ≡ acting action intent.now (table_part grounds room.now) }
+{
+    if takes_effect(action, room, intent) {
+        room.get(intent.actor).copied()
+    } else {
+        None
+    }
 }
 
 /// The creep and the target of an entry, as they stand in the room, where the rule of the action does

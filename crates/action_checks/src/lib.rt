@@ -7,4 +7,4 @@ mod effect;
 mod tests;
 
 pub use checks::{Scene, all_hold, first_failing};
-pub use effect::{parties, takes_effect};
+pub use effect::{acting, parties, takes_effect};

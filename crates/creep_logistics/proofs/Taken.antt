@@ -3,8 +3,8 @@ use Rattle.std.proofs.Common.{◌≡◌, ◌≢◌, ℕ, Bool, if◌then◌else�
 use Rattle.std.proofs.lemmas.Bool.{eq-eqb, ne_eqb}
 use Rattle.room_terrain.specs.declared.terrain.Ground.{Ground}
 use Rattle.object_store.specs.declared.object.Object.{Object}
-use Rattle.object_store.specs.Tables.{Table, find_object}
-use Rattle.room_rules.proofs.Calls.{set_in, taken_out}
+use Rattle.object_store.specs.Tables.{Table, find_object, removed}
+use Rattle.room_rules.proofs.Calls.{set_in}
 use Rattle.world_rules.specs.RoomParts.{RoomPart, table_part}
 use Rattle.world_rules.specs.Changes.{with_object as with_in_part, without as without_in_part}
 use Rattle.world_rules.specs.Loads.{taken_from, with_less}
@@ -18,7 +18,7 @@ module _ (grounds : List Ground) (table : Table) (pile : Object) (amount : ℕ) 
   either all = if all then without_in_part pile.id part else with_in_part (with_less amount pile) part
 
   -- A pile of which all is taken is gone.
-  pub taken_whole : amount ≡ pile.energy → table_part grounds (taken_out pile.id table) ≡ taken_from pile amount (table_part grounds table)
+  pub taken_whole : amount ≡ pile.energy → table_part grounds (removed pile.id table) ≡ taken_from pile amount (table_part grounds table)
   taken_whole all = part_without grounds table pile.id ∙ sym (ap either (eq-eqb amount pile.energy all))
 
   -- Any other keeps the rest.

@@ -4,7 +4,7 @@ ghost use Rattle.room_terrain.specs.declared.terrain.Ground.{Ground};
 ghost use Rattle.object_store.specs.Tables.{find_object};
 ghost use Rattle.world_rules.specs.RoomParts.{table_part};
 ghost use Rattle.world_rules.specs.Loads.{handed_over, transferred, withdrawn};
-ghost use Rattle.room_rules.specs.Calls.{IsReady, Keeps};
+ghost use Rattle.room_rules.specs.Calls.{IsReady, Keeps, KeepsTallies};
 
 use crate::amounts::{free_in, wanted};
 use action_checks::parties;
@@ -18,6 +18,7 @@ pub fn transfer(room: &mut RoomTable, intent: &Intent)
     requires ready { IsReady room.old }
     ensures rule { (grounds : List Ground)
         → table_part grounds room.new ≡ transferred intent.now (table_part grounds room.old) }
+    ensures tallies { KeepsTallies room.old room.new }
     ensures keeps { Keeps room.old room.new }
 {
     let Some((creep, target)) = parties(Action::Transfer, room, intent) else {
@@ -33,6 +34,7 @@ pub fn withdraw(room: &mut RoomTable, intent: &Intent)
     requires ready { IsReady room.old }
     ensures rule { (grounds : List Ground)
         → table_part grounds room.new ≡ withdrawn intent.now (table_part grounds room.old) }
+    ensures tallies { KeepsTallies room.old room.new }
     ensures keeps { Keeps room.old room.new }
 {
     let Some((creep, store)) = parties(Action::Withdraw, room, intent) else {
@@ -51,6 +53,7 @@ fn hand_over(room: &mut RoomTable, amount: u64, giver: Object, taker: Object)
     requires ready { IsReady room.old }
     ensures rule { (grounds : List Ground)
         → table_part grounds room.new ≡ handed_over amount giver taker (table_part grounds room.old) }
+    ensures tallies { KeepsTallies room.old room.new }
     ensures keeps { Keeps room.old room.new }
 {
     room.set(Object {

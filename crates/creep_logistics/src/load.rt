@@ -3,7 +3,7 @@ ghost use Rattle.std.specs.Prelude.{◌≡◌, List};
 ghost use Rattle.room_terrain.specs.declared.terrain.Ground.{Ground};
 ghost use Rattle.world_rules.specs.RoomParts.{table_part};
 ghost use Rattle.world_rules.specs.Drops.{dropped};
-ghost use Rattle.room_rules.specs.Calls.{IsReady, Keeps};
+ghost use Rattle.room_rules.specs.Calls.{IsReady, Keeps, KeepsTallies};
 
 use crate::amounts::wanted;
 use action_checks::takes_effect;
@@ -20,6 +20,7 @@ pub fn drop_load(room: &mut RoomTable, intent: &Intent)
     requires ready { IsReady room.old }
     ensures rule { (grounds : List Ground)
         → table_part grounds room.new ≡ dropped intent.now (table_part grounds room.old) }
+    ensures tallies { KeepsTallies room.old room.new }
     ensures keeps { Keeps room.old room.new }
 {
     let Some(creep) = room.get(intent.actor).copied() else {

@@ -4,7 +4,7 @@ ghost use Rattle.room_terrain.specs.declared.terrain.Ground.{Ground};
 ghost use Rattle.object_store.specs.Tables.{HasId, find_object};
 ghost use Rattle.world_rules.specs.RoomParts.{table_part};
 ghost use Rattle.world_rules.specs.Loads.{picked_up, taken_from};
-ghost use Rattle.room_rules.specs.Calls.{IsReady, Keeps};
+ghost use Rattle.room_rules.specs.Calls.{IsReady, Keeps, KeepsTallies};
 
 use crate::amounts::free_in;
 use action_checks::parties;
@@ -18,6 +18,7 @@ pub fn pickup(room: &mut RoomTable, intent: &Intent)
     requires ready { IsReady room.old }
     ensures rule { (grounds : List Ground)
         → table_part grounds room.new ≡ picked_up intent.now (table_part grounds room.old) }
+    ensures tallies { KeepsTallies room.old room.new }
     ensures keeps { Keeps room.old room.new }
 {
     let Some((creep, pile)) = parties(Action::Pickup, room, intent) else {
@@ -38,6 +39,7 @@ fn take_from(room: &mut RoomTable, pile: Object, amount: u64)
     requires ready { IsReady room.old }
     ensures rule { (grounds : List Ground)
         → table_part grounds room.new ≡ taken_from pile amount (table_part grounds room.old) }
+    ensures tallies { KeepsTallies room.old room.new }
     ensures keeps { Keeps room.old room.new }
     ensures others { (id : ℕ) → id ≢ pile.id → HasId id room.old.objects → HasId id room.new.objects }
 {

@@ -5,6 +5,7 @@ use Rattle.std.proofs.lemmas.List.Elements.{All-from_recursion}
 use Rattle.std.proofs.lemmas.List.Kept.{AllPairs-cons}
 use Rattle.game_tables.specs.Kinds.{clash}
 use Rattle.object_store.specs.declared.object.Object.{Object}
+use Rattle.object_store.specs.Tallies.{Tallies}
 use Rattle.object_store.specs.Tables.{IsRising}
 use Rattle.intent_book.specs.declared.intent.Intent.{Intent}
 use Rattle.room_rules.specs.Calls.{AreActorsOnce, AreApart, IsMovable}
@@ -33,8 +34,8 @@ module _ (a b c d e : Object) (on_a : Stands 1 10 20 a) (on_b : Stands 2 11 20 b
   five_apart : AreApart five
   five_apart = AllPairs-cons MayShare a (b ∷ c ∷ d ∷ e ∷ []) (All-from_recursion (MayShare a) (b ∷ c ∷ d ∷ e ∷ []) (λ x y. absurd (omega (arith, on_a.column, on_b.column, x)), (λ x y. absurd (omega (arith, on_a.column, on_c.column, x)), (λ x y. absurd (omega (arith, on_a.row, on_d.row, y)), (λ x y. absurd (omega (arith, on_a.column, on_e.column, x)), tt))))) (AllPairs-cons MayShare b (c ∷ d ∷ e ∷ []) (All-from_recursion (MayShare b) (c ∷ d ∷ e ∷ []) (λ x y. absurd (omega (arith, on_b.row, on_c.row, y)), (λ x y. absurd (omega (arith, on_b.column, on_d.column, x)), (λ x y. absurd (omega (arith, on_b.column, on_e.column, x)), tt)))) (AllPairs-cons MayShare c (d ∷ e ∷ []) (All-from_recursion (MayShare c) (d ∷ e ∷ []) (λ x y. absurd (omega (arith, on_c.column, on_d.column, x)), (λ x y. absurd (omega (arith, on_c.column, on_e.column, x)), tt))) (AllPairs-cons MayShare d (e ∷ []) (All-from_recursion (MayShare d) (e ∷ []) (λ x y. absurd (omega (arith, on_d.column, on_e.column, x)), tt)) (AllPairs-cons MayShare e ([]) (All-from_recursion (MayShare e) ([]) tt) (no_pairs MayShare)))))
 
-  pub five_movable : (index next spare : ℕ) → IsMovable (record { index = index; next = next; objects = five; spare = spare })
-  five_movable index next spare = record {
+  pub five_movable : (index next spare : ℕ) (tallies : Tallies) → IsMovable (record { index = index; next = next; objects = five; spare = spare; tallies = tallies })
+  five_movable index next spare tallies = record {
     tiles = (record { column = omega (arith, on_a.column); row = omega (arith, on_a.row) }, (record { column = omega (arith, on_b.column); row = omega (arith, on_b.row) }, (record { column = omega (arith, on_c.column); row = omega (arith, on_c.row) }, (record { column = omega (arith, on_d.column); row = omega (arith, on_d.row) }, (record { column = omega (arith, on_e.column); row = omega (arith, on_e.row) }, tt)))));
     apart = five_apart;
     loads = (λ creep. on_a.load, (λ creep. on_b.load, (λ creep. on_c.load, (λ creep. on_d.load, (λ creep. on_e.load, tt)))));

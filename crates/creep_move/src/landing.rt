@@ -20,6 +20,7 @@ pub fn land(terrain: &Terrain, room: &mut RoomTable, id: u64, x: u8, y: u8)
     ensures index { room.new.index ≡ room.old.index }
     ensures next { room.new.next ≡ room.old.next }
     ensures spare { room.new.spare ≡ room.old.spare }
+    ensures tallies { room.new.tallies ≡ room.old.tallies }
     ensures tiles { AllByRecursion IsOnTile room.new.objects }
 {
     // The objects rise by their ids, so that each is found by its own.
@@ -51,6 +52,7 @@ fn wear(room: &mut RoomTable, id: u64, parts: u32)
     ensures index { room.new.index ≡ room.old.index }
     ensures next { room.new.next ≡ room.old.next }
     ensures spare { room.new.spare ≡ room.old.spare }
+    ensures tallies { room.new.tallies ≡ room.old.tallies }
     ensures tiles { AllByRecursion IsOnTile room.new.objects }
 {
     let Some(road) = room.get(id) else {

@@ -31,6 +31,7 @@ pub fn settle_moves(terrain: &Terrain, room: &mut RoomTable, moves: &[Intent])
     ensures index { room.new.index ≡ room.old.index }
     ensures next { room.new.next ≡ room.old.next }
     ensures spare { room.new.spare ≡ room.old.spare }
+    ensures tallies { room.new.tallies ≡ room.old.tallies }
     ensures tiles { AllByRecursion IsOnTile room.new.objects }
 {
     // The objects rise by their ids, so that those of the room's part are those of its table.
@@ -49,6 +50,7 @@ fn settle(terrain: &Terrain, room: &mut RoomTable, moves: &[Intent])
     ensures index { room.new.index ≡ room.old.index }
     ensures next { room.new.next ≡ room.old.next }
     ensures spare { room.new.spare ≡ room.old.spare }
+    ensures tallies { room.new.tallies ≡ room.old.tallies }
     ensures tiles { AllByRecursion IsOnTile room.new.objects }
 {
     let mut comes: [u16; TILES] = all_from(NOBODY);
@@ -119,6 +121,7 @@ fn land_all(terrain: &Terrain, room: &mut RoomTable, comes: &[u16], best: &[u64]
     ensures index { room.new.index ≡ room.old.index }
     ensures next { room.new.next ≡ room.old.next }
     ensures spare { room.new.spare ≡ room.old.spare }
+    ensures tallies { room.new.tallies ≡ room.old.tallies }
     ensures tiles { AllByRecursion IsOnTile room.new.objects }
 {
     for tile in 0..TILES {

@@ -77,6 +77,10 @@ module _ (action : Action) (entry : Intent) (table : Table) (creep target : Obje
   target_found : find_object entry.target table.objects ≡ Some target
   target_found = sym (get_table_part [] table entry.target) ∙ are.at
 
+  -- the target, under the id by which it is named
+  pub target_under : (find_object entry.target table.objects ≡ Some target) × (target.id ≡ entry.target)
+  target_under = (target_found, has_the_id entry.target table.objects target target_found)
+
   pub are_there : AllByRecursion IsOnTile table.objects → AreThere table creep target
   are_there all = record {
     creep_there = stands entry.actor table.objects creep creep_found;

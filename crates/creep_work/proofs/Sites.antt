@@ -4,12 +4,12 @@ use Rattle.std.proofs.lemmas.Bool.{lt-ltb, le-ltb}
 use Rattle.room_terrain.specs.declared.terrain.Ground.{Ground}
 use Rattle.game_tables.specs.declared.kind.Kind.{Kind}
 use Rattle.object_store.specs.declared.object.Object.{Object}
-use Rattle.object_store.specs.Tables.{Table, HasId, with_new}
+use Rattle.object_store.specs.Tables.{Table, HasId, with_new, removed}
 use Rattle.world_rules.specs.RoomParts.{RoomPart, table_part}
 use Rattle.world_rules.specs.Changes.{with_object as with_in_part, with_new as new_in_part, without as without_in_part}
 use Rattle.world_rules.specs.Work.{advanced, building_on, total_of}
 use Rattle.world_rules.proofs.TableParts.{part_new, part_replaced, part_without, put_in_part}
-use Rattle.room_rules.proofs.Calls.{set_in, taken_out}
+use Rattle.room_rules.proofs.Calls.{set_in}
 
 -- the table with a building of a site under the next serial
 abbrev pub built_in : Kind → RoomPart → Object → ℕ → Table → Table
@@ -39,8 +39,8 @@ module _ (grounds : List Ground) (table : Table) (kind : Kind) (site : Object) w
 
   -- Once nothing is, its building does.
   pub advanced_whole : (spare : ℕ) → table.next < 2 ^ 32 → total_of kind ≤ site.progress
-      → table_part grounds (built_in kind (table_part grounds table) site spare (taken_out site.id table)) ≡ advanced kind site (table_part grounds table)
+      → table_part grounds (built_in kind (table_part grounds table) site spare (removed site.id table)) ≡ advanced kind site (table_part grounds table)
   advanced_whole spare room whole =
-      part_built grounds (taken_out site.id table) kind part site spare room
+      part_built grounds (removed site.id table) kind part site spare room
       ∙ ap (new_in_part (building_on kind part site)) (part_without grounds table site.id)
       ∙ sym (ap by_test (le-ltb site.progress (total_of kind) whole))

@@ -4,7 +4,7 @@ ghost use Rattle.room_terrain.specs.declared.terrain.Ground.{Ground};
 ghost use Rattle.object_store.specs.Tables.{HasId, IsOnTile};
 ghost use Rattle.world_rules.specs.RoomParts.{table_part};
 ghost use Rattle.world_rules.specs.Work.{advanced, building_on, built, total_of, work_put};
-ghost use Rattle.room_rules.specs.Calls.{IsReady, Keeps};
+ghost use Rattle.room_rules.specs.Calls.{IsReady, Keeps, KeepsTallies};
 
 use action_checks::parties;
 use game_tables::{Action, Body, Kind, Part, build_total, built_hits, full_timer, is_owned};
@@ -18,6 +18,7 @@ pub fn build(room: &mut RoomTable, intent: &Intent)
     requires ready { IsReady room.old }
     ensures rule { (grounds : List Ground)
         → table_part grounds room.new ≡ built intent.now (table_part grounds room.old) }
+    ensures tallies { KeepsTallies room.old room.new }
     ensures keeps { Keeps room.old room.new }
 {
     let Some((creep, site)) = parties(Action::Build, room, intent) else {
@@ -66,6 +67,7 @@ fn advance(room: &mut RoomTable, kind: Kind, site: Object)
     requires there { HasId site.id room.old.objects }
     ensures rule { (grounds : List Ground)
         → table_part grounds room.new ≡ advanced kind site (table_part grounds room.old) }
+    ensures tallies { KeepsTallies room.old room.new }
     ensures keeps { Keeps room.old room.new }
 {
     if site.progress < total_of(kind) {

@@ -4,7 +4,7 @@ ghost use Rattle.room_terrain.specs.declared.terrain.Ground.{Ground};
 ghost use Rattle.object_store.specs.Stores.{free_room};
 ghost use Rattle.world_rules.specs.RoomParts.{controller_of, table_part};
 ghost use Rattle.world_rules.specs.Work.{harvested, live_work};
-ghost use Rattle.room_rules.specs.Calls.{IsReady, Keeps};
+ghost use Rattle.room_rules.specs.Calls.{IsReady, Keeps, KeepsTallies};
 
 use action_checks::parties;
 use falling_energy::fall;
@@ -19,6 +19,7 @@ pub fn harvest(room: &mut RoomTable, intent: &Intent)
     requires ready { IsReady room.old }
     ensures rule { (grounds : List Ground)
         → table_part grounds room.new ≡ harvested intent.now (table_part grounds room.old) }
+    ensures tallies { KeepsTallies room.old room.new }
     ensures keeps { Keeps room.old room.new }
 {
     let Some((creep, source)) = parties(Action::Harvest, room, intent) else {
@@ -44,8 +45,8 @@ fn mined(creep: &Object) -> u64
     2 * u64::from(creep.body.live(Part::Work, creep.hits))
 }
 
-// How much of an amount a creep of the room has room for.
-fn taken(room: &RoomTable, creep: &Object, amount: u64) -> u64
+/// How much of an amount a creep of the room has room for.
+pub(crate) fn taken(room: &RoomTable, creep: &Object, amount: u64) -> u64
     ensures part { (grounds : List Ground)
         → result ≡ min amount (free_room (controller_of (table_part grounds room.now)) creep.now) }
     ensures fits { creep.now.energy + result < 2 ^ 64 }

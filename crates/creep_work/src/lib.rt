@@ -1,12 +1,14 @@
-// The rules of what creeps work: harvesting, repairing and building.
+// The rules of what creeps work: harvesting, repairing, building and dismantling.
 #![tactic(auto)]
 
 mod building;
+mod dismantling;
 mod harvesting;
 mod repairing;
 #[cfg(test)]
 mod tests;
 
 pub use building::build;
+pub use dismantling::dismantle;
 pub use harvesting::harvest;
 pub use repairing::repair;

@@ -3,7 +3,7 @@ ghost use Rattle.std.specs.Prelude.{◌≡◌, ◌+◌, ◌^◌, ◌<◌, ◌≤
 ghost use Rattle.room_terrain.specs.declared.terrain.Ground.{Ground};
 ghost use Rattle.world_rules.specs.RoomParts.{table_part};
 ghost use Rattle.world_rules.specs.Work.{hits_gained, repair_cost, repaired};
-ghost use Rattle.room_rules.specs.Calls.{IsReady, Keeps};
+ghost use Rattle.room_rules.specs.Calls.{IsReady, Keeps, KeepsTallies};
 
 use action_checks::parties;
 use game_tables::{Action, Part, hits_max};
@@ -17,6 +17,7 @@ pub fn repair(room: &mut RoomTable, intent: &Intent)
     requires ready { IsReady room.old }
     ensures rule { (grounds : List Ground)
         → table_part grounds room.new ≡ repaired intent.now (table_part grounds room.old) }
+    ensures tallies { KeepsTallies room.old room.new }
     ensures keeps { Keeps room.old room.new }
 {
     let Some((creep, building)) = parties(Action::Repair, room, intent) else {

@@ -11,6 +11,7 @@ use Rattle.object_store.proofs.Keyed.{rises_from_objects, objects_from_rises}
 use Rattle.world_rules.specs.RoomParts.{RoomPart, table_part}
 use Rattle.world_rules.proofs.TableParts.{get_table_part, part_new, part_without}
 use Rattle.object_store.specs.declared.world.Room.{Room}
+use Rattle.object_store.specs.Tallies.{no_tallies}
 use Rattle.object_store.specs.Tables.{Table, IsRising, find_object, with_new, without}
 use Rattle.object_store.specs.Lending.{with_table}
 
@@ -88,7 +89,7 @@ rising_new object objects rise =
 -- ---- what is found in a table
 
 bare : List Object → Table
-bare objects = record { index = 0; next = 0; objects = objects; spare = 0 }
+bare objects = record { index = 0; next = 0; objects = objects; spare = 0; tallies = no_tallies }
 
 pub found_new : (object : Object) (objects : List Object) (q : ℕ) → find_object q (with_new object objects) ≡ cond (eq_by_cmp nat_cmp q object.id) (Some object) (find_object q objects)
 unfolding bare

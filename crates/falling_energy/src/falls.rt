@@ -5,7 +5,7 @@ ghost use Rattle.room_terrain.specs.declared.terrain.Ground.{Ground};
 ghost use Rattle.object_store.specs.Tables.{IsRising};
 ghost use Rattle.world_rules.specs.RoomParts.{table_part};
 ghost use Rattle.world_rules.specs.Drops.{fallen, is_pile_on, pile_bound, pile_of};
-ghost use Rattle.room_rules.specs.Calls.{IsReady, Keeps};
+ghost use Rattle.room_rules.specs.Calls.{IsReady, Keeps, KeepsTallies};
 
 use game_tables::{Body, Kind, most_energy};
 use object_store::{Object, RoomTable};
@@ -19,6 +19,7 @@ pub fn fall(room: &mut RoomTable, x: u8, y: u8, amount: u64)
     requires ready { IsReady room.old }
     ensures rule { (grounds : List Ground)
         → table_part grounds room.new ≡ fallen x y amount (table_part grounds room.old) }
+    ensures tallies { KeepsTallies room.old room.new }
     ensures keeps { Keeps room.old room.new }
 {
     if amount == 0 {

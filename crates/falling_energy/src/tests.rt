@@ -1,5 +1,6 @@
 // What falls in a room of two objects: what lies there, and a creep.
 ghost use Rattle.std.specs.Prelude.{◌≡◌, ◌≤◌, [], ◌∷◌, IfOk};
+ghost use Rattle.object_store.specs.Tallies.{no_tallies};
 ghost use Rattle.world_rules.specs.Drops.{pile_of};
 ghost use Rattle.world_rules.specs.Examples.{creep_with};
 
@@ -59,7 +60,8 @@ fn room(alloc: Global, lying: Object, creep: Object) -> Result<RoomTable, AllocE
     requires lying { lying.id ≡ 2 }
     requires creep { creep.id ≡ 3 }
     ensures { IfOk result
-        (λ room. room ≡ record { index = 0; next = 4; objects = lying ∷ creep ∷ []; spare = 1 }) }
+        (λ room. room
+        ≡ record { index = 0; next = 4; objects = lying ∷ creep ∷ []; spare = 1; tallies = no_tallies }) }
 {
     let mut objects = Vec::new(alloc);
     objects.push(lying)?;

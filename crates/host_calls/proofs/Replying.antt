@@ -6,7 +6,7 @@ use Rattle.std.proofs.lemmas.List.{length-take}
 use Rattle.game_tables.specs.Codes.{code_number}
 use Rattle.game_tables.specs.Limits.{most_memory}
 use Rattle.game_tables.specs.declared.action.Action.{Action}
-use Rattle.game_tables.specs.declared.action.Action.TheVariants.{DropLoad, Transfer, Withdraw, Pickup, Harvest, Repair, Build, Move}
+use Rattle.game_tables.specs.declared.action.Action.TheVariants.{DropLoad, Transfer, Withdraw, Pickup, Heal, RangedHeal, Dismantle, Attack, Harvest, Repair, Build, RangedMassAttack, RangedAttack, Suicide, Move}
 use Rattle.game_tables.specs.declared.code.Code.{Code}
 use Rattle.game_tables.specs.declared.code.Code.TheVariants.{Done, InvalidArgs}
 use Rattle.intent_book.specs.declared.intent.Intent.{Intent}
@@ -45,12 +45,26 @@ reply_of_size call.Withdraw desk memory args =
     act_size Withdraw desk memory (argument args 0) (argument args 1) (argument args 2)
 reply_of_size call.Pickup desk memory args =
     act_size Pickup desk memory (argument args 0) (argument args 1) (pos 0)
+reply_of_size call.Heal desk memory args =
+    act_size Heal desk memory (argument args 0) (argument args 1) (pos 0)
+reply_of_size call.RangedHeal desk memory args =
+    act_size RangedHeal desk memory (argument args 0) (argument args 1) (pos 0)
+reply_of_size call.Dismantle desk memory args =
+    act_size Dismantle desk memory (argument args 0) (argument args 1) (pos 0)
+reply_of_size call.Attack desk memory args =
+    act_size Attack desk memory (argument args 0) (argument args 1) (pos 0)
 reply_of_size call.Harvest desk memory args =
     act_size Harvest desk memory (argument args 0) (argument args 1) (pos 0)
 reply_of_size call.Repair desk memory args =
     act_size Repair desk memory (argument args 0) (argument args 1) (pos 0)
 reply_of_size call.Build desk memory args =
     act_size Build desk memory (argument args 0) (argument args 1) (pos 0)
+reply_of_size call.RangedMassAttack desk memory args =
+    act_size RangedMassAttack desk memory (argument args 0) (pos 0) (pos 0)
+reply_of_size call.RangedAttack desk memory args =
+    act_size RangedAttack desk memory (argument args 0) (argument args 1) (pos 0)
+reply_of_size call.Suicide desk memory args =
+    act_size Suicide desk memory (argument args 0) (pos 0) (pos 0)
 reply_of_size call.Move desk memory args =
     act_size Move desk memory (argument args 0) (pos 0) (argument args 1)
 reply_of_size _ desk memory args = (refl, refl)
@@ -105,12 +119,26 @@ reply_of_unchanged call.Withdraw desk memory args =
     act_unchanged Withdraw desk memory (argument args 0) (argument args 1) (argument args 2)
 reply_of_unchanged call.Pickup desk memory args =
     act_unchanged Pickup desk memory (argument args 0) (argument args 1) (pos 0)
+reply_of_unchanged call.Heal desk memory args =
+    act_unchanged Heal desk memory (argument args 0) (argument args 1) (pos 0)
+reply_of_unchanged call.RangedHeal desk memory args =
+    act_unchanged RangedHeal desk memory (argument args 0) (argument args 1) (pos 0)
+reply_of_unchanged call.Dismantle desk memory args =
+    act_unchanged Dismantle desk memory (argument args 0) (argument args 1) (pos 0)
+reply_of_unchanged call.Attack desk memory args =
+    act_unchanged Attack desk memory (argument args 0) (argument args 1) (pos 0)
 reply_of_unchanged call.Harvest desk memory args =
     act_unchanged Harvest desk memory (argument args 0) (argument args 1) (pos 0)
 reply_of_unchanged call.Repair desk memory args =
     act_unchanged Repair desk memory (argument args 0) (argument args 1) (pos 0)
 reply_of_unchanged call.Build desk memory args =
     act_unchanged Build desk memory (argument args 0) (argument args 1) (pos 0)
+reply_of_unchanged call.RangedMassAttack desk memory args =
+    act_unchanged RangedMassAttack desk memory (argument args 0) (pos 0) (pos 0)
+reply_of_unchanged call.RangedAttack desk memory args =
+    act_unchanged RangedAttack desk memory (argument args 0) (argument args 1) (pos 0)
+reply_of_unchanged call.Suicide desk memory args =
+    act_unchanged Suicide desk memory (argument args 0) (pos 0) (pos 0)
 reply_of_unchanged call.Move desk memory args =
     act_unchanged Move desk memory (argument args 0) (pos 0) (argument args 1)
 reply_of_unchanged _ desk memory args = λ _. (refl, refl)

@@ -12,8 +12,8 @@ all_calls =
     call.Tick ∷ call.Me ∷ call.Allowance ∷ call.Bucket ∷ call.Points ∷ call.Level ∷ call.Rooms ∷ call.Room
     ∷ call.RoomName ∷ call.Terrain ∷ call.Count ∷ call.Find ∷ call.Get
     ∷ call.MemoryLength ∷ call.MemoryRead ∷ call.MemoryWrite ∷ call.DropLoad ∷ call.Transfer ∷ call.Withdraw
-    ∷ call.Pickup ∷ call.Harvest ∷ call.Repair ∷ call.Build
-    ∷ call.Move ∷ []
+    ∷ call.Pickup ∷ call.Heal ∷ call.RangedHeal ∷ call.Dismantle ∷ call.Attack ∷ call.Harvest ∷ call.Repair
+    ∷ call.Build ∷ call.RangedMassAttack ∷ call.RangedAttack ∷ call.Suicide ∷ call.Move ∷ []
 
 -- the call of a number
 abbrev pub call_at : ℕ → Option Call
@@ -47,9 +47,16 @@ row call.DropLoad = record { name = codes "drop"; params = I64 ∷ I32 ∷ []; r
 row call.Transfer = record { name = codes "transfer"; params = I64 ∷ I64 ∷ I32 ∷ []; result = I32 }
 row call.Withdraw = record { name = codes "withdraw"; params = I64 ∷ I64 ∷ I32 ∷ []; result = I32 }
 row call.Pickup = record { name = codes "pickup"; params = I64 ∷ I64 ∷ []; result = I32 }
+row call.Heal = record { name = codes "heal"; params = I64 ∷ I64 ∷ []; result = I32 }
+row call.RangedHeal = record { name = codes "ranged_heal"; params = I64 ∷ I64 ∷ []; result = I32 }
+row call.Dismantle = record { name = codes "dismantle"; params = I64 ∷ I64 ∷ []; result = I32 }
+row call.Attack = record { name = codes "attack"; params = I64 ∷ I64 ∷ []; result = I32 }
 row call.Harvest = record { name = codes "harvest"; params = I64 ∷ I64 ∷ []; result = I32 }
 row call.Repair = record { name = codes "repair"; params = I64 ∷ I64 ∷ []; result = I32 }
 row call.Build = record { name = codes "build"; params = I64 ∷ I64 ∷ []; result = I32 }
+row call.RangedMassAttack = record { name = codes "ranged_mass_attack"; params = I64 ∷ []; result = I32 }
+row call.RangedAttack = record { name = codes "ranged_attack"; params = I64 ∷ I64 ∷ []; result = I32 }
+row call.Suicide = record { name = codes "suicide"; params = I64 ∷ []; result = I32 }
 row call.Move = record { name = codes "move"; params = I64 ∷ I32 ∷ []; result = I32 }
 
 -- The signature is that of the call.

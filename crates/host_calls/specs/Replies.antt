@@ -4,7 +4,7 @@ use Rattle.std.specs.Option.{unwrap_or}
 use Rattle.game_tables.specs.Codes.{code_number}
 use Rattle.game_tables.specs.Limits.{most_memory}
 use Rattle.game_tables.specs.declared.action.Action.{Action}
-use Rattle.game_tables.specs.declared.action.Action.TheVariants.{DropLoad, Transfer, Withdraw, Pickup, Harvest, Repair, Build, Move}
+use Rattle.game_tables.specs.declared.action.Action.TheVariants.{DropLoad, Transfer, Withdraw, Pickup, Heal, RangedHeal, Dismantle, Attack, Harvest, Repair, Build, RangedMassAttack, RangedAttack, Suicide, Move}
 use Rattle.game_tables.specs.declared.code.Code.{Code}
 use Rattle.game_tables.specs.declared.code.Code.TheVariants.{Done, NotFound, Full, InvalidArgs}
 use Rattle.room_terrain.specs.Tiles.{ground_number}
@@ -188,6 +188,24 @@ withdraw_reply desk memory id target amount = act_reply Withdraw desk memory id 
 abbrev pub pickup_reply : Desk → Memory → ℤ → ℤ → Reply
 pickup_reply desk memory id target = act_reply Pickup desk memory id target (pos 0)
 
+-- heal and ranged_heal: a creep and a creep, and no amount
+abbrev pub heal_reply : Desk → Memory → ℤ → ℤ → Reply
+heal_reply desk memory id target = act_reply Heal desk memory id target (pos 0)
+
+abbrev pub ranged_heal_reply : Desk → Memory → ℤ → ℤ → Reply
+ranged_heal_reply desk memory id target = act_reply RangedHeal desk memory id target (pos 0)
+
+-- dismantle: a creep and a building, and no amount
+abbrev pub dismantle_reply : Desk → Memory → ℤ → ℤ → Reply
+dismantle_reply desk memory id target = act_reply Dismantle desk memory id target (pos 0)
+
+-- attack and ranged_attack: a creep, another creep or a building, and no amount
+abbrev pub attack_reply : Desk → Memory → ℤ → ℤ → Reply
+attack_reply desk memory id target = act_reply Attack desk memory id target (pos 0)
+
+abbrev pub ranged_attack_reply : Desk → Memory → ℤ → ℤ → Reply
+ranged_attack_reply desk memory id target = act_reply RangedAttack desk memory id target (pos 0)
+
 -- harvest: a creep and a source, and no amount
 abbrev pub harvest_reply : Desk → Memory → ℤ → ℤ → Reply
 harvest_reply desk memory id target = act_reply Harvest desk memory id target (pos 0)
@@ -199,6 +217,13 @@ repair_reply desk memory id target = act_reply Repair desk memory id target (pos
 -- build: a creep and a site, and no amount
 abbrev pub build_reply : Desk → Memory → ℤ → ℤ → Reply
 build_reply desk memory id target = act_reply Build desk memory id target (pos 0)
+
+-- ranged_mass_attack and suicide: a creep alone
+abbrev pub mass_attack_reply : Desk → Memory → ℤ → Reply
+mass_attack_reply desk memory id = act_reply RangedMassAttack desk memory id (pos 0) (pos 0)
+
+abbrev pub suicide_reply : Desk → Memory → ℤ → Reply
+suicide_reply desk memory id = act_reply Suicide desk memory id (pos 0) (pos 0)
 
 -- move: the amount is the number of the direction
 abbrev pub move_reply : Desk → Memory → ℤ → ℤ → Reply
@@ -231,9 +256,17 @@ reply_of call.Transfer desk memory args =
 reply_of call.Withdraw desk memory args =
     withdraw_reply desk memory (argument args 0) (argument args 1) (argument args 2)
 reply_of call.Pickup desk memory args = pickup_reply desk memory (argument args 0) (argument args 1)
+reply_of call.Heal desk memory args = heal_reply desk memory (argument args 0) (argument args 1)
+reply_of call.RangedHeal desk memory args = ranged_heal_reply desk memory (argument args 0) (argument args 1)
+reply_of call.Dismantle desk memory args = dismantle_reply desk memory (argument args 0) (argument args 1)
+reply_of call.Attack desk memory args = attack_reply desk memory (argument args 0) (argument args 1)
 reply_of call.Harvest desk memory args = harvest_reply desk memory (argument args 0) (argument args 1)
 reply_of call.Repair desk memory args = repair_reply desk memory (argument args 0) (argument args 1)
 reply_of call.Build desk memory args = build_reply desk memory (argument args 0) (argument args 1)
+reply_of call.RangedMassAttack desk memory args = mass_attack_reply desk memory (argument args 0)
+reply_of call.RangedAttack desk memory args =
+    ranged_attack_reply desk memory (argument args 0) (argument args 1)
+reply_of call.Suicide desk memory args = suicide_reply desk memory (argument args 0)
 reply_of call.Move desk memory args = move_reply desk memory (argument args 0) (argument args 1)
 
 -- the reply to a call with as many arguments as its type has, and to any other

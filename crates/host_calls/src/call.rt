@@ -25,13 +25,20 @@ pub enum Call {
     Transfer,
     Withdraw,
     Pickup,
+    Heal,
+    RangedHeal,
+    Dismantle,
+    Attack,
     Harvest,
     Repair,
     Build,
+    RangedMassAttack,
+    RangedAttack,
+    Suicide,
     Move,
 }
 
-static CALLS: [Call; 24] = [
+static CALLS: [Call; 31] = [
     Call::Tick,
     Call::Me,
     Call::Allowance,
@@ -52,9 +59,16 @@ static CALLS: [Call; 24] = [
     Call::Transfer,
     Call::Withdraw,
     Call::Pickup,
+    Call::Heal,
+    Call::RangedHeal,
+    Call::Dismantle,
+    Call::Attack,
     Call::Harvest,
     Call::Repair,
     Call::Build,
+    Call::RangedMassAttack,
+    Call::RangedAttack,
+    Call::Suicide,
     Call::Move,
 ];
 

@@ -133,9 +133,16 @@ impl<'a, 'v> Desk<'a, 'v> {
             Call::Transfer => told(self.act(Action::Transfer, first, second, third)),
             Call::Withdraw => told(self.act(Action::Withdraw, first, second, third)),
             Call::Pickup => told(self.act(Action::Pickup, first, second, 0)),
+            Call::Heal => told(self.act(Action::Heal, first, second, 0)),
+            Call::RangedHeal => told(self.act(Action::RangedHeal, first, second, 0)),
+            Call::Dismantle => told(self.act(Action::Dismantle, first, second, 0)),
+            Call::Attack => told(self.act(Action::Attack, first, second, 0)),
             Call::Harvest => told(self.act(Action::Harvest, first, second, 0)),
             Call::Repair => told(self.act(Action::Repair, first, second, 0)),
             Call::Build => told(self.act(Action::Build, first, second, 0)),
+            Call::RangedMassAttack => told(self.act(Action::RangedMassAttack, first, 0, 0)),
+            Call::RangedAttack => told(self.act(Action::RangedAttack, first, second, 0)),
+            Call::Suicide => told(self.act(Action::Suicide, first, 0, 0)),
             Call::Move => told(self.act(Action::Move, first, 0, second)),
         }
     }

@@ -352,3 +352,114 @@ fn a_move_is_refused_by_its_first_check(rt: HostRuntime) {
     ];
     check_codes(&rt, Action::Move, None, &rows);
 }
+
+// A creep of one part beside those of a creep.
+fn fighter(part: Part, owner: u32, y: u8) -> Object {
+    let mut body = Body::new();
+    body.push(part);
+    body.push(Part::Move);
+    Object {
+        hits: 200,
+        body,
+        ..thing(3, Kind::Creep, owner, y, 0)
+    }
+}
+
+#[test]
+fn who_heals_is_refused_by_his_first_check(rt: HostRuntime) {
+    let healer = fighter(Part::Heal, 1, 20);
+    let hurt = Object {
+        hits: 100,
+        ..healer
+    };
+    let friend = thing(4, Kind::Creep, 1, 21, 0);
+    let foe = Object { owner: 2, ..friend };
+    let far = Object { y: 22, ..friend };
+    let farther = Object { y: 23, ..friend };
+    let away = Object { y: 24, ..friend };
+    let storage = thing(5, Kind::Storage, 1, 21, 0);
+    for (action, range) in [(Action::Heal, 1), (Action::RangedHeal, 3)] {
+        let reached = if range == 3 {
+            Code::Done
+        } else {
+            Code::NotInRange
+        };
+        let rows: [Row; 10] = [
+            (Some(&foe), Some((0, &friend)), 0, Code::NotOwner),
+            (Some(&hurt), Some((0, &storage)), 0, Code::NoBodypart),
+            (Some(&healer), None, 0, Code::InvalidTarget),
+            (Some(&healer), Some((0, &storage)), 0, Code::InvalidTarget),
+            (Some(&healer), Some((0, &away)), 0, Code::NotInRange),
+            (Some(&healer), Some((1, &friend)), 0, Code::NotInRange),
+            (Some(&healer), Some((0, &far)), 0, reached),
+            (Some(&healer), Some((0, &farther)), 0, reached),
+            (Some(&healer), Some((0, &healer)), 0, Code::Done),
+            (Some(&healer), Some((0, &foe)), 0, Code::Done),
+        ];
+        check_codes(&rt, action, None, &rows);
+    }
+}
+
+#[test]
+fn who_attacks_is_refused_by_his_first_check(rt: HostRuntime) {
+    let friend = thing(4, Kind::Creep, 1, 21, 0);
+    let foe = Object { owner: 2, ..friend };
+    let source = thing(5, Kind::Source, 0, 21, 0);
+    let road = thing(5, Kind::Road, 0, 21, 0);
+    for (action, part, (row, next_row), strikes_creeps) in [
+        (Action::Attack, Part::Attack, (21, 22), true),
+        (Action::RangedAttack, Part::RangedAttack, (23, 24), true),
+        (Action::Dismantle, Part::Work, (21, 22), false),
+    ] {
+        let creep = fighter(part, 1, 20);
+        let hurt = Object { hits: 100, ..creep };
+        let near = Object { y: row, ..road };
+        let far = Object {
+            y: next_row,
+            ..road
+        };
+        let struck = if strikes_creeps {
+            Code::Done
+        } else {
+            Code::InvalidTarget
+        };
+        let rows: [Row; 8] = [
+            (Some(&hurt), Some((0, &source)), 0, Code::NoBodypart),
+            (Some(&creep), Some((0, &creep)), 0, Code::InvalidTarget),
+            (Some(&creep), Some((0, &source)), 0, Code::InvalidTarget),
+            (Some(&creep), Some((0, &far)), 0, Code::NotInRange),
+            (Some(&creep), Some((1, &near)), 0, Code::NotInRange),
+            (Some(&creep), Some((0, &foe)), 0, struck),
+            (Some(&creep), Some((0, &friend)), 0, struck),
+            (Some(&creep), Some((0, &near)), 0, Code::Done),
+        ];
+        check_codes(&rt, action, None, &rows);
+    }
+}
+
+#[test]
+fn who_needs_no_target_is_refused_by_his_first_check(rt: HostRuntime) {
+    let shooter = fighter(Part::RangedAttack, 1, 20);
+    let foreign = Object {
+        owner: 2,
+        ..shooter
+    };
+    let hurt = Object {
+        hits: 100,
+        ..shooter
+    };
+    let road = thing(5, Kind::Road, 1, 21, 0);
+    for (action, without_part) in [
+        (Action::RangedMassAttack, Code::NoBodypart),
+        (Action::Suicide, Code::Done),
+    ] {
+        let rows: [Row; 5] = [
+            (None, None, 0, Code::NotFound),
+            (Some(&road), None, 0, Code::NotFound),
+            (Some(&foreign), None, 0, Code::NotOwner),
+            (Some(&hurt), None, 0, without_part),
+            (Some(&shooter), None, 0, Code::Done),
+        ];
+        check_codes(&rt, action, None, &rows);
+    }
+}

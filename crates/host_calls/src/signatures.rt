@@ -4,7 +4,7 @@ ghost use Rattle.host_calls.specs.Calls.{AreSignatures, all_calls, call_at, row}
 
 use wasm_module::{HostSig, ValType};
 
-static SIGNATURES: [HostSig; 24] = [
+static SIGNATURES: [HostSig; 31] = [
     HostSig {
         name: "tick",
         params: &[],
@@ -106,6 +106,26 @@ static SIGNATURES: [HostSig; 24] = [
         result: Some(ValType::I32),
     },
     HostSig {
+        name: "heal",
+        params: &[ValType::I64, ValType::I64],
+        result: Some(ValType::I32),
+    },
+    HostSig {
+        name: "ranged_heal",
+        params: &[ValType::I64, ValType::I64],
+        result: Some(ValType::I32),
+    },
+    HostSig {
+        name: "dismantle",
+        params: &[ValType::I64, ValType::I64],
+        result: Some(ValType::I32),
+    },
+    HostSig {
+        name: "attack",
+        params: &[ValType::I64, ValType::I64],
+        result: Some(ValType::I32),
+    },
+    HostSig {
         name: "harvest",
         params: &[ValType::I64, ValType::I64],
         result: Some(ValType::I32),
@@ -118,6 +138,21 @@ static SIGNATURES: [HostSig; 24] = [
     HostSig {
         name: "build",
         params: &[ValType::I64, ValType::I64],
+        result: Some(ValType::I32),
+    },
+    HostSig {
+        name: "ranged_mass_attack",
+        params: &[ValType::I64],
+        result: Some(ValType::I32),
+    },
+    HostSig {
+        name: "ranged_attack",
+        params: &[ValType::I64, ValType::I64],
+        result: Some(ValType::I32),
+    },
+    HostSig {
+        name: "suicide",
+        params: &[ValType::I64],
         result: Some(ValType::I32),
     },
     HostSig {

@@ -39,10 +39,17 @@ fn calls_have_names_numbers_and_arguments(rt: HostRuntime) -> Result<(), Fail> {
         (17, Call::Transfer, "transfer", 3),
         (18, Call::Withdraw, "withdraw", 3),
         (19, Call::Pickup, "pickup", 2),
-        (20, Call::Harvest, "harvest", 2),
-        (21, Call::Repair, "repair", 2),
-        (22, Call::Build, "build", 2),
-        (23, Call::Move, "move", 2),
+        (20, Call::Heal, "heal", 2),
+        (21, Call::RangedHeal, "ranged_heal", 2),
+        (22, Call::Dismantle, "dismantle", 2),
+        (23, Call::Attack, "attack", 2),
+        (24, Call::Harvest, "harvest", 2),
+        (25, Call::Repair, "repair", 2),
+        (26, Call::Build, "build", 2),
+        (27, Call::RangedMassAttack, "ranged_mass_attack", 1),
+        (28, Call::RangedAttack, "ranged_attack", 2),
+        (29, Call::Suicide, "suicide", 1),
+        (30, Call::Move, "move", 2),
     ];
     assert_eq!(rt; host_sigs().len(), calls.len());
     for (number, call, name, arguments) in calls {
@@ -52,8 +59,8 @@ fn calls_have_names_numbers_and_arguments(rt: HostRuntime) -> Result<(), Fail> {
         assert_eq!(rt; Call::of_number(number), Some(call));
         assert_eq!(rt; parameters(number), Some(arguments));
     }
-    assert_eq!(rt; Call::of_number(24), None);
-    assert_eq!(rt; parameters(24), None);
+    assert_eq!(rt; Call::of_number(31), None);
+    assert_eq!(rt; parameters(31), None);
     assert_eq!(rt; Call::of_number(u32::MAX), None);
     assert_eq!(rt; parameters(u32::MAX), None);
     Ok(())
@@ -161,7 +168,7 @@ fn check_answers(rt: &impl Abort, alloc: Global, view: &View) -> Result<(), Allo
     let mut desk = Desk::new(alloc, view, player, b"text")?;
     let mut pages = Pages::new(alloc, 0, 0)?;
     let none: &[i64] = &[];
-    let rows: [(u32, &[i64], i64); 39] = [
+    let rows: [(u32, &[i64], i64); 46] = [
         (0, none, 7),
         (1, none, 1),
         (2, none, 50),
@@ -191,8 +198,15 @@ fn check_answers(rt: &impl Abort, alloc: Global, view: &View) -> Result<(), Allo
         (20, &[7, 8], -5),
         (21, &[7, 8], -5),
         (22, &[7, 8], -5),
-        (23, &[7, 1], -5),
-        (24, none, -10),
+        (23, &[7, 8], -5),
+        (24, &[7, 8], -5),
+        (25, &[7, 8], -5),
+        (26, &[7, 8], -5),
+        (27, &[7], -5),
+        (28, &[7, 8], -5),
+        (29, &[7], -5),
+        (30, &[7, 1], -5),
+        (31, none, -10),
         (0, &[1], -10),
         (7, none, -10),
         (16, &[7], -10),

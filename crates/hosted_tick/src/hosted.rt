@@ -32,9 +32,13 @@ pub struct Hosted {
 }
 
 impl Model for Hosted {
+    ghost use Rattle.std.specs.Coded.{codes};
+    ghost use Rattle.object_store.specs.Tallies.{tallies_code};
     ghost use Rattle.hosted_tick.specs.Hosting.{AreLinked, Held, bytes_of};
 
     ghost Value = { Held };
+
+    ghost coded = { Prim.hlevel (codes, tallies_code) };
 
     ghost view = { λ h. record { world = h.world; modules = bytes_of h.modules.entries } };
 

@@ -5,6 +5,9 @@ mod Placed
 mod Changed
 mod Kept
 mod OnTiles
+mod NextOnTile
+mod Tallied
+mod TallyChanges
 mod Obstructed
 mod Named
 pub mod Accounts

@@ -1,5 +1,5 @@
 -- What obstructs a tile, kind by kind.
-use Rattle.std.proofs.Common.{◌≡◌, ℕ, ◌==◌, ◌&&◌, ◌||◌, Bool, true, false, List, [], ◌∷◌, Option, option_map, is_some, refl, sym, ap, ◌∙◌}
+use Rattle.std.proofs.Common.{◌≡◌, ℕ, ◌==◌, ◌&&◌, ◌||◌, Bool, true, false, List, [], ◌∷◌, option_map, is_some, refl, ap, ◌∙◌}
 use Rattle.std.specs.List.{find, list_any}
 use Rattle.game_tables.specs.Kinds.{obstructs}
 use Rattle.game_tables.specs.Numbers.{kind_number}

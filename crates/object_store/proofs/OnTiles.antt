@@ -54,7 +54,7 @@ tile_within x y low = elim (cases_lt 49 x) [
 tile_inside : (x y : ℕ) → x ≤ 49 → y ≤ 49 → tile_number x y ≡ 50 * y + x
 tile_inside x y narrow short = rw (le-leb x 49 narrow, le-leb y 49 short) refl
 
-same_tile : (a b x y : ℕ) → tile_number x y < 2500 → tile_number a b ≡ tile_number x y → (a ≡ x) × (b ≡ y)
+pub same_tile : (a b x y : ℕ) → tile_number x y < 2500 → tile_number a b ≡ tile_number x y → (a ≡ x) × (b ≡ y)
 same_tile a b x y low same =
     let one = tile_within x y low in
     let two = tile_within a b (subst (λ n. n < 2500) (sym same) low) in

@@ -63,7 +63,7 @@ map_replaced-above key y (x ∷ xs) all =
     let other : key x ≢ key y = λ e. omega arith in
     rw (ne_eqb (key x) (key y) other) (ap (λ ys. x ∷ ys) (map_replaced-above key y xs all.1))
 
-find-above : {X : Type 0} (key : X → ℕ) (n : ℕ) (xs : List X) → AllByRecursion (λ x. n < key x) xs → find (λ x. eqb (key x) n) xs ≡ None
+pub find-above : {X : Type 0} (key : X → ℕ) (n : ℕ) (xs : List X) → AllByRecursion (λ x. n < key x) xs → find (λ x. eqb (key x) n) xs ≡ None
 find-above key n [] all = refl
 find-above key n (x ∷ xs) all =
     let above : n < key x = all.0 in
@@ -99,7 +99,7 @@ find-absent key n (x ∷ xs) (suc i) rises parts other =
     let not_here : key x ≢ n = λ e. omega arith in
     rw (ne_eqb (key x) n not_here) (find-absent key n xs i rises.1 parts.1 (λ d lt. other d (omega arith)))
 
-some_none : {X : Type 0} {x : X} → Some x ≡ None → ⊥
+pub some_none : {X : Type 0} {x : X} → Some x ≡ None → ⊥
 some_none e = cc
 
 none_some : {X : Type 0} {x : X} → None ≡ Some x → ⊥
@@ -150,7 +150,7 @@ set-at key y (x ∷ xs) (suc i) d rises within here =
     let other : key x ≢ key y = λ e. omega arith in
     rw (ne_eqb (key x) (key y) other) (ap (λ ys. x ∷ ys) (set-at key y xs i d rises.1 lower here))
 
-key_replaced : {X : Type 0} (key : X → ℕ) (y x : X) → key (replaced key y x) ≡ key x
+pub key_replaced : {X : Type 0} (key : X → ℕ) (y x : X) → key (replaced key y x) ≡ key x
 key_replaced key y x =
     elim (cases_eq (key x) (key y)) [
       | inl same ↦ rw (eq-eqb (key x) (key y) same) (sym same)

@@ -1,3 +1,4 @@
+pub mod Tallies
 pub mod Tables
 pub mod Stored
 pub mod Controllers

@@ -5,3 +5,4 @@ pub mod Chains
 pub mod Naming
 pub mod Ordered
 pub mod Kept
+pub mod Tallied

@@ -11,6 +11,7 @@ mod room_table;
 mod slots;
 mod standing;
 mod stores;
+mod tally;
 #[cfg(test)]
 mod tests;
 mod tile_index;
@@ -26,4 +27,5 @@ pub use room_table::RoomTable;
 pub use room_terrain::{Ground, NotAName, Place, RoomName, Terrain};
 pub use standing::Standing;
 pub use stores::{capacity, free_room, site_building};
+pub use tally::Tally;
 pub use world::{Room, World};

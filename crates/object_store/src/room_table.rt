@@ -3,9 +3,12 @@ ghost use Rattle.std.specs.Prelude.{◌≡◌, ◌==◌, ◌<◌, ◌≤◌, ◌
 ghost use Rattle.std.specs.List.{HoldsAt, list_any};
 ghost use Rattle.std.specs.Map.Iter.{ShowsInOrder, deref};
 ghost use Rattle.object_store.specs.declared.object.Object.{Object};
-ghost use Rattle.object_store.specs.Tables.{Table, IsRising, IsOnTile, HasId, HasNoId, find_object, find_from, is_barred, is_obstructed, with_object, with_new, without, first_on};
+ghost use Rattle.object_store.specs.Tables.{Table, IsRising, IsOnTile, HasId, HasNoId, AreTalliesOf, cover_of, find_object, find_from, is_barred, is_obstructed, with_object, with_new, removed, first_on, first_on_from};
+ghost use Rattle.object_store.specs.Tallies.{damaged, healed, no_tallies, tally_of};
 ghost use Rattle.object_store.specs.inner.Kept.{is_kind_on};
 ghost use Rattle.object_store.specs.inner.Owners.{Covers};
+ghost use Rattle.object_store.specs.inner.Tallied.{AreBeside, done_to};
+ghost use Rattle.std.specs.FinMap.{from_entries};
 ghost use Rattle.object_store.specs.Controllers.{controller_among};
 
 use crate::controller::{controller_slot, kept_or_sought, stays};
@@ -13,21 +16,23 @@ use crate::object::Object;
 use crate::objects::Objects;
 use crate::owners::Owners;
 use crate::slots::{
-    copied, has_owned, least_on, numbers, place, position, search, slot_of, tile_of, tiles_of,
+    clear, copied, copied_tallies, has_owned, least_on, next_of_tile, numbers, place, position,
+    search, search_next, slot_of, tile_of, tiles_of, untallied,
 };
+use crate::tally::Tally;
 use crate::tile_index::{TILES, TileIndex};
 use game_tables::{Kind, is_controller};
 use std::alloc::{AllocError, Global};
 use std::marker::Model;
 
 /// The objects of one room in rising id, with the room's index in the world and the serial of its
-/// next new object.
+/// next new object, and what was done to them so far in a tick.
 ///
 /// Each object stays in the slot where it was put, and `order` has the slots by rising id. So an id
 /// is found by halving, and a birth and a death move no object. A slot whose object was taken out
 /// stays empty until the table is copied. The objects on a tile are found by its chain, and most
 /// players who own nothing are told without a look at the objects. The slot of the room's controller
-/// is kept.
+/// is kept. What was done to an object stands beside its slot.
 #[derive(Drop)]
 pub struct RoomTable {
     index: u32,
@@ -35,6 +40,7 @@ pub struct RoomTable {
     slots: Vec<Object>,
     order: Vec<u32>,
     tiles: TileIndex,
+    tallies: Vec<Tally>,
     spare: u32,
     owners: Owners,
     controller: Option<u32>,
@@ -46,8 +52,13 @@ impl Model for RoomTable {
     ghost use Rattle.object_store.specs.inner.Kept.{IsController};
     ghost use Rattle.object_store.specs.inner.Owners.{Covers};
     ghost use Rattle.object_store.specs.inner.Placed.{standing, IsPlaced, HasRoom};
+    ghost use Rattle.object_store.specs.inner.Tallied.{tallied, AreBeside};
+    ghost use Rattle.std.specs.Coded.{codes};
+    ghost use Rattle.object_store.specs.Tallies.{tallies_code};
 
     ghost Value = { Table };
+
+    ghost coded = { Prim.hlevel (codes, tallies_code) };
 
     ghost view = { λ t.
         record {
@@ -55,17 +66,20 @@ impl Model for RoomTable {
           next = t.next;
           objects = standing t.slots.items t.order.items;
           spare = t.spare;
+          tallies = tallied t.slots.items t.tallies.items t.order.items;
         } };
 
     ghost invariant = { λ t. IsPlaced t.slots.items t.order.items t.tiles.tiles
-        × HasRoom t.slots t.order t.tiles t.spare × Covers t.owners.remainders
-        (standing t.slots.items t.order.items) × IsController t.slots.items t.order.items t.controller };
+        × HasRoom t.slots t.order t.tiles t.spare × AreBeside t.slots.items t.tallies t.spare
+        × Covers t.owners.remainders (standing t.slots.items t.order.items)
+        × IsController t.slots.items t.order.items t.controller };
 }
 
 impl RoomTable {
     /// An empty table.
     pub fn new(alloc: Global, index: u32, next: u32) -> RoomTable
-        ensures { result ≡ record { index = index; next = next; objects = []; spare = 0 } }
+        ensures { result
+            ≡ record { index = index; next = next; objects = []; spare = 0; tallies = no_tallies } }
     {
         RoomTable {
             index,
@@ -73,6 +87,7 @@ impl RoomTable {
             slots: Vec::new(alloc),
             order: Vec::new(alloc),
             tiles: TileIndex::new(alloc),
+            tallies: Vec::new(alloc),
             spare: 0,
             owners: Owners::none(),
             controller: None,
@@ -88,11 +103,17 @@ impl RoomTable {
     ) -> Result<RoomTable, AllocError>
         requires rising { IsRising objects.items }
         requires within { length objects.items < 2 ^ 32 }
-        ensures { IfOk result
-            (λ table. table ≡ record { index = index; next = next; objects = objects.items; spare = 0 }) }
+        ensures { IfOk result (λ table. table ≡ record {
+          index = index;
+          next = next;
+          objects = objects.items;
+          spare = 0;
+          tallies = no_tallies;
+        }) }
     {
         let owners = Owners::of(&objects);
-        RoomTable::filled(alloc, index, next, objects, 0, owners)
+        let tallies = untallied(alloc, objects.len())?;
+        RoomTable::filled(alloc, index, next, objects, tallies, 0, owners)
     }
 
     // The table of the objects of these slots, in which there is room for some more.
@@ -101,6 +122,7 @@ impl RoomTable {
         index: u32,
         next: u32,
         slots: Vec<Object>,
+        tallies: Vec<Tally>,
         spare: u32,
         owners: Owners,
     ) -> Result<RoomTable, AllocError>
@@ -108,8 +130,14 @@ impl RoomTable {
         requires within { length slots.items + spare < 2 ^ 32 }
         requires room { length slots.items + spare ≤ vec_capacity slots }
         requires owners { Covers owners.remainders slots.items }
-        ensures { IfOk result
-            (λ table. table ≡ record { index = index; next = next; objects = slots.items; spare = spare }) }
+        requires beside { AreBeside slots.items tallies spare }
+        ensures { IfOk result (λ table. table ≡ record {
+          index = index;
+          next = next;
+          objects = slots.items;
+          spare = spare;
+          tallies = from_entries (done_to slots.items tallies.items);
+        }) }
     {
         let room = slots.len() + spare as usize;
         let order = numbers(alloc, slots.len(), room)?;
@@ -121,6 +149,7 @@ impl RoomTable {
             slots,
             order,
             tiles,
+            tallies,
             spare,
             owners,
             controller,
@@ -161,6 +190,7 @@ impl RoomTable {
         ensures rising { IsRising result }
         ensures within { length result < 2 ^ 32 }
         ensures runs { ShowsInOrder (deref {X = Object}) }
+        ensures tallies { AreTalliesOf result self.now.tallies }
     {
         Objects::of(&self.slots, &self.order)
     }
@@ -202,6 +232,19 @@ impl RoomTable {
             least_on(&self.tiles, &self.slots, tile, kind)
         } else {
             search(&self.slots, &self.order, x, y, kind)
+        }
+    }
+
+    /// The object of the least id on a tile that is at least this one. It takes a walk along what stands on
+    /// the tile.
+    pub fn next_on(&self, x: u8, y: u8, id: u64) -> Option<&Object>
+        ensures { option_map (λ o. o.now) result ≡ first_on_from x y id self.now.objects }
+    {
+        let tile = tile_of(x, y);
+        if tile < TILES {
+            next_of_tile(&self.tiles, &self.slots, tile, id)
+        } else {
+            search_next(&self.slots, &self.order, x, y, id)
         }
     }
 
@@ -269,11 +312,13 @@ impl RoomTable {
         ensures { IfOk result (λ copy. copy ≡ record self.now { spare = spare }) }
     {
         let slots = copied(alloc, &self.slots, &self.order, spare as usize)?;
+        let tallies = copied_tallies(alloc, &self.tallies, &self.order, spare as usize)?;
         RoomTable::filled(
             alloc,
             self.index,
             self.next,
             slots,
+            tallies,
             spare as u32,
             self.owners,
         )
@@ -292,6 +337,7 @@ impl RoomTable {
         self.slots.reserve(n as usize)?;
         self.order.reserve(n as usize)?;
         self.tiles.reserve(n as usize)?;
+        self.tallies.reserve(n as usize)?;
         self.spare = self.spare.max(n as u32);
         Ok(())
     }
@@ -329,6 +375,7 @@ impl RoomTable {
         // They have memory for one more, so these are never refused.
         let _full = self.order.insert(place, slot);
         let _full = self.slots.push(object);
+        let _full = self.tallies.push(Tally::NONE);
         self.controller = kept_or_sought(self.controller, stays, &self.slots, &self.order);
         self.spare -= 1;
     }
@@ -353,10 +400,10 @@ impl RoomTable {
         id
     }
 
-    /// Takes the object of an id out. Its memory isn't kept for another.
+    /// Takes the object of an id out, with what was done to it. Its memory isn't kept for another.
     pub fn remove(&mut self, id: u64) -> Option<Object>
         ensures removed { result ≡ find_object id self.old.objects }
-        ensures table { self.new ≡ record self.old { objects = without id self.old.objects } }
+        ensures table { self.new ≡ removed id self.old }
     {
         let place = position(&self.slots, &self.order, id)?;
         let slot = self.order.remove(place);
@@ -365,6 +412,82 @@ impl RoomTable {
         let stays = !is_controller(removed.kind);
         self.controller = kept_or_sought(self.controller, stays, &self.slots, &self.order);
         Some(removed)
+    }
+
+    /// The id of the object for which what is done to this one counts. Under the first rules each counts for
+    /// itself.
+    pub fn cover(&self, id: u64) -> u64
+        ensures { result ≡ cover_of id self.now.objects }
+    {
+        id
+    }
+
+    /// Adds damage to an object, up to 2^32 - 1 in all.
+    pub fn add_damage(&mut self, id: u64, n: u32)
+        requires there { HasId (cover_of id self.old.objects) self.old.objects }
+        ensures { self.new
+            ≡ record self.old { tallies = damaged (cover_of id self.old.objects) n self.old.tallies } }
+    {
+        let covering = self.cover(id);
+        let slot = slot_of(&self.slots, &self.order, covering);
+        let tally = self.tallies[slot as usize];
+        self.tallies[slot as usize] = Tally {
+            damage: tally.damage.saturating_add(n),
+            ..tally
+        };
+    }
+
+    /// Adds healing to an object, up to 2^32 - 1 in all.
+    pub fn add_healing(&mut self, id: u64, n: u32)
+        requires there { HasId id self.old.objects }
+        ensures { self.new ≡ record self.old { tallies = healed id n self.old.tallies } }
+    {
+        let slot = slot_of(&self.slots, &self.order, id);
+        let tally = self.tallies[slot as usize];
+        self.tallies[slot as usize] = Tally {
+            healing: tally.healing.saturating_add(n),
+            ..tally
+        };
+    }
+
+    /// The damage that was done to the object of an id, and 0 where there is none.
+    pub fn damage(&self, id: u64) -> u32
+        ensures { result ≡ (tally_of id self.now.tallies).damage }
+    {
+        self.tally(id).damage
+    }
+
+    /// The healing of the object of an id, and 0 where there is none.
+    pub fn healing(&self, id: u64) -> u32
+        ensures { result ≡ (tally_of id self.now.tallies).healing }
+    {
+        self.tally(id).healing
+    }
+
+    // What was done to the object of an id.
+    fn tally(&self, id: u64) -> Tally
+        ensures { result ≡ tally_of id self.now.tallies }
+    {
+        match position(&self.slots, &self.order, id) {
+            Some(place) => self.tallies[self.order[place] as usize],
+            None => Tally::NONE,
+        }
+    }
+
+    /// What was done to the object at a place, from 0 on. It takes no search.
+    pub fn nth_tally(&self, i: u32) -> Tally
+        requires { i < length self.now.objects }
+        ensures { (object : Object) → slice_get self.now.objects i ≡ Some object
+            → result ≡ tally_of object.id self.now.tallies }
+    {
+        self.tallies[self.order[i as usize] as usize]
+    }
+
+    /// Forgets what was done to all objects.
+    pub fn clear_sums(&mut self)
+        ensures { self.new ≡ record self.old { tallies = no_tallies } }
+    {
+        clear(&mut self.tallies);
     }
 }
 

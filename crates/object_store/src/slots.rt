@@ -1,13 +1,17 @@
 // The slots of a room's objects, and their order by rising id.
-ghost use Rattle.std.specs.Prelude.{◌≡◌, ◌==◌, ◌&&◌, ◌<◌, ◌≤◌, ◌+◌, ◌^◌, ◌⊎◌, ℕ, length, map, option_map, vec_capacity, Some, IfSome, IfNone, IfOk};
+ghost use Rattle.std.specs.Prelude.{◌≡◌, ◌==◌, ◌&&◌, ◌<◌, ◌≤◌, ◌+◌, ◌^◌, ◌⊎◌, ℕ, EachIndex, length, map, nat_le, option_map, replicate, slice_index_or, vec_capacity, Some, IfSome, IfNone, IfOk};
 ghost use Rattle.std.specs.List.{AllByRecursion, HoldsAt, list_any, range_with_len};
 ghost use Rattle.std.specs.List.Sorted.{IsPartitionPoint};
 ghost use Rattle.game_tables.specs.Numbers.{kind_number};
-ghost use Rattle.object_store.specs.Tables.{IsRising, HasId, HasNoId, first_on};
+ghost use Rattle.object_store.specs.Tables.{IsRising, HasId, HasNoId, first_on, first_on_from, is_on as is_tile};
+ghost use Rattle.object_store.specs.Tallies.{no_tally};
+ghost use Rattle.object_store.specs.declared.tally.Tally.{Tally as TallyOf};
 ghost use Rattle.object_store.specs.inner.Chains.{Chained};
-ghost use Rattle.object_store.specs.inner.Placed.{standing, tile_number, tile_of_object, AreKnown, AtMost, IsLeastFrom, StandsIn};
+ghost use Rattle.object_store.specs.inner.Tallied.{tallies_in};
+ghost use Rattle.object_store.specs.inner.Placed.{standing, tile_number, tile_of_object, AreKnown, AtMost, IsLeastFrom, IsNextOfTile, StandsIn};
 
 use crate::object::Object;
+use crate::tally::Tally;
 use crate::tile_index::{TILES, TileIndex};
 use game_tables::Kind;
 use std::alloc::{AllocError, Global};
@@ -91,6 +95,42 @@ pub(crate) fn least_on(tiles: &TileIndex, slots: &[Object], tile: u16, kind: Kin
     found
 }
 
+/// The object of the least id on a tile that is at least this one, by a walk along the chain of the tile.
+pub(crate) fn next_of_tile<'a>(
+    tiles: &TileIndex,
+    slots: &'a [Object],
+    tile: u16,
+    id: u64,
+) -> Option<&'a Object>
+    requires tile { tile < 2500 }
+    requires tiled { length tiles.now.tiles ≡ length slots.now }
+    ensures { IsNextOfTile 0 id tile slots.now tiles.now.tiles (option_map (λ o. o.now) result) }
+{
+    let mut found: Option<&Object> = None;
+    let mut older = tiles.newest(tile);
+    while older > 0 {
+        let slot = older - 1;
+        let object = &slots[slot as usize];
+        if object.id >= id {
+            found = Some(lesser_object(found, object));
+        }
+        older = tiles.older(slot);
+    }
+    found
+}
+
+// The one of the lesser id of two objects, or the second where there is no first.
+fn lesser_object<'a>(found: Option<&'a Object>, object: &'a Object) -> &'a Object
+    ensures one { (result.now ≡ object.now) ⊎ (option_map (λ o. o.now) found.entry ≡ Some result.now) }
+    ensures least { result.now.id ≤ object.now.id }
+    ensures most { (n : ℕ) → AtMost (option_map (λ o. o.now.id) found.entry) n → result.now.id ≤ n }
+{
+    match found {
+        Some(found) if found.id < object.id => found,
+        _ => object,
+    }
+}
+
 // The lesser of two ids, or the second where there is no first.
 fn lesser(found: Option<u64>, id: u64) -> u64
     ensures one { (result ≡ id) ⊎ (found ≡ Some result) }
@@ -115,6 +155,32 @@ pub(crate) fn search(slots: &[Object], order: &[u32], x: u8, y: u8, kind: Kind) 
         }
     }
     None
+}
+
+/// The object of the least id on a tile that is at least this one, by a search from the front.
+pub(crate) fn search_next<'a>(
+    slots: &'a [Object],
+    order: &[u32],
+    x: u8,
+    y: u8,
+    id: u64,
+) -> Option<&'a Object>
+    requires { AreKnown slots.now order.now }
+    ensures { option_map (λ o. o.now) result ≡ first_on_from x y id (standing slots.now order.now) }
+{
+    for slot in order {
+        let object = &slots[*slot as usize];
+        if is_next_on(object, x, y, id) {
+            return Some(object);
+        }
+    }
+    None
+}
+
+fn is_next_on(object: &Object, x: u8, y: u8, id: u64) -> bool
+    ensures { result ≡ (is_tile x y object.now && nat_le id object.now.id) }
+{
+    object.x == x && object.y == y && object.id >= id
 }
 
 fn is_on(object: &Object, x: u8, y: u8, kind: Kind) -> bool
@@ -154,6 +220,47 @@ pub(crate) fn copied(
         copy.push(slots[*slot as usize])?;
     }
     Ok(copy)
+}
+
+/// What was done to the objects, in the same way.
+pub(crate) fn copied_tallies(
+    alloc: Global,
+    tallies: &[Tally],
+    order: &[u32],
+    spare: usize,
+) -> Result<Vec<Tally>, AllocError>
+    requires known { AllByRecursion (λ slot. slot < length tallies.now) order.now }
+    requires within { length order.now + spare < 2 ^ 32 }
+    ensures tallies { IfOk result (λ copy. copy.items ≡ tallies_in tallies.now order.now) }
+    ensures room { IfOk result (λ copy. length order.now + spare ≤ vec_capacity copy) }
+{
+    let mut copy = Vec::with_capacity(alloc, order.len() + spare)?;
+    for slot in order {
+        copy.push(tallies[*slot as usize])?;
+    }
+    Ok(copy)
+}
+
+/// Tallies of objects to which nothing was done.
+pub(crate) fn untallied(alloc: Global, count: usize) -> Result<Vec<Tally>, AllocError>
+    ensures tallies { IfOk result (λ tallies. tallies.items ≡ replicate count no_tally) }
+    ensures room { IfOk result (λ tallies. count ≤ vec_capacity tallies) }
+{
+    let mut tallies = Vec::with_capacity(alloc, count)?;
+    for _i in 0..count {
+        tallies.push(Tally::NONE)?;
+    }
+    Ok(tallies)
+}
+
+/// Forgets what was done.
+pub(crate) fn clear(tallies: &mut [Tally])
+    ensures clear { EachIndex tallies.new (λ k. (d : TallyOf) → slice_index_or tallies.new k d ≡ no_tally) }
+    ensures long { length tallies.new ≡ length tallies.old }
+{
+    for tally in tallies.iter_mut() {
+        *tally = Tally::NONE;
+    }
 }
 
 /// The first numbers, with room for some.

@@ -224,6 +224,14 @@ fn an_object_off_the_tiles_is_found_too(rt: HostRuntime) -> Result<(), Fail> {
     for (x, y, found) in [(50, 20, 2), (0, 21, 3), (20, 255, 5), (20, 20, 0)] {
         assert_eq!(rt; table.at(x, y, Kind::Pile).unwrap_or(0), found, "{x}");
     }
+    for (x, y, from, next) in [
+        (50, 20, 0, 2),
+        (50, 20, 3, 0),
+        (20, 255, 4, 5),
+        (0, 21, 0, 3),
+    ] {
+        assert_eq!(rt; next_id(&table, x, y, from), next, "{x} {from}");
+    }
     assert!(rt; change(&mut table, 'r', pile(2, 1)));
     assert!(rt; change(&mut table, 't', pile(5, 1)));
     for (x, y, found) in [(50, 20, 0), (0, 21, 3), (20, 255, 0), (20, 20, 2)] {
@@ -404,6 +412,107 @@ fn objects_are_replaced_and_taken_out(rt: HostRuntime) -> Result<(), Fail> {
     assert_eq!(rt; id_at(&table, 0), 2);
     assert_eq!(rt; id_at(&table, 1), 3);
     assert_eq!(rt; table.spare(), 1);
+    Ok(())
+}
+
+fn hurt(table: &mut RoomTable, id: u64, n: u32) -> bool {
+    let stands = table.get(id).is_some();
+    if stands {
+        table.add_damage(id, n);
+    }
+    stands
+}
+
+fn heal(table: &mut RoomTable, id: u64, n: u32) -> bool {
+    let stands = table.get(id).is_some();
+    if stands {
+        table.add_healing(id, n);
+    }
+    stands
+}
+
+fn tally_at(table: &RoomTable, place: u32) -> (u32, u32) {
+    if place < table.len() {
+        let tally = table.nth_tally(place);
+        (tally.damage, tally.healing)
+    } else {
+        (0, 0)
+    }
+}
+
+#[test]
+fn what_was_done_is_summed(rt: HostRuntime) -> Result<(), Fail> {
+    let mut table = two_piles(rt.alloc())?;
+    table.reserve(3)?;
+    assert_eq!(rt; table.cover(5), 5);
+    assert!(rt; hurt(&mut table, 5, 7) && hurt(&mut table, 5, 8));
+    assert!(rt; heal(&mut table, 5, 4) && heal(&mut table, 2, 9));
+    assert!(rt; !hurt(&mut table, 4, 1));
+    // Added before and behind it, put in its place, and taken out.
+    for (act, id) in [('a', 1), ('a', 9), ('r', 5), ('t', 2)] {
+        assert!(rt; change(&mut table, act, pile(id, 1)), "{id}");
+        assert_eq!(rt; table.damage(5), 15, "{id}");
+        assert_eq!(rt; table.healing(5), 4, "{id}");
+        let copy = table.copy(rt.alloc(), 0)?;
+        assert_eq!(rt; (copy.damage(5), copy.healing(5)), (15, 4), "{id}");
+    }
+    Ok(())
+}
+
+#[test]
+fn sums_stand_beside_their_objects(rt: HostRuntime) -> Result<(), Fail> {
+    let mut table = two_piles(rt.alloc())?;
+    table.reserve(3)?;
+    assert!(rt; hurt(&mut table, 5, 15) && heal(&mut table, 5, 4) && heal(&mut table, 2, 9));
+    assert!(rt; change(&mut table, 't', pile(2, 1)));
+    assert!(rt;
+        add(&mut table, pile(2, 1)) && add(&mut table, pile(1, 1)) && add(&mut table, pile(9, 1))
+    );
+    assert_eq!(rt; table.healing(2), 0);
+    for (place, tally) in [(0, (0, 0)), (1, (0, 0)), (2, (15, 4)), (3, (0, 0))] {
+        assert_eq!(rt; tally_at(&table, place), tally, "{place}");
+    }
+    Ok(())
+}
+
+#[test]
+fn sums_have_a_most(rt: HostRuntime) -> Result<(), Fail> {
+    let mut table = two_piles(rt.alloc())?;
+    assert!(rt; hurt(&mut table, 5, 2) && hurt(&mut table, 5, u32::MAX - 1));
+    assert!(rt; heal(&mut table, 5, 1) && heal(&mut table, 5, u32::MAX));
+    assert_eq!(rt; (table.damage(5), table.healing(5)), (u32::MAX, u32::MAX));
+    table.clear_sums();
+    assert_eq!(rt; (table.damage(5), table.healing(5)), (0, 0));
+    Ok(())
+}
+
+// The id of the next object of a tile, or 0.
+fn next_id(table: &RoomTable, x: u8, y: u8, from: u64) -> u64 {
+    table.next_on(x, y, from).map_or(0, |object| object.id)
+}
+
+fn add_at(table: &mut RoomTable, id: u64, x: u8) -> bool {
+    x < 50 && add(table, Object { x, ..pile(id, 1) })
+}
+
+#[test]
+fn what_stands_on_a_tile_is_gone_along(rt: HostRuntime) -> Result<(), Fail> {
+    let mut table = RoomTable::new(rt.alloc(), 0, 10);
+    table.reserve(4)?;
+    for (id, x) in [(5, 20), (2, 20), (3, 21), (8, 20)] {
+        assert!(rt; add_at(&mut table, id, x), "{id}");
+    }
+    for (x, from, next) in [
+        (20, 0, 2),
+        (20, 3, 5),
+        (20, 5, 5),
+        (20, 6, 8),
+        (20, 9, 0),
+        (21, 0, 3),
+        (22, 0, 0),
+    ] {
+        assert_eq!(rt; next_id(&table, x, 20, from), next, "{x} {from}");
+    }
     Ok(())
 }
 

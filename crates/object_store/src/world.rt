@@ -48,8 +48,12 @@ impl Model for World {
     ghost use Rattle.std.specs.Prelude.{◌<◌, ◌^◌, length};
     ghost use Rattle.object_store.specs.Stored.{Stored, AreRising};
     ghost use Rattle.object_store.specs.inner.Naming.{room_names, AreByName};
+    ghost use Rattle.std.specs.Coded.{codes};
+    ghost use Rattle.object_store.specs.Tallies.{tallies_code};
 
     ghost Value = { Stored };
+
+    ghost coded = { Prim.hlevel (codes, tallies_code) };
 
     ghost view = { λ w. record { tick = w.tick; rooms = w.rooms.items; accounts = w.accounts.items } };
 

@@ -22,7 +22,7 @@ use Rattle.world_rules.specs.RoomParts.{RoomPart}
 use Rattle.room_commutes.specs.Allowed.{AreCreepsOnce, StepsActor}
 use Rattle.room_commutes.specs.Orders.{of_action}
 use Rattle.room_commutes.specs.Standing.{AreKeyed}
-use Rattle.room_commutes.proofs.Members.{contains_has, has_contained, has_filter, pairs_first, pairs_later}
+use Rattle.room_commutes.proofs.Members.{Has, contains_has, has_contained, has_filter, pairs_first, pairs_later}
 use Rattle.room_commutes.proofs.Order.{less_player}
 use Rattle.room_commutes.proofs.Ordered.{in_order-same, kept-rises}
 use Rattle.room_commutes.proofs.Split.{tile_number}
@@ -41,6 +41,14 @@ same_owner found one other is also =
     let same : is.0 ≡ also.0 = let got : Some is.0 ≡ Some also.0 = sym is.1 ∙ also.1 in cc in
     sym is.2 ∙ ap (λ (object : Object). object.owner) same ∙ also.2
 
+-- An entry of an action stands in the list, and is of the action.
+pub entry_of : (action : Action) (list : List Intent) (entry : Intent) → Contains (entries_of action list) entry → Has list entry × (action_number entry.action ≡ action_number action)
+entry_of action list entry contained =
+    let those : List Intent = of_action action list in
+    let among : Contains those entry = Contains-permutation (entries_of action list) those entry (IsPermutation-sym those (entries_of action list) (in_order-same those)) contained in
+    let parts = has_filter (λ e. action_number e.action == action_number action) list entry (contains_has those entry among) in
+    (parts.0, eqb-true (action_number entry.action) (action_number action) parts.1)
+
 module _ (world : World) (list : List Intent) (action : Action) (object : names_tile action ≡ false) where
   abbrev those : List Intent
   those = entries_of action (kept world list)
@@ -51,11 +59,10 @@ module _ (world : World) (list : List Intent) (action : Action) (object : names_
   -- the actor of an entry that counts is its player's
   owned : (entry : Intent) → Contains those entry → IsOwnedBy (object_at world entry.actor) entry.player
   owned entry contained =
-      let among : Contains (of_action action (kept world list)) entry = Contains-permutation those (of_action action (kept world list)) entry (IsPermutation-sym (of_action action (kept world list)) those (in_order-same (of_action action (kept world list)))) contained in
-      let parts = has_filter (λ e. action_number e.action == action_number action) (kept world list) entry (contains_has (of_action action (kept world list)) entry among) in
+      let parts = entry_of action (kept world list) entry contained in
       let counts = (kept_counts world list entry).0 (has_contained (kept world list) entry parts.0) in
       let acts : has_actor world entry ≡ true = (and_parts (nat_lt 0 entry.player) (has_actor world entry) counts.last.good).1 in
-      let tile = no_tile entry (eqb-true (action_number entry.action) (action_number action) parts.1) in
+      let tile = no_tile entry parts.1 in
       owner_is entry (object_at world entry.actor) (subst (λ b. (if b then contains_key world.rooms (entry.actor / 2500) else acts_for entry (object_at world entry.actor)) ≡ true) tile acts)
 
   apart : (one other : Intent) → Contains those one → Contains those other → one.player < other.player → one.actor ≢ other.actor

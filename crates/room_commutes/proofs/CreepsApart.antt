@@ -20,7 +20,7 @@ use Rattle.room_commutes.proofs.Greatest.{winners_apart, free_for, movers_allowe
 
 -- ---- what is found
 
-first_has : {A : Type 0} (test : A → Bool) (list : List A) (x : A) → first_that test list ≡ Some x → Has list x × (test x ≡ true)
+pub first_has : {A : Type 0} (test : A → Bool) (list : List A) (x : A) → first_that test list ≡ Some x → Has list x × (test x ≡ true)
 first_has test [] x is = absurd (cc)
 first_has test (y ∷ list) x is = elim (test y) as (λ b. test y ≡ b → cond b (Some y) (first_that test list) ≡ Some x → Has (y ∷ list) x × (test x ≡ true)) [
   | true ↦ λ passes got. let same : y ≡ x = cc in (inl same, ap test (sym same) ∙ passes)

@@ -1,5 +1,5 @@
 -- What entries do to objects, where no rule before an entry changes it.
-use Rattle.std.proofs.Common.{◌≡◌, ℕ, zero, suc, ◌==◌, true, false, List, [], ◌∷◌, ◌++◌, Option, Some, None, option_map, option_and_then, refl, sym, ap, subst, ◌∙◌, append-nil, append_assoc, arith}
+use Rattle.std.proofs.Common.{◌≡◌, ℕ, zero, suc, ◌==◌, true, false, List, [], ◌∷◌, ◌++◌, Option, Some, None, option_map, option_and_then, refl, sym, ap, subst, ◌∙◌, append-nil, append_assoc, arith, ◌+◌, ◌*◌, ◌^◌}
 use Rattle.std.specs.List.{AllByRecursion, cons_option, filter_map}
 use Rattle.std.specs.Option.{option_to_list}
 use Rattle.std.specs.FinMap.{get}
@@ -13,13 +13,27 @@ use Rattle.world_rules.specs.RuleBook.{Harm, RuleBook, IsOrderly}
 use Rattle.world_rules.specs.Intents.{room_of, entries_of}
 use Rattle.world_rules.specs.Tick.{Course, harm_of, after_rule, after_rules, after_kind, after_actions}
 use Rattle.world_rules.specs.Seen.{seen}
-use Rattle.world_rules.proofs.Parts.{seen_part, seen_changed}
-use Rattle.room_commutes.specs.Serials.{AreSerialsUsed}
-use Rattle.room_commutes.specs.Running.{running_kind, running_actions, LeavesHarm, LeaveHarms}
-use Rattle.room_commutes.proofs.InTick.{at_start, in_tick_room, others}
+use Rattle.world_rules.proofs.Parts.{get_objects_in, seen_part, seen_changed}
+use Rattle.room_commutes.specs.Serials.{AreSerialsUsed, AreOwnSerialsUsed}
+use Rattle.room_commutes.specs.Running.{running_kind, running_actions, LeavesHarm, LeaveHarms, KeepsKeys}
+use Rattle.room_commutes.specs.Standing.{AreAllKeyed}
+use Rattle.room_commutes.proofs.InTick.{at_start, in_tick_room, others, standing}
+use Rattle.room_commutes.proofs.Keyed.{part_keyed, room_keyed}
 use Rattle.room_commutes.proofs.OneRoom.{changed_part}
 
-module _ (book : RuleBook) (orderly : IsOrderly book) (before : World) where
+-- Of a room's own ids, those that stand in its part have used up their serials.
+part_used : (world : World) (room : ℕ) (frame : Frame) → AreSerialsUsed world → get world.rooms room ≡ Some frame → AreOwnSerialsUsed (part_of world room frame)
+part_used world room frame used is serial object small there =
+    let id : ℕ = room * 2 ^ 32 + serial in
+    let stood = standing room object (get world.objects id) (sym (get_objects_in world room id) ∙ there) in
+    used room serial frame stood.0 is small stood.1
+
+-- The objects of a world stand under their ids, and have used up their serials.
+record IsKept (world : World) : Type 0 where
+  used : AreSerialsUsed world
+  keyed : AreAllKeyed world
+
+module _ (book : RuleBook) (orderly : IsOrderly book) (keeps : KeepsKeys book) (before : World) where
   abbrev change_by : Intent → RoomPart → RoomPart
   change_by entry part = (book.effect entry part).part
 
@@ -27,41 +41,44 @@ module _ (book : RuleBook) (orderly : IsOrderly book) (before : World) where
   abbrev harm_in : Intent → ℕ → World → Option (ℕ × Harm)
   harm_in entry room world = option_map (λ part. (room, book.harm entry part)) (part_at world room)
 
-  left_frame : (one other : Intent) (room : ℕ) (world : World) (found : Option Frame) → LeavesHarm book one other → get world.rooms room ≡ found → harm_in other room (in_room (change_by one) room world) ≡ harm_in other room world
-  left_frame one other room world None leaves is = ap (λ (found : Option Frame). harm_in other room (in_frame (change_by one) room world found)) is
-  left_frame one other room world (Some frame) leaves is =
+  left_frame : (one other : Intent) (room : ℕ) (world : World) (found : Option Frame) → IsKept world → LeavesHarm book one other → get world.rooms room ≡ found → harm_in other room (in_room (change_by one) room world) ≡ harm_in other room world
+  left_frame one other room world None kept leaves is = ap (λ (found : Option Frame). harm_in other room (in_frame (change_by one) room world found)) is
+  left_frame one other room world (Some frame) kept leaves is =
       let part : RoomPart = part_of world room frame in
       let there : part_at world room ≡ Some part = ap (option_map (part_of world room)) is in
       let then_there : part_at (in_room (change_by one) room world) room ≡ Some (change_by one part) = ap (seen_part room) (seen_changed (change_by one) room world) ∙ changed_part (change_by one) (orderly.effect one) room (seen world room) part there in
       ap (option_map (λ part. (room, book.harm other part))) then_there
-      ∙ ap (λ harm. Some (room, harm)) (leaves part)
+      ∙ ap (λ harm. Some (room, harm)) (leaves part (part_keyed world room frame kept.keyed) (part_used world room frame kept.used is))
       ∙ sym (ap (option_map (λ part. (room, book.harm other part))) there)
 
-  left_in : (one other : Intent) (room index : ℕ) (world : World) → AreSerialsUsed world → LeavesHarm book one other → harm_in other index (in_room (change_by one) room world) ≡ harm_in other index world
-  left_in one other room index world used leaves = elim (index == room) as (λ b. (index == room) ≡ b → harm_in other index (in_room (change_by one) room world) ≡ harm_in other index world) [
-    | true ↦ λ is. subst (λ n. harm_in other n (in_room (change_by one) room world) ≡ harm_in other n world) (sym (eqb-true index room is)) (left_frame one other room world (get world.rooms room) leaves refl)
-    | false ↦ λ is. ap (λ s. option_map (λ part. (index, book.harm other part)) (seen_part index s)) (others world world (at_start world used) (change_by one) (orderly.effect one) room index (eqb-false index room is))
+  left_in : (one other : Intent) (room index : ℕ) (world : World) → IsKept world → LeavesHarm book one other → harm_in other index (in_room (change_by one) room world) ≡ harm_in other index world
+  left_in one other room index world kept leaves = elim (index == room) as (λ b. (index == room) ≡ b → harm_in other index (in_room (change_by one) room world) ≡ harm_in other index world) [
+    | true ↦ λ is. subst (λ n. harm_in other n (in_room (change_by one) room world) ≡ harm_in other n world) (sym (eqb-true index room is)) (left_frame one other room world (get world.rooms room) kept leaves refl)
+    | false ↦ λ is. ap (λ s. option_map (λ part. (index, book.harm other part)) (seen_part index s)) (others world world (at_start world kept.used) (change_by one) (orderly.effect one) room index (eqb-false index room is))
   ] refl
 
   -- the rule of an entry leaves what another does
-  left : (one other : Intent) (course : Course) → AreSerialsUsed course.world → LeavesHarm book one other → harm_of book before (after_rule book before course one (room_of before one)).world other ≡ harm_of book before course.world other
-  left one other course used leaves = elim (room_of before one) as (λ r. harm_of book before (after_rule book before course one r).world other ≡ harm_of book before course.world other) [
+  left : (one other : Intent) (course : Course) → IsKept course.world → LeavesHarm book one other → harm_of book before (after_rule book before course one (room_of before one)).world other ≡ harm_of book before course.world other
+  left one other course kept leaves = elim (room_of before one) as (λ r. harm_of book before (after_rule book before course one r).world other ≡ harm_of book before course.world other) [
     | None ↦ refl
     | Some room ↦ elim (room_of before other) as (λ r. option_and_then (λ index. harm_in other index (in_room (change_by one) room course.world)) r ≡ option_and_then (λ index. harm_in other index course.world) r) [
       | None ↦ refl
-      | Some index ↦ left_in one other room index course.world used leaves
+      | Some index ↦ left_in one other room index course.world kept leaves
     ]
   ]
 
-  left_all : (one : Intent) (later : List Intent) (course : Course) → AreSerialsUsed course.world → AllByRecursion (LeavesHarm book one) later
+  left_all : (one : Intent) (later : List Intent) (course : Course) → IsKept course.world → AllByRecursion (LeavesHarm book one) later
       → filter_map (harm_of book before (after_rule book before course one (room_of before one)).world) later ≡ filter_map (harm_of book before course.world) later
-  left_all one [] course used leave = refl
-  left_all one (other ∷ later) course used leave = λ i. cons_option (left one other course used leave.0 i) (left_all one later course used leave.1 i)
+  left_all one [] course kept leave = refl
+  left_all one (other ∷ later) course kept leave = λ i. cons_option (left one other course kept leave.0 i) (left_all one later course kept leave.1 i)
 
-  used_after : (entry : Intent) (course : Course) → AreSerialsUsed course.world → AreSerialsUsed (after_rule book before course entry (room_of before entry)).world
-  used_after entry course used = elim (room_of before entry) as (λ r. AreSerialsUsed (after_rule book before course entry r).world) [
-    | None ↦ used
-    | Some room ↦ (in_tick_room course.world course.world (at_start course.world used) (change_by entry) (orderly.effect entry) room).used
+  kept_after : (entry : Intent) (course : Course) → IsKept course.world → IsKept (after_rule book before course entry (room_of before entry)).world
+  kept_after entry course kept = elim (room_of before entry) as (λ r. IsKept (after_rule book before course entry r).world) [
+    | None ↦ kept
+    | Some room ↦ record {
+      used = (in_tick_room course.world course.world (at_start course.world kept.used) (change_by entry) (orderly.effect entry) room).used;
+      keyed = room_keyed (change_by entry) (keeps entry) room course.world kept.keyed;
+    }
   ]
 
   -- what was done to objects goes through a rule as it is
@@ -93,32 +110,36 @@ module _ (book : RuleBook) (orderly : IsOrderly book) (before : World) where
     leave_all later (λ i j d less within. leave (suc i) (suc j) d (omega arith) (omega arith)),
   )
 
-  running_same : (list : List Intent) (course : Course) → AreSerialsUsed course.world → LeaveAll list → running_kind book before list course ≡ after_kind book before list course
-  running_same [] course used leave = λ i. record course { harms = sym (append-nil course.harms) i }
-  running_same (entry ∷ later) course used leave =
+  running_same : (list : List Intent) (course : Course) → IsKept course.world → LeaveAll list → running_kind book before list course ≡ after_kind book before list course
+  running_same [] course kept leave = λ i. record course { harms = sym (append-nil course.harms) i }
+  running_same (entry ∷ later) course kept leave =
       let room : Option ℕ = room_of before entry in
       let harms : List (ℕ × Harm) = course.harms ++ option_to_list (harm_of book before course.world entry) in
       let next : Course = after_rule book before (record course { harms = harms }) entry room in
       let more : List (ℕ × Harm) = filter_map (harm_of book before course.world) later in
-      let read : filter_map (harm_of book before next.world) later ≡ more = left_all entry later (record course { harms = harms }) used leave.0 in
-      running_same later next (used_after entry (record course { harms = harms }) used) leave.1
+      let read : filter_map (harm_of book before next.world) later ≡ more = left_all entry later (record course { harms = harms }) kept leave.0 in
+      running_same later next (kept_after entry (record course { harms = harms }) kept) leave.1
       ∙ (λ i. after_rules book before later (record next { harms = same_harms course entry room harms i ++ read i }))
       ∙ ap (after_rules book before later) (with_more course entry room harms more)
       ∙ (λ i. after_rules book before later (after_rule book before (record course { harms = appended course.harms (harm_of book before course.world entry) more i }) entry room))
 
-  pub running_is : (list : List Intent) (course : Course) → AreSerialsUsed course.world → LeaveHarms book list → running_kind book before list course ≡ after_kind book before list course
-  running_is list course used leave = running_same list course used (leave_all list leave)
+  pub running_is : (list : List Intent) (course : Course) → AreSerialsUsed course.world → AreAllKeyed course.world → LeaveHarms book list → running_kind book before list course ≡ after_kind book before list course
+  running_is list course used keyed leave = running_same list course (record { used = used; keyed = keyed }) (leave_all list leave)
 
   -- ---- all entries
 
-  used_rules : (list : List Intent) (course : Course) → AreSerialsUsed course.world → AreSerialsUsed (after_rules book before list course).world
-  used_rules [] course used = used
-  used_rules (entry ∷ later) course used = used_rules later (after_rule book before course entry (room_of before entry)) (used_after entry course used)
+  kept_rules : (list : List Intent) (course : Course) → IsKept course.world → IsKept (after_rules book before list course).world
+  kept_rules [] course kept = kept
+  kept_rules (entry ∷ later) course kept = kept_rules later (after_rule book before course entry (room_of before entry)) (kept_after entry course kept)
 
-  pub running_all : (actions : List Action) (list : List Intent) (course : Course) → AreSerialsUsed course.world → ((action : Action) → LeaveHarms book (entries_of action list))
+  running_each : (actions : List Action) (list : List Intent) (course : Course) → IsKept course.world → ((action : Action) → LeaveHarms book (entries_of action list))
       → running_actions book before actions list course ≡ after_actions book before actions list course
-  running_all [] list course used leave = refl
-  running_all (action ∷ later) list course used leave =
+  running_each [] list course kept leave = refl
+  running_each (action ∷ later) list course kept leave =
       let harms : List (ℕ × Harm) = course.harms ++ filter_map (harm_of book before course.world) (entries_of action list) in
-      ap (running_actions book before later list) (running_is (entries_of action list) course used (leave action))
-      ∙ running_all later list (after_kind book before (entries_of action list) course) (used_rules (entries_of action list) (record course { harms = harms }) used) leave
+      ap (running_actions book before later list) (running_same (entries_of action list) course kept (leave_all (entries_of action list) (leave action)))
+      ∙ running_each later list (after_kind book before (entries_of action list) course) (kept_rules (entries_of action list) (record course { harms = harms }) kept) leave
+
+  pub running_all : (actions : List Action) (list : List Intent) (course : Course) → AreSerialsUsed course.world → AreAllKeyed course.world → ((action : Action) → LeaveHarms book (entries_of action list))
+      → running_actions book before actions list course ≡ after_actions book before actions list course
+  running_all actions list course used keyed leave = running_each actions list course (record { used = used; keyed = keyed }) leave

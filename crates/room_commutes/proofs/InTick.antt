@@ -39,7 +39,7 @@ standing room object (Some p) is =
       | false ↦ λ at got. absurd (cc)
     ] refl is
 
-elsewhere : (test : Placed → Bool) (p : Placed) (found : Option Placed) → option_and_then (where_test test) found ≡ Some p → found ≡ Some p
+pub elsewhere : (test : Placed → Bool) (p : Placed) (found : Option Placed) → option_and_then (where_test test) found ≡ Some p → found ≡ Some p
 elsewhere test p None is = absurd (cc)
 elsewhere test p (Some q) is =
     elim (test q) as (λ b. cond b (Some q) None ≡ Some p → Some q ≡ Some p) [ true ↦ λ got. got | false ↦ λ got. absurd (cc) ] is

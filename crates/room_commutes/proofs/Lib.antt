@@ -19,3 +19,5 @@ pub mod Crossed
 pub mod Counted
 pub mod Summed
 pub mod ActorsOnce
+pub mod Keyed
+pub mod Torn

@@ -4,7 +4,8 @@ use Rattle.std.specs.List.{flat_map, sum_by}
 use Rattle.std.proofs.lemmas.List.Sums.{sum_by-cons, sum_by-append}
 use Rattle.std.proofs.lemmas.List.Sorted.{sum_by-IsPermutation}
 use Rattle.world_rules.specs.RuleBook.{Harm}
-use Rattle.world_rules.specs.Tick.{sum_bound, total_for, sums_of}
+use Rattle.object_store.specs.Tallies.{most_sum}
+use Rattle.world_rules.specs.Tick.{total_for, sums_of}
 
 module _ (part : Harm → List (ℕ × ℕ)) (id : ℕ) where
   abbrev of_harm : Harm → ℕ
@@ -22,6 +23,6 @@ module _ (part : Harm → List (ℕ × ℕ)) (id : ℕ) where
 
 pub sums_same : (one other : List Harm) → IsPermutation one other → sums_of one ≡ sums_of other
 sums_same one other same = λ i. record {
-  damage = λ id. min sum_bound (total_same (λ harm. harm.damage) id one other same i);
-  healing = λ id. min sum_bound (total_same (λ harm. harm.healing) id one other same i);
+  damage = λ id. min most_sum (total_same (λ harm. harm.damage) id one other same i);
+  healing = λ id. min most_sum (total_same (λ harm. harm.healing) id one other same i);
 }

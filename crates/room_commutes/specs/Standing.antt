@@ -11,6 +11,11 @@ use Rattle.world_rules.specs.Movement.{is_creep_on}
 abbrev pub AreKeyed : RoomPart → Type 0
 AreKeyed part = (id : ℕ) (object : Object) → get part.objects id ≡ Some object → object.id ≡ id
 
+-- Each object of the world stands under its id.
+abbrev pub AreAllKeyed : World → Type 0
+AreAllKeyed world =
+    (id : ℕ) (placed : Placed) → get world.objects id ≡ Some placed → placed.object.id ≡ id
+
 -- The change keeps ids.
 abbrev pub KeepsIds : (Object → Option Object) → Type 0
 KeepsIds change = (object after : Object) → change object ≡ Some after → after.id ≡ object.id

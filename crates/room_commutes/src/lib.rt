@@ -26,7 +26,7 @@ ghost use Rattle.room_commutes.specs.Schedules.{alone_course, Event, IsFull, Has
 pub use counting::entries_that_count;
 pub use crossing::crossings_keep;
 pub use entry_order::entries_in_order;
-pub use game::game_commutes;
+pub use game::{game_commutes, game_harms_as_it_runs};
 pub use harms::{harms_as_they_run, sums_in_any_order};
 pub use moving::{creeps_stay_apart, movers_are_greatest};
 pub use steps::each_by_itself;

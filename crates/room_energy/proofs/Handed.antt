@@ -14,7 +14,7 @@ use Rattle.world_rules.specs.Loads.{with_more, with_less, handed_over, transferr
 use Rattle.world_rules.proofs.Checked.{AreParties, parties_are}
 use Rattle.room_rules.specs.RoomRules.{Holds}
 use Rattle.room_rules.proofs.Changed.{holds_still, holds_without, target_apart}
-use Rattle.room_energy.specs.Energy.{energy_in, taken_between}
+use Rattle.room_energy.specs.Energy.{energy_in, amount_between}
 use Rattle.room_energy.proofs.Parts.{IsReady, energy_changed, energy_two, energy_without, under_own}
 use Rattle.room_energy.proofs.Piles.{wanted_most}
 
@@ -25,14 +25,14 @@ module _ (action : Action) (change : Object → Object → RoomPart → RoomPart
   abbrev pub PartiesTake : Type 0
   PartiesTake = (creep target : Object) → AreParties action entry part creep target → energy_in (change creep target part) + taken creep target ≡ energy_in part
 
-  between_takes : PartiesTake → (found : Option (Object × Object)) → parties action entry part ≡ found → energy_in (between change found part) + taken_between taken found ≡ energy_in part
+  between_takes : PartiesTake → (found : Option (Object × Object)) → parties action entry part ≡ found → energy_in (between change found part) + amount_between taken found ≡ energy_in part
   between_takes takes None is = omega arith
   between_takes takes (Some found) is = takes found.0 found.1 (parties_are action entry part found is)
 
-  pub energy_parties : PartiesTake → energy_in (by_parties action change entry part) + taken_between taken (parties action entry part) ≡ energy_in part
+  pub energy_parties : PartiesTake → energy_in (by_parties action change entry part) + amount_between taken (parties action entry part) ≡ energy_in part
   energy_parties takes = between_takes takes (parties action entry part) refl
 
-taken_none : (found : Option (Object × Object)) → taken_between (λ creep target. 0) found ≡ 0
+taken_none : (found : Option (Object × Object)) → amount_between (λ creep target. 0) found ≡ 0
 taken_none None = refl
 taken_none (Some found) = refl
 

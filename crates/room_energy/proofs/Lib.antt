@@ -3,4 +3,5 @@ pub mod Parts
 pub mod Piles
 pub mod Handed
 pub mod Worked
+pub mod Fought
 pub mod Taken

@@ -18,14 +18,14 @@ use Rattle.world_rules.proofs.Checked.{AreParties}
 use Rattle.room_rules.specs.Within.{Stage, IsInRangeIn}
 use Rattle.room_rules.specs.RoomRules.{Holds, KeepsRoomRules}
 use Rattle.room_rules.proofs.Changed.{holds_still, target_apart, target_kind}
-use Rattle.room_energy.specs.Energy.{energy_in, lost_by_harvest, put_into, taken_between}
+use Rattle.room_energy.specs.Energy.{energy_in, lost_by_harvest, put_into, amount_between}
 use Rattle.room_energy.proofs.Parts.{IsReady, energy_changed, energy_new, energy_two, energy_without, ready_changed, ready_without, under_own}
 use Rattle.room_energy.proofs.Piles.{energy_fallen}
 use Rattle.room_energy.proofs.Handed.{energy_parties}
 
 -- ---- harvest
 
-pub energy_harvested : (part : RoomPart) → IsReady part → (entry : Intent) → energy_in (by_parties Harvest harvested_by entry part) + taken_between (lost_by_harvest part) (parties Harvest entry part) ≡ energy_in part
+pub energy_harvested : (part : RoomPart) → IsReady part → (entry : Intent) → energy_in (by_parties Harvest harvested_by entry part) + amount_between (lost_by_harvest part) (parties Harvest entry part) ≡ energy_in part
 energy_harvested part ready entry = energy_parties Harvest harvested_by (lost_by_harvest part) entry part (λ creep source p.
     let amount : ℕ = min (2 * live_work creep) source.energy in
     let taken : ℕ = min amount (free_room (controller_of part) creep) in
@@ -43,7 +43,7 @@ cost_most : (gain load : ℕ) → gain ≤ 100 * load → repair_cost gain ≤ l
 cost_most gain load paid = omega (arith, paid)
 
 pub energy_repaired : (part : RoomPart) → IsReady part → (entry : Intent)
-    → energy_in (by_parties Repair repaired_by entry part) + taken_between (λ creep building. repair_cost (hits_gained creep building)) (parties Repair entry part) ≡ energy_in part
+    → energy_in (by_parties Repair repaired_by entry part) + amount_between (λ creep building. repair_cost (hits_gained creep building)) (parties Repair entry part) ≡ energy_in part
 energy_repaired part ready entry = energy_parties Repair repaired_by (λ creep building. repair_cost (hits_gained creep building)) entry part (λ creep building p.
     let gain : ℕ = hits_gained creep building in
     let cost : ℕ = repair_cost gain in
@@ -91,7 +91,7 @@ module _ (part : RoomPart) (ready : IsReady part) (entry : Intent) (creep site :
       omega (arith, paid, later)
 
 pub energy_built : (players : ℕ → Bool) (stage : Stage) (part : RoomPart) → KeepsRoomRules players stage part → IsReady part → (entry : Intent)
-    → energy_in (by_parties Build built_by entry part) + taken_between (λ creep site. put_into (building_of site) creep site) (parties Build entry part) ≡ energy_in part
+    → energy_in (by_parties Build built_by entry part) + amount_between (λ creep site. put_into (building_of site) creep site) (parties Build entry part) ≡ energy_in part
 energy_built players stage part k ready entry = energy_parties Build built_by (λ creep site. put_into (building_of site) creep site) entry part (λ creep site p.
     let empty : site.energy ≡ 0 = none_of site.energy (λ some. k.ranges entry.target site p.at (λ ranges. some (site_empty stage site site.kind (target_kind Build 3 entry part creep site p.targets) ranges))) in
     built_with part ready entry creep site p empty (building_of site))

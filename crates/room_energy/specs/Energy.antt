@@ -1,9 +1,9 @@
--- The energy of a room, and what the rules of actions take out of it.
+-- The energy of a room, and what the rules of actions put into it and take out of it.
 use Rattle.std.specs.Prelude.{ℕ, ◌+◌, ◌-◌, ◌*◌, ◌==◌, min, if◌then◌else◌, Option, Some, None}
 use Rattle.std.specs.List.{sum_by}
 use Rattle.std.specs.FinMap.{get, values}
 use Rattle.game_tables.specs.declared.action.Action.{Action}
-use Rattle.game_tables.specs.declared.action.Action.TheVariants.{DropLoad, Harvest, Repair, Build}
+use Rattle.game_tables.specs.declared.action.Action.TheVariants.{DropLoad, Dismantle, Harvest, Repair, Build}
 use Rattle.game_tables.specs.declared.kind.Kind.{Kind}
 use Rattle.object_store.specs.Stores.{building_of, free_room}
 use Rattle.object_store.specs.declared.object.Object.{Object}
@@ -12,6 +12,7 @@ use Rattle.world_rules.specs.RoomParts.{RoomPart, controller_of}
 use Rattle.world_rules.specs.Changes.{with_object}
 use Rattle.world_rules.specs.Checks.{may_take_effect, parties}
 use Rattle.world_rules.specs.Drops.{pile_bound, pile_on, wanted_of}
+use Rattle.world_rules.specs.Fights.{salvage}
 use Rattle.world_rules.specs.Loads.{with_less, with_more}
 use Rattle.world_rules.specs.Work.{hits_gained, live_work, repair_cost, work_put}
 
@@ -30,7 +31,18 @@ passing (Some pile) amount = (pile.energy + amount) - pile_bound
 abbrev pub lost_on : ℕ → ℕ → ℕ → RoomPart → ℕ
 lost_on x y amount part = if amount == 0 then 0 else passing (pile_on x y part) amount
 
--- ---- what each action takes out of the room
+-- ---- what each action puts into the room, and what it takes out of it
+
+-- an amount by a creep and its target, where they are there
+abbrev pub amount_between : (Object → Object → ℕ) → Option (Object × Object) → ℕ
+amount_between amount None = 0
+amount_between amount (Some found) = amount found.0 found.1
+
+-- What an entry puts into the room: what a creep gets out of a building that it tears down. No other action
+-- in force makes energy.
+abbrev pub given_by : Action → Intent → RoomPart → ℕ
+given_by Dismantle entry part = amount_between salvage (parties Dismantle entry part)
+given_by action entry part = 0
 
 -- of what a creep drops, what is lost
 abbrev pub lost_by_drop : Intent → RoomPart → Option Object → ℕ
@@ -40,11 +52,6 @@ lost_by_drop entry part (Some creep) =
     if may_take_effect DropLoad entry part
     then lost_on creep.x creep.y amount (with_object (with_less amount creep) part) else 0
 
--- what is taken by a creep and its target, where they are there
-abbrev pub taken_between : (Object → Object → ℕ) → Option (Object × Object) → ℕ
-taken_between taken None = 0
-taken_between taken (Some found) = taken found.0 found.1
-
 -- of what a creep harvests and has no room for, what is lost
 abbrev pub lost_by_harvest : RoomPart → Object → Object → ℕ
 lost_by_harvest part creep source =
@@ -52,6 +59,13 @@ lost_by_harvest part creep source =
     let taken : ℕ = min amount (free_room (controller_of part) creep) in
     lost_on creep.x creep.y (amount - taken)
     (with_object (with_more taken creep) (with_object (with_less amount source) part))
+
+-- of what a creep gets out of a building and has no room for, what is lost
+abbrev pub lost_by_dismantle : RoomPart → Object → Object → ℕ
+lost_by_dismantle part creep building =
+    let amount : ℕ = salvage creep building in
+    let taken : ℕ = min amount (free_room (controller_of part) creep) in
+    lost_on creep.x creep.y (amount - taken) (with_object (with_more taken creep) part)
 
 -- the load that goes into a site of this kind
 abbrev pub put_into : Option Kind → Object → Object → ℕ
@@ -62,9 +76,10 @@ put_into (Some kind) creep site = work_put kind creep site
 -- with. All other actions in force leave the energy in the room.
 abbrev pub taken_by : Action → Intent → RoomPart → ℕ
 taken_by DropLoad entry part = lost_by_drop entry part (get part.objects entry.actor)
-taken_by Harvest entry part = taken_between (lost_by_harvest part) (parties Harvest entry part)
+taken_by Dismantle entry part = amount_between (lost_by_dismantle part) (parties Dismantle entry part)
+taken_by Harvest entry part = amount_between (lost_by_harvest part) (parties Harvest entry part)
 taken_by Repair entry part =
-    taken_between (λ creep building. repair_cost (hits_gained creep building)) (parties Repair entry part)
+    amount_between (λ creep building. repair_cost (hits_gained creep building)) (parties Repair entry part)
 taken_by Build entry part =
-    taken_between (λ creep site. put_into (building_of site) creep site) (parties Build entry part)
+    amount_between (λ creep site. put_into (building_of site) creep site) (parties Build entry part)
 taken_by action entry part = 0

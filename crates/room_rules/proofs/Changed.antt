@@ -1,8 +1,8 @@
 -- What a creep does with a target: two objects of a room change, one after the other.
-use Rattle.std.proofs.Common.{◌≡◌, ℕ, ◌==◌, ◌&&◌, ◌||◌, not, Bool, true, false, cond, Option, Some, None, refl, sym, ap, subst, ◌∙◌}
+use Rattle.std.proofs.Common.{◌≡◌, ◌⊎◌, inl, inr, ℕ, ◌==◌, ◌&&◌, ◌||◌, not, Bool, true, false, cond, Option, Some, None, refl, sym, ap, subst, ◌∙◌}
 use Rattle.std.specs.Cmp.{nat_cmp_total, unsigned_tied}
 use Rattle.std.specs.FinMap.{get, get-insert, get-remove}
-use Rattle.std.proofs.lemmas.Bool.{both_ways, eq-eqb, ne_eqb}
+use Rattle.std.proofs.lemmas.Bool.{both_ways, eq-eqb, eqb-false, eqb-true, ne_eqb}
 use Rattle.game_tables.specs.Actions.{is_target}
 use Rattle.game_tables.specs.declared.action.Action.{Action}
 use Rattle.intent_book.specs.declared.intent.Intent.{Intent}
@@ -55,6 +55,33 @@ left_without part gone id o h =
       | true ↦ λ is got. absurd (cc)
       | false ↦ λ is got. (λ same. both_ways (id == gone) is (eq-eqb id gone same), got)
     ] refl (sym (get-remove nat_cmp_total part.objects gone id ∙ ap (λ (b : Bool). cond b None (get part.objects id)) (unsigned_tied id gone)) ∙ h)
+
+set_from : (part : RoomPart) (object : Object) (found : Option Object) → get part.objects object.id ≡ found → (id : ℕ) (o : Object) → Holds (put object part found) id o
+    → (Holds part id o × (object.id ≡ id → ⊥)) ⊎ (object ≡ o)
+set_from part object None is id o h = inl (h, λ same. none_there (get part.objects id) (ap (get part.objects) (sym same) ∙ is) h)
+  where
+    none_there : (found : Option Object) → found ≡ None → found ≡ Some o → ⊥
+    none_there found none some = cc
+set_from part object (Some old) is id o h =
+    elim (id == object.id) as (λ b. (id == object.id) ≡ b → cond b (Some object) (get part.objects id) ≡ Some o → (Holds part id o × (object.id ≡ id → ⊥)) ⊎ (object ≡ o)) [
+      | true ↦ λ same got. inr (cc)
+      | false ↦ λ apart got. inl (got, λ same. eqb-false id object.id apart (sym same))
+    ] refl (sym (get-insert nat_cmp_total part.objects object.id object id ∙ ap (λ (b : Bool). cond b (Some object) (get part.objects id)) (unsigned_tied id object.id)) ∙ h)
+
+-- What stands after an object was put in the place of its own stood before under another id, or it is that object.
+pub set_came : (part : RoomPart) (object : Object) (id : ℕ) (o : Object) → Holds (with_object object part) id o → (Holds part id o × (object.id ≡ id → ⊥)) ⊎ (object ≡ o)
+set_came part object id o h = set_from part object (get part.objects object.id) refl id o h
+
+-- What stands is a given object, or stands under another id.
+pub itself_or_other : (part : RoomPart) (object : Object) → Holds part object.id object → (id : ℕ) (o : Object) → Holds part id o → (Holds part id o × (object.id ≡ id → ⊥)) ⊎ (object ≡ o)
+itself_or_other part object there id o h =
+    elim (object.id == id) as (λ b. (object.id == id) ≡ b → (Holds part id o × (object.id ≡ id → ⊥)) ⊎ (object ≡ o)) [
+      | true ↦ λ same. inr (one_there (get part.objects id) (ap (get part.objects) (sym (eqb-true object.id id same)) ∙ there) h)
+      | false ↦ λ apart. inl (h, eqb-false object.id id apart)
+    ] refl
+  where
+    one_there : (found : Option Object) → found ≡ Some object → found ≡ Some o → object ≡ o
+    one_there found one other = cc
 
 -- ---- objects that change
 

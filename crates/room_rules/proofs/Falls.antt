@@ -1,9 +1,9 @@
 -- Energy that falls, and what a creep drops, keep the rules of a room.
-use Rattle.std.proofs.Common.{◌≡◌, ℕ, ◌+◌, ◌-◌, ◌≤◌, ◌==◌, ◌&&◌, min, if◌then◌else◌, Bool, true, false, cond, List, [], ◌∷◌, map, Option, Some, None, refl, sym, ap, subst, ◌∙◌, inl, inr, arith}
+use Rattle.std.proofs.Common.{◌≡◌, ℕ, ◌+◌, ◌-◌, ◌^◌, ◌≤◌, ◌==◌, ◌&&◌, min, nat_lt, if◌then◌else◌, Bool, true, false, cond, List, [], ◌∷◌, map, Option, Some, None, refl, sym, ap, subst, ◌∙◌, ◌⊎◌, inl, inr, arith}
 use Rattle.std.specs.List as lists
 use Rattle.std.specs.Ordering.{nat_cmp, eq_by_cmp}
 use Rattle.std.specs.Cmp.{unsigned_tied}
-use Rattle.std.specs.FinMap.{find, get, entries, entries_sorted, get-entries}
+use Rattle.std.specs.FinMap.{find, get, insert, entries, entries_sorted, get-entries}
 use Rattle.std.proofs.lemmas.Bool.{both_ways, eq-eqb, eqb-true}
 use Rattle.room_terrain.specs.declared.terrain.Ground.{Ground}
 use Rattle.game_tables.specs.declared.action.Action.TheVariants.{DropLoad}
@@ -19,9 +19,9 @@ use Rattle.world_rules.specs.Drops.{pile_bound, is_pile_on, pile_on, pile_of, fa
 use Rattle.world_rules.specs.Checks.{may_take_effect}
 use Rattle.world_rules.proofs.Checked.{and_left, and_right, creep_acts}
 use Rattle.world_rules.proofs.Keys.{AreKeysOnce, once_of_sorted}
-use Rattle.room_rules.specs.Within.{Stage, between, moved, within, IsInRangeIn}
+use Rattle.room_rules.specs.Within.{Stage, between, moved, settled, within, IsCreepWithin, IsInRangeIn}
 use Rattle.room_rules.specs.RoomRules.{Holds, KeepsRoomRules}
-use Rattle.room_rules.proofs.Keeps.{keeps_changed, keeps_new}
+use Rattle.room_rules.proofs.Keeps.{keeps_changed, keeps_new, put_or_before}
 
 -- ---- tests
 
@@ -88,6 +88,32 @@ pile_parts x y p is =
 
 pile_whole : (x y : ℕ) (p : Object) → is_pile p.kind ≡ true → p.x ≡ x → p.y ≡ y → is_pile_on x y p ≡ true
 pile_whole x y p kind column row = both_true (is_pile p.kind && (p.x == x)) (p.y == y) (both_true (is_pile p.kind) (p.x == x) kind (eq-eqb p.x x column)) (eq-eqb p.y y row)
+
+-- ---- what stands after energy fell
+
+put_pile : (part : RoomPart) (pile : Object) (found : Option Object) (id : ℕ) (o : Object) → pile.kind ≡ Pile → Holds (put pile part found) id o → Holds part id o ⊎ (o.kind ≡ Pile)
+put_pile part pile None id o kind h = inl h
+put_pile part pile (Some old) id o kind h = put_or_before part pile.id pile id o h (λ at one. inr (ap (λ (p : Object). p.kind) (sym one) ∙ kind)) (λ before. inl before)
+
+new_pile : (part : RoomPart) (make : ℕ → Object) (b : Bool) (id : ℕ) (o : Object) → (make (next_id part)).kind ≡ Pile
+    → Holds (if b then record part { next = part.next + 1; objects = insert part.objects (next_id part) (make (next_id part)) } else part) id o → Holds part id o ⊎ (o.kind ≡ Pile)
+new_pile part make true id o kind h = put_or_before part (next_id part) (make (next_id part)) id o h (λ at one. inr (ap (λ (p : Object). p.kind) (sym one) ∙ kind)) (λ before. inl before)
+new_pile part make false id o kind h = inl h
+
+on_came : (x y amount : ℕ) (part : RoomPart) (found : Option Object) → pile_on x y part ≡ found → (id : ℕ) (o : Object) → Holds (fallen_on found x y amount part) id o → Holds part id o ⊎ (o.kind ≡ Pile)
+on_came x y amount part (Some pile) is id o h =
+    let there = pile_there x y part pile is in
+    let grown : Object = record pile { energy = min pile_bound (pile.energy + amount) } in
+    put_pile part grown (get part.objects grown.id) id o (is_pile_kind pile.kind (pile_parts x y pile there.2).0) h
+on_came x y amount part None is id o h = new_pile part (λ id. pile_of id x y (min pile_bound amount)) (nat_lt part.next (2 ^ 32)) id o refl h
+
+-- What stands after energy fell stood before, or is a pile.
+pub fallen_came : (x y amount : ℕ) (part : RoomPart) (id : ℕ) (o : Object) → Holds (fallen x y amount part) id o → Holds part id o ⊎ (o.kind ≡ Pile)
+fallen_came x y amount part id o h =
+    elim (amount == 0) as (λ b. Holds (if b then part else fallen_on (pile_on x y part) x y amount part) id o → Holds part id o ⊎ (o.kind ≡ Pile)) [
+      | true ↦ λ same. inl same
+      | false ↦ λ fell. on_came x y amount part (pile_on x y part) refl id o fell
+    ] h
 
 -- ---- piles that grow and piles that are new
 
@@ -171,8 +197,12 @@ module _ (players : ℕ → Bool) (stage : Stage) where
       let is = is_creep_kind c.kind creep in
       subst (λ (k : Kind). IsInRangeIn k stage (record c { energy = c.energy - amount })) (sym is) (less_as stage (subst (λ (k : Kind). IsInRangeIn k stage c) is r))
     where
+      less_within : IsCreepWithin c → IsCreepWithin (record c { energy = c.energy - amount })
+      less_within s = record { owner = s.owner; hits = s.hits; energy = omega (arith, s.energy); timer = s.timer; extra = s.extra; progress = s.progress; other = s.other; other_ticks = s.other_ticks; some_parts = s.some_parts; parts = s.parts }
+
       less_as : (w : Stage) → IsInRangeIn Creep w c → IsInRangeIn Creep w (record c { energy = c.energy - amount })
-      less_as within s = record { owner = s.owner; hits = s.hits; energy = omega (arith, s.energy); timer = s.timer; extra = s.extra; progress = s.progress; other = s.other; other_ticks = s.other_ticks; some_parts = s.some_parts; parts = s.parts }
+      less_as within s = less_within s
+      less_as settled s = record { alive = s.alive; within = less_within s.within }
       less_as between s = record { owner = s.owner; hits = s.hits; energy = omega (arith, s.energy); timer = s.timer; extra = s.extra; progress = s.progress; other = s.other; other_ticks = s.other_ticks; some_parts = s.some_parts; parts = s.parts }
       less_as moved s = let r = s.rested in record { other_ticks = s.other_ticks; rested = record { owner = r.owner; hits = r.hits; energy = omega (arith, r.energy); timer = r.timer; extra = r.extra; progress = r.progress; other = r.other; other_ticks = r.other_ticks; some_parts = r.some_parts; parts = r.parts } }
 
@@ -189,13 +219,16 @@ module _ (players : ℕ → Bool) (stage : Stage) where
       same_grounds None = refl
       same_grounds (Some old) = refl
 
+  -- a creep of the room drops an amount
+  pub keeps_dropped_by : (part : RoomPart) → Kept part → (id : ℕ) (c : Object) → Holds part id c → is_creep c.kind ≡ true → (amount : ℕ) → Kept (dropped_by c amount part)
+  keeps_dropped_by part k id c there creep amount =
+      let less : Object = record c { energy = c.energy - amount } in
+      keeps_fallen (with_object less part) (lessened part k id c there creep amount) c.x c.y amount
+      (open_still part less (get part.objects c.id) c.x c.y refl (creep_tile part k id c there creep))
+
   dropped_if : (part : RoomPart) → Kept part → (entry : Intent) (c : Object) → Holds part entry.actor c → (b : Bool) → may_take_effect DropLoad entry part ≡ b → Kept (if b then dropped_by c (wanted_of entry.amount c.energy) part else part)
   dropped_if part k entry c there true can =
-      let creep = creep_acts DropLoad entry part c there can in
-      let amount = wanted_of entry.amount c.energy in
-      let less : Object = record c { energy = c.energy - amount } in
-      keeps_fallen (with_object less part) (lessened part k entry.actor c there creep amount) c.x c.y amount
-      (open_still part less (get part.objects c.id) c.x c.y refl (creep_tile part k entry.actor c there creep))
+      keeps_dropped_by part k entry.actor c there (creep_acts DropLoad entry part c there can) (wanted_of entry.amount c.energy)
   dropped_if part k entry c there false can = k
 
   dropped_as : (part : RoomPart) → Kept part → (entry : Intent) (found : Option Object) → get part.objects entry.actor ≡ found → Kept (dropped_of entry found part)

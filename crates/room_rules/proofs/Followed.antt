@@ -19,7 +19,7 @@ use Rattle.world_rules.specs.Sound.{IsSound}
 use Rattle.world_rules.proofs.Keys.{keyed}
 use Rattle.world_rules.proofs.Lifting.{AreIdsOnce, times_in, times_room, times_rooms, found_in_table, stands_placed, frame_stored}
 use Rattle.world_rules.proofs.Same.{once}
-use Rattle.room_rules.specs.Within.{between}
+use Rattle.room_rules.specs.Within.{Stage, between}
 use Rattle.room_rules.specs.RoomRules.{Holds, is_player}
 use Rattle.room_rules.specs.Followed.{part_stored, FollowsRoom, FollowsAt, FollowRooms, KeepsPlayers}
 use Rattle.room_rules.proofs.Sound.{get_part, sound_keeps}
@@ -114,30 +114,30 @@ sum_one f (room ∷ rooms) few one =
 
 -- ---- two worlds
 
-module _ (w after : Stored) (s : IsSound w) (follow : FollowRooms (is_player (world_of w)) between w after) where
+module _ (w after : Stored) (s : IsSound w) (stage : Stage) (follow : FollowRooms (is_player (world_of w)) stage w after) where
   abbrev players : ℕ → Bool
   players = is_player (world_of w)
 
-  abbrev Came : ℕ → Room → Type 0
-  Came k mate = (room : Room) × (slice_get w.rooms k ≡ Some room) × FollowsRoom players between room mate
+  abbrev pub Came : ℕ → Room → Type 0
+  Came k mate = (room : Room) × (slice_get w.rooms k ≡ Some room) × FollowsRoom players stage room mate
 
-  came_as : (k : ℕ) (mate : Room) (found there : Option Room) → slice_get w.rooms k ≡ found → there ≡ Some mate → FollowsAt players between found there → Came k mate
+  came_as : (k : ℕ) (mate : Room) (found there : Option Room) → slice_get w.rooms k ≡ found → there ≡ Some mate → FollowsAt players stage found there → Came k mate
   came_as k mate None None is at f = absurd (cc)
   came_as k mate None (Some other) is at f = absurd f
   came_as k mate (Some room) None is at f = absurd f
-  came_as k mate (Some room) (Some other) is at f = (room, is, (let same : other ≡ mate = cc in subst (FollowsRoom players between room) same f))
+  came_as k mate (Some room) (Some other) is at f = (room, is, (let same : other ≡ mate = cc in subst (FollowsRoom players stage room) same f))
 
-  came : (k : ℕ) (mate : Room) → slice_get after.rooms k ≡ Some mate → Came k mate
+  pub came : (k : ℕ) (mate : Room) → slice_get after.rooms k ≡ Some mate → Came k mate
   came k mate at = came_as k mate (slice_get w.rooms k) (slice_get after.rooms k) refl at (follow k)
 
   abbrev Goes : ℕ → Room → Type 0
-  Goes k room = (mate : Room) × (slice_get after.rooms k ≡ Some mate) × FollowsRoom players between room mate
+  Goes k room = (mate : Room) × (slice_get after.rooms k ≡ Some mate) × FollowsRoom players stage room mate
 
-  goes_as : (k : ℕ) (room : Room) (found there : Option Room) → slice_get after.rooms k ≡ there → found ≡ Some room → FollowsAt players between found there → Goes k room
+  goes_as : (k : ℕ) (room : Room) (found there : Option Room) → slice_get after.rooms k ≡ there → found ≡ Some room → FollowsAt players stage found there → Goes k room
   goes_as k room None None is at f = absurd (cc)
   goes_as k room None (Some other) is at f = absurd f
   goes_as k room (Some first) None is at f = absurd f
-  goes_as k room (Some first) (Some mate) is at f = (mate, is, (let same : first ≡ room = cc in subst (λ (r : Room). FollowsRoom players between r mate) same f))
+  goes_as k room (Some first) (Some mate) is at f = (mate, is, (let same : first ≡ room = cc in subst (λ (r : Room). FollowsRoom players stage r mate) same f))
 
   goes : (k : ℕ) (room : Room) → slice_get w.rooms k ≡ Some room → Goes k room
   goes k room at = goes_as k room (slice_get w.rooms k) (slice_get after.rooms k) refl at (follow k)
@@ -197,6 +197,7 @@ module _ (w after : Stored) (s : IsSound w) (follow : FollowRooms (is_player (wo
       two_news : (id j k one other s₁ s₂ : ℕ) → one ≡ j → other ≡ k → id ≡ one * 2 ^ 32 + s₁ → id ≡ other * 2 ^ 32 + s₂ → s₁ < 2 ^ 32 → s₂ < 2 ^ 32 → j ≡ k
       two_news id j k one other s₁ s₂ a b c d e f = omega arith
 
+  -- Each id stands once in the second world.
   once_after : AreIdsOnce after.rooms
   once_after id =
       let sum = sum_one (times_room id) after.rooms (λ k r at. once_in id r.table.objects (came k r at).2.rising) (λ j k r t at there a b. same_place id j k r t at there a b) in
@@ -245,12 +246,16 @@ module _ (w after : Stored) (s : IsSound w) (follow : FollowRooms (is_player (wo
           let least : room.table.next ≤ is.0 = is.2 in
           omega arith
 
-  -- The second world is sound too.
-  pub followed_sound : KeepsPlayers w after → IsSound after
-  followed_sound accounts = kept_sound w after s (record {
-    frames = λ k mate at. (let was = came k mate at in (was.0, was.1, was.2.name, was.2.terrain, was.2.index));
-    rising = λ k mate at. (came k mate at).2.rising;
-    keeps = λ k mate at. (came k mate at).2.keeps;
-    once = once_after;
-    born = no_birth;
-  }) accounts
+-- Rooms that follow those of a sound world, at any stage of a tick, have each id once.
+pub followed_once : (w after : Stored) → IsSound w → (stage : Stage) → FollowRooms (is_player (world_of w)) stage w after → AreIdsOnce after.rooms
+followed_once w after sound stage follow = once_after w after sound stage follow
+
+-- Between ticks the second world is sound too.
+pub followed_sound : (w after : Stored) → IsSound w → FollowRooms (is_player (world_of w)) between w after → KeepsPlayers w after → IsSound after
+followed_sound w after sound follow accounts = kept_sound w after sound (record {
+  frames = λ k mate at. (let was = came w after sound between follow k mate at in (was.0, was.1, was.2.name, was.2.terrain, was.2.index));
+  rising = λ k mate at. (came w after sound between follow k mate at).2.rising;
+  keeps = λ k mate at. (came w after sound between follow k mate at).2.keeps;
+  once = followed_once w after sound between follow;
+  born = no_birth w after sound between follow;
+}) accounts

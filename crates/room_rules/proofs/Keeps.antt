@@ -206,7 +206,7 @@ module _ (players : ℕ → Bool) (stage : Stage) where
   -- ---- a step over all objects
 
   module _ (change : Object → RoomPart → RoomPart) (keeps : (object : Object) (part : RoomPart) → Holds part object.id object → Kept part → Kept (change object part)) where
-    by_keeps : (part : RoomPart) → Kept part → (id : ℕ) (found : Option Object) → get part.objects id ≡ found → Kept (by_object change part found)
+    pub by_keeps : (part : RoomPart) → Kept part → (id : ℕ) (found : Option Object) → get part.objects id ≡ found → Kept (by_object change part found)
     by_keeps part k id None is = k
     by_keeps part k id (Some object) is = keeps object part (subst (λ (n : ℕ). Holds part n object) (sym (k.ids id object is)) is) k
 

@@ -11,7 +11,11 @@ pub mod Loads
 pub mod Work
 pub mod Sites
 pub mod Built
+pub mod Fights
+pub mod Turns
+pub mod Settled
 pub mod Rules
 pub mod Calls
 pub mod Ready
 pub mod Crossed
+pub mod Harmed

@@ -9,7 +9,7 @@ use Rattle.game_tables.specs.Bodies.{most_parts, part_hits, same_part, live_part
 use Rattle.game_tables.specs.Kinds.{clash, hits_max, is_controller, is_creep, may_have_owner, obstructs}
 use Rattle.game_tables.specs.declared.action.Action.TheVariants.{Move}
 use Rattle.game_tables.specs.declared.kind.Kind.{Kind}
-use Rattle.game_tables.specs.declared.kind.Kind.TheVariants.{Controller, Creep, Road}
+use Rattle.game_tables.specs.declared.kind.Kind.TheVariants.{Creep, Road}
 use Rattle.game_tables.specs.declared.kind.Part.{Part}
 use Rattle.game_tables.specs.declared.kind.Part.TheVariants as parts
 use Rattle.room_terrain.specs.declared.direction.Direction.{Direction}
@@ -32,7 +32,7 @@ use Rattle.room_commutes.specs.Standing.{AreCreepsApart, KeepsIds}
 use Rattle.room_commutes.proofs.Members.{Has, found_has, has_any, has_filter}
 use Rattle.room_commutes.proofs.ActorsOnce.{candidates_once}
 use Rattle.room_commutes.proofs.CreepsApart.{each_rest, moved_apart}
-use Rattle.room_rules.specs.Within.{Stage, between, moved, within, after_movement, IsInRangeIn}
+use Rattle.room_rules.specs.Within.{within, IsCreepWithin, IsInRangeIn}
 use Rattle.room_rules.specs.RoomRules.{Holds, HasRightOwner, KeepsRoomRules}
 use Rattle.room_rules.specs.Calls.{AreActorsOnce}
 use Rattle.room_rules.proofs.Keeps.{each_came}
@@ -223,21 +223,9 @@ made_place part q o (inr (inr w)) = inr w
 
 -- ---- ranges
 
-later_range : (k : Kind) (stage : Stage) (o : Object) → IsInRangeIn k stage o → IsInRangeIn k (after_movement stage) o
-later_range Creep between o s = record {
-  other_ticks = omega (arith, s.other_ticks);
-  rested = record { owner = s.owner; hits = s.hits; energy = s.energy; timer = s.timer; extra = s.extra; progress = s.progress; other = s.other; other_ticks = refl; some_parts = s.some_parts; parts = s.parts };
-}
-later_range Creep moved o s = s
-later_range Creep within o s = s
-later_range Controller between o s = s
-later_range Controller moved o s = s
-later_range Controller within o s = s
-later_range k stage o s = s
-
-worn_range : (k : Kind) (stage : Stage) (o : Object) (wear : ℕ) → k ≡ Road → IsInRangeIn k stage o → IsInRangeIn k (after_movement stage) (record o { timer = max 1 (o.timer - wear) })
-worn_range Road stage o wear is s = record { owner = s.owner; hits = s.hits; energy = s.energy; timer = (omega arith, omega (arith, s.timer)); extra = s.extra; progress = s.progress; other = s.other; other_ticks = s.other_ticks; body = s.body }
-worn_range k stage o wear is s = absurd (cc)
+worn_range : (k : Kind) (o : Object) (wear : ℕ) → k ≡ Road → IsInRangeIn k within o → IsInRangeIn k within (record o { timer = max 1 (o.timer - wear) })
+worn_range Road o wear is s = record { owner = s.owner; hits = s.hits; energy = s.energy; timer = (omega arith, omega (arith, s.timer)); extra = s.extra; progress = s.progress; other = s.other; other_ticks = s.other_ticks; body = s.body }
+worn_range k o wear is s = absurd (cc)
 
 module _ (part : RoomPart) (o : Object) (x y : ℕ) where
   abbrev step_to : Mover
@@ -252,25 +240,17 @@ module _ (part : RoomPart) (o : Object) (x y : ℕ) where
       let surface : Option Ground = slice_get part.grounds (tile x y) in
       times_most (weight o) (pace road surface) (weight_most hits o.energy o.body load few) (pace_most road surface)
 
-  went_as : (stage : Stage) → IsInRangeIn Creep stage o → IsInRangeIn Creep (after_movement stage) gone_to
-  went_as between s = record {
-    other_ticks = omega arith;
-    rested = record { owner = s.owner; hits = s.hits; energy = s.energy; timer = s.timer; extra = tired o.hits s.energy s.parts; progress = s.progress; other = s.other; other_ticks = refl; some_parts = s.some_parts; parts = s.parts };
-  }
-  went_as moved r = let s = r.rested in record {
-    other_ticks = omega arith;
-    rested = record { owner = s.owner; hits = s.hits; energy = s.energy; timer = s.timer; extra = tired o.hits s.energy s.parts; progress = s.progress; other = s.other; other_ticks = refl; some_parts = s.some_parts; parts = s.parts };
-  }
-  went_as within s = record { owner = s.owner; hits = s.hits; energy = s.energy; timer = s.timer; extra = tired (hits_max Creep o.body) s.energy s.parts; progress = s.progress; other = s.other; other_ticks = omega arith; some_parts = s.some_parts; parts = s.parts }
+  went_within : IsCreepWithin o → IsCreepWithin gone_to
+  went_within s = record { owner = s.owner; hits = s.hits; energy = s.energy; timer = s.timer; extra = tired (hits_max Creep o.body) s.energy s.parts; progress = s.progress; other = s.other; other_ticks = omega arith; some_parts = s.some_parts; parts = s.parts }
 
-  went_range : (k : Kind) (stage : Stage) → k ≡ Creep → IsInRangeIn k stage o → IsInRangeIn k (after_movement stage) gone_to
-  went_range Creep stage is s = went_as stage s
-  went_range k stage is s = absurd (cc)
+  went_range : (k : Kind) → k ≡ Creep → IsInRangeIn k within o → IsInRangeIn k within gone_to
+  went_range Creep is s = went_within s
+  went_range k is s = absurd (cc)
 
-made_range : (part : RoomPart) (stage : Stage) (q o : Object) → Made part q o → IsInRangeIn q.kind stage q → IsInRangeIn q.kind (after_movement stage) o
-made_range part stage q o (inl is) r = subst (IsInRangeIn q.kind (after_movement stage)) (sym is) (later_range q.kind stage q r)
-made_range part stage q o (inr (inl w)) r = subst (IsInRangeIn q.kind (after_movement stage)) (sym w.is) (worn_range q.kind stage q w.wear w.kind r)
-made_range part stage q o (inr (inr w)) r = subst (IsInRangeIn q.kind (after_movement stage)) (sym w.is) (went_range part q w.x w.y q.kind stage w.kind r)
+made_range : (part : RoomPart) (q o : Object) → Made part q o → IsInRangeIn q.kind within q → IsInRangeIn q.kind within o
+made_range part q o (inl is) r = subst (IsInRangeIn q.kind within) (sym is) r
+made_range part q o (inr (inl w)) r = subst (IsInRangeIn q.kind within) (sym w.is) (worn_range q.kind q w.wear w.kind r)
+made_range part q o (inr (inr w)) r = subst (IsInRangeIn q.kind within) (sym w.is) (went_range part q w.x w.y q.kind w.kind r)
 
 -- ---- kinds on one tile
 
@@ -295,7 +275,7 @@ open_parts (Some Swamp) false is = ((λ wall. absurd (cc)), refl)
 
 -- ---- movement
 
-module _ (players : ℕ → Bool) (stage : Stage) (list : List Intent) (part : RoomPart) (once : AreActorsOnce list) (k : KeepsRoomRules players stage part) where
+module _ (players : ℕ → Bool) (list : List Intent) (part : RoomPart) (once : AreActorsOnce list) (k : KeepsRoomRules players within part) where
   abbrev set : List Mover
   set = movers (values part.objects) (candidates part list)
 
@@ -455,8 +435,8 @@ module _ (players : ℕ → Bool) (stage : Stage) (list : List Intent) (part : R
     other = λ some. (let r = right.other (λ none. some (same.other ∙ none)) in (ap players same.other ∙ r.0, ap is_controller same.kind ∙ r.1));
   }
 
-  -- Movement keeps the rules of a room, and leads to the stage after it.
-  pub keeps_moved : KeepsRoomRules players (after_movement stage) after
+  -- Movement keeps the rules of a room within a tick.
+  pub keeps_moved : KeepsRoomRules players within after
   keeps_moved =
       let next : after.next ≡ part.next = ap (λ (p : RoomPart). p.next) rest in
       let index : after.index ≡ part.index = ap (λ (p : RoomPart). p.index) rest in
@@ -475,5 +455,5 @@ module _ (players : ℕ → Bool) (stage : Stage) (list : List Intent) (part : R
             k.controllers one other w.0 v.0 differ w.1 v.1 (ap is_controller (sym (made_still part w.0 first w.2).kind) ∙ a) (ap is_controller (sym (made_still part v.0 second v.2).kind) ∙ b));
         ranges = λ id o h out. (
             let was = came_of id o h in
-            k.ranges id was.0 was.1 (λ r. out (subst (λ (q : Kind). IsInRangeIn q (after_movement stage) o) (sym (made_still part was.0 o was.2).kind) (made_range part stage was.0 o was.2 r))));
+            k.ranges id was.0 was.1 (λ r. out (subst (λ (q : Kind). IsInRangeIn q within o) (sym (made_still part was.0 o was.2).kind) (made_range part was.0 o was.2 r))));
       }

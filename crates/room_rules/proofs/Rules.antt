@@ -1,50 +1,64 @@
--- The rules in force keep the rules of a room.
-use Rattle.std.specs.List.{AllByRecursion}
+-- The rules in force lead a room through the stages of a tick.
+use Rattle.std.proofs.Common.{◌++◌, refl, arith}
+use Rattle.game_tables.specs.Kinds.{hits_max}
 use Rattle.game_tables.specs.declared.action.Action.{Action}
-use Rattle.game_tables.specs.declared.action.Action.TheVariants.{DropLoad, Transfer, Withdraw, Pickup, Harvest, Repair, Build}
+use Rattle.game_tables.specs.declared.action.Action.TheVariants.{DropLoad, Transfer, Withdraw, Pickup, Dismantle, Harvest, Repair, Build, Suicide}
+use Rattle.game_tables.specs.declared.kind.Kind.{Kind}
+use Rattle.game_tables.specs.declared.kind.Kind.TheVariants.{Creep}
 use Rattle.intent_book.specs.declared.intent.Intent.{Intent}
+use Rattle.object_store.specs.declared.object.Object.{Object}
 use Rattle.world_rules.specs.RuleBook.{Sums}
-use Rattle.world_rules.specs.Tick.{rule_of, book}
-use Rattle.room_rules.specs.RoomRules.{KeepsRules}
+use Rattle.world_rules.specs.RoomTick.{room_after_steps}
+use Rattle.world_rules.specs.Tick.{rule_of}
+use Rattle.world_rules.specs.Upkeep.{aged, buildings_decayed, first_steps, last_steps, middle_steps, recovered, renewed, struck, unloaded}
+use Rattle.room_rules.specs.Within.{between, moved, within, IsInRangeIn}
+use Rattle.room_rules.specs.RoomRules.{Leads}
+use Rattle.room_rules.proofs.Keeps.{IsSame-refl, keeps_came}
 use Rattle.room_rules.proofs.Falls.{keeps_dropped}
+use Rattle.room_rules.proofs.Amounts.{load_more}
 use Rattle.room_rules.proofs.Loads.{keeps_transferred, keeps_withdrawn, keeps_picked_up}
 use Rattle.room_rules.proofs.Work.{keeps_harvested, keeps_repaired}
 use Rattle.room_rules.proofs.Built.{keeps_built}
-use Rattle.room_rules.proofs.Steps.{keeps_recovered, keeps_renewed, keeps_weathered, keeps_decayed}
+use Rattle.room_rules.proofs.Fights.{keeps_dismantled, keeps_ended}
+use Rattle.room_rules.proofs.Steps.{keeps_aged, keeps_decayed, keeps_filled, keeps_recovered, keeps_renewed, keeps_weathered}
+use Rattle.room_rules.proofs.Settled.{keeps_struck, keeps_unloaded}
 
-pub rule_keeps : (action : Action) (entry : Intent) → KeepsRules (λ part. (rule_of action entry part).part)
-rule_keeps DropLoad entry players stage part k = keeps_dropped players stage part k entry
-rule_keeps Transfer entry players stage part k = keeps_transferred players stage part k entry
-rule_keeps Withdraw entry players stage part k = keeps_withdrawn players stage part k entry
-rule_keeps Pickup entry players stage part k = keeps_picked_up players stage part k entry
-rule_keeps Harvest entry players stage part k = keeps_harvested players stage part k entry
-rule_keeps Repair entry players stage part k = keeps_repaired players stage part k entry
-rule_keeps Build entry players stage part k = keeps_built players stage part k entry
-rule_keeps action entry players stage part k = k
+-- ---- the beginning of a tick
 
-unchanged_keeps : (sums : Sums) → KeepsRules (λ part. part)
-unchanged_keeps sums players stage part k = k
+begun_range : (k : Kind) (o : Object) → IsInRangeIn k between o → IsInRangeIn k within o
+begun_range Creep o s = record { owner = s.owner; hits = omega (arith, s.hits); energy = omega (arith, s.energy, load_more o.hits (hits_max Creep o.body) o.body (omega (arith, s.hits))); timer = s.timer; extra = s.extra; progress = s.progress; other = s.other; other_ticks = omega (arith, s.other_ticks); some_parts = s.some_parts; parts = s.parts }
+begun_range k o s = s
 
-pub steps_keep : AllByRecursion (λ step. (sums : Sums) → KeepsRules (step sums)) book.steps
-steps_keep = (
-  unchanged_keeps,
-  (
-    unchanged_keeps,
-    (
-      unchanged_keeps,
-      (
-        λ sums players stage part k. keeps_recovered players stage part k,
-        (
-          unchanged_keeps,
-          (
-            unchanged_keeps,
-            (
-              unchanged_keeps,
-              (λ sums players stage part k. keeps_renewed players stage part k, (λ sums players stage part k. keeps_weathered players stage part k, (λ sums players stage part k. keeps_decayed players stage part k, tt))),
-            ),
-          ),
-        ),
-      ),
-    ),
-  ),
-)
+-- A room that keeps its rules between ticks keeps the wider ones within a tick.
+pub begun_leads : Leads between within (λ part. part)
+begun_leads players part k = keeps_came players between within part part k refl refl (omega arith) (λ id o h. (o, h, IsSame-refl o, begun_range o.kind o))
+
+-- ---- entries
+
+pub rule_keeps : (action : Action) (entry : Intent) → Leads within within (λ part. (rule_of action entry part).part)
+rule_keeps DropLoad entry players part k = keeps_dropped players within part k entry
+rule_keeps Transfer entry players part k = keeps_transferred players within part k entry
+rule_keeps Withdraw entry players part k = keeps_withdrawn players within part k entry
+rule_keeps Pickup entry players part k = keeps_picked_up players within part k entry
+rule_keeps Harvest entry players part k = keeps_harvested players within part k entry
+rule_keeps Repair entry players part k = keeps_repaired players within part k entry
+rule_keeps Build entry players part k = keeps_built players within part k entry
+rule_keeps Dismantle entry players part k = keeps_dismantled players within part k entry
+rule_keeps Suicide entry players part k = keeps_ended players part k entry
+rule_keeps action entry players part k = k
+
+-- ---- upkeep
+
+-- The steps up to the gain of spawns lead to the stage before crossings.
+pub first_lead : (sums : Sums) → Leads within moved (room_after_steps sums first_steps)
+first_lead sums players part k =
+    let light = unloaded (struck sums part) in
+    keeps_filled players moved (recovered (aged light))
+    (keeps_recovered players moved (aged light)
+    (keeps_aged players light
+    (keeps_unloaded players (struck sums part) (keeps_struck sums players part k))))
+
+-- The later steps keep the rules at that stage.
+pub later_keep : (sums : Sums) → Leads moved moved (room_after_steps sums (middle_steps ++ last_steps))
+later_keep sums players part k =
+    keeps_decayed players moved (buildings_decayed (renewed part)) (keeps_weathered players moved (renewed part) (keeps_renewed players moved part k))

@@ -7,7 +7,7 @@ use Rattle.std.specs.FinMap.{find, get, get-from_entries}
 use Rattle.std.proofs.lemmas.Bool.{both_ways, eqb-true, ltb-true, ltb-false}
 use Rattle.std.proofs.Math.Bool.{and_comm}
 use Rattle.game_tables.specs.declared.kind.Kind.{Kind}
-use Rattle.game_tables.specs.declared.kind.Kind.TheVariants.{Creep, Controller}
+use Rattle.game_tables.specs.declared.kind.Kind.TheVariants.{Creep}
 use Rattle.object_store.specs.declared.object.Object.{Object}
 use Rattle.object_store.specs.declared.world.Room.{Room}
 use Rattle.object_store.specs.Tables.{IsOnTile}
@@ -68,12 +68,10 @@ clash_turned one other =
 
 between_ticks : (k : Kind) (object : Object) → IsInRangeAs k object → IsInRangeIn k between object
 between_ticks Creep object r = r
-between_ticks Controller object r = r
 between_ticks k object r = r
 
 pub in_ranges : (k : Kind) (object : Object) → IsInRangeIn k between object → IsInRangeAs k object
 in_ranges Creep object r = r
-in_ranges Controller object r = r
 in_ranges k object r = r
 
 -- one of two numbers is less

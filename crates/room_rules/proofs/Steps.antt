@@ -1,21 +1,22 @@
 -- The steps of upkeep keep the rules of a room.
-use Rattle.std.proofs.Common.{◌≡◌, inl, ℕ, ◌-◌, ◌*◌, ◌≤◌, ◌==◌, max, nat_lt, if◌then◌else◌, Bool, true, false, Some, None, refl, sym, subst, arith}
+use Rattle.std.proofs.Common.{◌≡◌, inl, ℕ, ◌-◌, ◌+◌, ◌*◌, ◌<◌, ◌≤◌, ◌==◌, ◌&&◌, max, nat_lt, if◌then◌else◌, Bool, true, false, Some, None, refl, sym, ap, subst, arith}
+use Rattle.std.specs.FinMap.{values}
 use Rattle.std.proofs.lemmas.Bool.{ltb-true}
 use Rattle.game_tables.specs.declared.kind.Kind.{Kind}
-use Rattle.game_tables.specs.declared.kind.Kind.TheVariants.{Source, Creep, Controller, Container, Road, Pile}
+use Rattle.game_tables.specs.declared.kind.Kind.TheVariants.{Source, Creep, Spawn, Container, Road, Pile}
 use Rattle.game_tables.specs.Kinds.{full_timer, is_creep, is_controller, is_source, source_capacity, renewal_ticks, pile_decay}
 use Rattle.object_store.specs.declared.object.Object.{Object}
 use Rattle.world_rules.specs.RoomParts.{RoomPart, controller_of}
 use Rattle.object_store.specs.Controllers.{is_owned_room, is_taken}
-use Rattle.world_rules.specs.Upkeep.{recovered_as, recovered, decays, decay_hits, weathered, standing_or_gone, weathered_as, buildings_decayed, source_renewed, renewed_as, renewed, decayed_as, decayed}
+use Rattle.world_rules.specs.Upkeep.{aged, aged_as, filled, filled_as, gone, held_by, recovered_as, recovered, decays, decay_hits, weathered, standing_or_gone, weathered_as, buildings_decayed, source_renewed, renewed_as, renewed, decayed_as, decayed}
 use Rattle.game_tables.specs.Bodies.{live_count}
 use Rattle.game_tables.specs.declared.kind.Part.TheVariants.{Move}
 use Rattle.world_rules.specs.Changes.{with_object, without}
 use Rattle.world_rules.specs.Steps.{each}
-use Rattle.world_rules.specs.Drops.{fallen}
 use Rattle.world_rules.specs.Crossings.{still}
+use Rattle.world_rules.proofs.Checked.{and_left}
 use Rattle.world_rules.specs.Rules.{IsFrom1To, IsWall, IsSource, IsPile}
-use Rattle.room_rules.specs.Within.{Stage, between, moved, within, IsInRangeIn}
+use Rattle.room_rules.specs.Within.{Stage, between, moved, settled, within, IsCreepWithin, IsInRangeIn}
 use Rattle.room_rules.specs.RoomRules.{Holds, KeepsRoomRules}
 use Rattle.room_rules.proofs.Keeps.{IsSame, IsSame-refl, keeps_changed, keeps_each, keeps_over, keeps_turned, keeps_without}
 use Rattle.room_rules.proofs.Falls.{IsOpen, keeps_fallen}
@@ -98,8 +99,12 @@ decayed_keeps k stage o after e r =
 abbrev rested_by : ℕ → Object → Object
 rested_by n o = record o { extra = o.extra - n }
 
+within_rested : (n : ℕ) (o : Object) → IsCreepWithin o → IsCreepWithin (rested_by n o)
+within_rested n o s = record { owner = s.owner; hits = s.hits; energy = s.energy; timer = s.timer; extra = omega (arith, s.extra); progress = s.progress; other = s.other; other_ticks = s.other_ticks; some_parts = s.some_parts; parts = s.parts }
+
 creep_rested : (n : ℕ) (stage : Stage) (o : Object) → IsInRangeIn Creep stage o → IsInRangeIn Creep stage (rested_by n o)
-creep_rested n within o s = record { owner = s.owner; hits = s.hits; energy = s.energy; timer = s.timer; extra = omega (arith, s.extra); progress = s.progress; other = s.other; other_ticks = s.other_ticks; some_parts = s.some_parts; parts = s.parts }
+creep_rested n within o s = within_rested n o s
+creep_rested n settled o s = record { alive = s.alive; within = within_rested n o s.within }
 creep_rested n between o s = record { owner = s.owner; hits = s.hits; energy = s.energy; timer = s.timer; extra = omega (arith, s.extra); progress = s.progress; other = s.other; other_ticks = s.other_ticks; some_parts = s.some_parts; parts = s.parts }
 creep_rested n moved o s = let r = s.rested in record { other_ticks = s.other_ticks; rested = record { owner = r.owner; hits = r.hits; energy = r.energy; timer = r.timer; extra = omega (arith, r.extra); progress = r.progress; other = r.other; other_ticks = r.other_ticks; some_parts = r.some_parts; parts = r.parts } }
 
@@ -111,6 +116,14 @@ recovered_range : (k : Kind) (stage : Stage) (o : Object) → IsInRangeIn k stag
 recovered_range Creep stage o r = creep_rested (2 * live_count Move o.hits o.body) stage o r
 recovered_range k stage o r = r
 
+-- An older creep stays in its ranges.
+older_range : (k : Kind) (o : Object) → k ≡ Creep → nat_lt 1 o.timer ≡ true → IsInRangeIn k moved o → IsInRangeIn k moved (record o { timer = o.timer - 1 })
+older_range Creep o is runs s =
+    let r = s.rested in
+    let more = ltb-true 1 o.timer runs in
+    record { other_ticks = s.other_ticks; rested = record { owner = r.owner; hits = r.hits; energy = r.energy; timer = (omega (arith, more), omega (arith, r.timer)); extra = r.extra; progress = r.progress; other = r.other; other_ticks = r.other_ticks; some_parts = r.some_parts; parts = r.parts } }
+older_range k o is runs s = absurd (cc)
+
 pub still_same : (o : Object) → IsSame o (still o)
 still_same o = elim (is_creep o.kind) as (λ b. IsSame o (if b then record o { other_ticks = 0 } else o)) [
   | true ↦ record { id = refl; kind = refl; x = refl; y = refl; owner = refl; other = refl }
@@ -119,7 +132,6 @@ still_same o = elim (is_creep o.kind) as (λ b. IsSame o (if b then record o { o
 
 still_by : (k : Kind) (o : Object) → IsInRangeIn k moved o → IsInRangeIn k between (if is_creep k then record o { other_ticks = 0 } else o)
 still_by Creep o r = r.rested
-still_by Controller o r = r
 still_by k o r = r
 
 -- A creep that moved is in the ranges between ticks once it is still.
@@ -143,7 +155,7 @@ full_range Container false is = (omega arith, omega arith)
 full_range Road in_owned is = (omega arith, omega arith)
 full_range k in_owned is = absurd (cc)
 
-positive : (n : ℕ) → (n == 0) ≡ false → 1 ≤ n
+pub positive : (n : ℕ) → (n == 0) ≡ false → 1 ≤ n
 positive n is = grind arith
 
 -- It stays in its ranges where it has hits left.
@@ -158,6 +170,13 @@ decays_free : (k : Kind) → decays k ≡ true → (is_source k ≡ false) × (i
 decays_free Container is = (refl, refl)
 decays_free Road is = (refl, refl)
 decays_free k is = absurd (cc)
+
+-- ---- spawns
+
+-- A spawn that has room stays in its ranges with more.
+spawn_more : (k : Kind) (stage : Stage) (o : Object) → k ≡ Spawn → o.energy < 300 → IsInRangeIn k stage o → IsInRangeIn k stage (record o { energy = o.energy + 1 })
+spawn_more Spawn stage o is less s = record { owner = s.owner; hits = s.hits; energy = omega (arith, less); timer = s.timer; idle = s.idle; busy = s.busy; extra = s.extra; progress = s.progress; other = s.other; other_ticks = s.other_ticks; parts = s.parts }
+spawn_more k stage o is less s = absurd (cc)
 
 -- ---- the steps
 
@@ -178,34 +197,64 @@ module _ (players : ℕ → Bool) (stage : Stage) where
   pub keeps_decayed : (part : RoomPart) → KeepsRoomRules players stage part → KeepsRoomRules players stage (decayed part)
   keeps_decayed part k = keeps_each players stage (λ object. decayed_as object.kind object) (λ object after is. as_itself stage object after (decayed_stays object.kind object after is) (decayed_keeps object.kind stage object after is)) part k
 
-  -- ---- what decays, one after the other
+  filled_keeps : (kind : Kind) (object : Object) (part : RoomPart) → object.kind ≡ kind → Holds part object.id object → Kept part → Kept (filled_as kind object part)
+  filled_keeps Spawn spawn part is h k =
+      elim (nat_lt spawn.energy 300 && nat_lt (held_by spawn.owner (values part.objects)) 300) as (λ b. (nat_lt spawn.energy 300 && nat_lt (held_by spawn.owner (values part.objects)) 300) ≡ b → Kept (if b then with_object (record spawn { energy = spawn.energy + 1 }) part else part)) [
+        | true ↦ λ both. keeps_changed players stage part k spawn.id spawn (record spawn { energy = spawn.energy + 1 }) h (pile_same spawn (spawn.energy + 1))
+            (spawn_more spawn.kind stage spawn is (ltb-true spawn.energy 300 (and_left (nat_lt spawn.energy 300) (nat_lt (held_by spawn.owner (values part.objects)) 300) both)))
+        | false ↦ λ full. k
+      ] refl
+  filled_keeps kind object part is h k = k
 
-  standing_keeps : (in_owned b : Bool) (object : Object) (part : RoomPart) → Holds part object.id object → Kept part → decays object.kind ≡ true → nat_lt 1 object.timer ≡ b → Kept (standing_or_gone (weathered_by object.kind in_owned b object) part)
-  standing_keeps in_owned b object part h k falls runs =
-      let now : Object = weathered_by object.kind in_owned b object in
-      let same : IsSame object now = weathered_same object.kind in_owned b object in
-      let id : now.id ≡ object.id = same.id in
-      let free = decays_free object.kind falls in
+  pub keeps_filled : (part : RoomPart) → Kept part → Kept (filled part)
+  keeps_filled part k = keeps_over players stage (λ object. filled_as object.kind object) (λ object part h k. filled_keeps object.kind object part refl h k) part k
+
+  -- ---- what stands or is gone
+
+  -- An object that is neither a source nor a controller is gone.
+  gone_keeps : (object now : Object) (part : RoomPart) → Holds part object.id object → Kept part → (is_source object.kind ≡ false) × (is_controller object.kind ≡ false) → IsSame object now → Kept (gone now part)
+  gone_keeps object now part h k free same =
       let inside = k.inside object.id object h in
       let tile : IsOpen players stage part.grounds now.x now.y = record {
         column = subst (λ (n : ℕ). n ≤ 49) (sym same.x) inside.column;
         row = subst (λ (n : ℕ). n ≤ 49) (sym same.y) inside.row;
         ground = λ wall. k.tiles object.id object h (inl (free.0, free.1, subst (λ (n : ℕ). IsWall part.grounds n object.y) same.x (subst (λ (n : ℕ). IsWall part.grounds now.x n) same.y wall)));
       } in
-      elim (now.hits == 0) as (λ gone. (now.hits == 0) ≡ gone → Kept (if gone then fallen now.x now.y now.energy (without now.id part) else with_object now part)) [
-        | true ↦ λ gone. keeps_fallen players stage (without now.id part) (keeps_without players stage part k now.id) now.x now.y now.energy tile
-        | false ↦ λ left. keeps_changed players stage part k object.id object now h same (λ r. subst (λ (q : Kind). IsInRangeIn q stage now) (sym same.kind) (weathered_range object.kind in_owned b stage object falls runs left r))
+      keeps_fallen players stage (without now.id part) (keeps_without players stage part k now.id) now.x now.y now.energy tile
+
+  -- Such an object is gone without hits, and stands in its ranges with hits.
+  pub keeps_standing : (object now : Object) (part : RoomPart) → Holds part object.id object → Kept part → (is_source object.kind ≡ false) × (is_controller object.kind ≡ false) → IsSame object now
+      → ((now.hits == 0) ≡ false → IsInRangeIn object.kind stage object → IsInRangeIn object.kind stage now) → Kept (standing_or_gone now part)
+  keeps_standing object now part h k free same range =
+      elim (now.hits == 0) as (λ none. (now.hits == 0) ≡ none → Kept (if none then gone now part else with_object now part)) [
+        | true ↦ λ none. gone_keeps object now part h k free same
+        | false ↦ λ some. keeps_changed players stage part k object.id object now h same (as_itself stage object now same (range some)).1
       ] refl
 
   decay_keeps : (in_owned : Bool) (object : Object) (part : RoomPart) → Holds part object.id object → Kept part → Kept (weathered_as in_owned object part)
   decay_keeps in_owned object part h k =
       elim (decays object.kind) as (λ b. decays object.kind ≡ b → Kept (if b then standing_or_gone (weathered in_owned object) part else part)) [
-        | true ↦ λ falls. standing_keeps in_owned (nat_lt 1 object.timer) object part h k falls refl
+        | true ↦ λ falls. keeps_standing object (weathered in_owned object) part h k (decays_free object.kind falls) (weathered_same object.kind in_owned (nat_lt 1 object.timer) object)
+            (λ some r. weathered_range object.kind in_owned (nat_lt 1 object.timer) stage object falls refl some r)
         | false ↦ λ stands. k
       ] refl
 
   pub keeps_weathered : (part : RoomPart) → Kept part → Kept (buildings_decayed part)
   keeps_weathered part k = keeps_over players stage (weathered_as (is_owned_room (controller_of part))) (decay_keeps (is_owned_room (controller_of part))) part k
+
+-- Creeps grow older, or die, once their hits and loads are settled.
+module _ (players : ℕ → Bool) where
+  aged_keeps : (kind : Kind) (object : Object) (part : RoomPart) → object.kind ≡ kind → Holds part object.id object → KeepsRoomRules players moved part → KeepsRoomRules players moved (aged_as kind object part)
+  aged_keeps Creep creep part is h k =
+      elim (nat_lt 1 creep.timer) as (λ b. nat_lt 1 creep.timer ≡ b → KeepsRoomRules players moved (if b then with_object (record creep { timer = creep.timer - 1 }) part else gone creep part)) [
+        | true ↦ λ runs. keeps_changed players moved part k creep.id creep (record creep { timer = creep.timer - 1 }) h
+            (record { id = refl; kind = refl; x = refl; y = refl; owner = refl; other = refl }) (older_range creep.kind creep is runs)
+        | false ↦ λ over. gone_keeps players moved creep creep part h k (ap is_source is, ap is_controller is) (IsSame-refl creep)
+      ] refl
+  aged_keeps kind object part is h k = k
+
+  pub keeps_aged : (part : RoomPart) → KeepsRoomRules players moved part → KeepsRoomRules players moved (aged part)
+  keeps_aged part k = keeps_over players moved (λ object. aged_as object.kind object) (λ object part h k. aged_keeps object.kind object part refl h k) part k
 
 -- The creeps of a room have moved no more: it is between ticks again.
 pub keeps_rest : (players : ℕ → Bool) (part : RoomPart) → KeepsRoomRules players moved part → KeepsRoomRules players between (each (λ object. Some (still object)) part)

@@ -4,8 +4,12 @@ use Rattle.std.specs.List.{AllByRecursion, AllPairs}
 use Rattle.game_tables.specs.Kinds.{clash, is_creep}
 use Rattle.game_tables.specs.Bodies.{most_parts}
 use Rattle.object_store.specs.declared.object.Object.{Object}
-use Rattle.object_store.specs.Tables.{Table, IsOnTile, HasNoId}
+use Rattle.object_store.specs.Tables.{Table, IsOnTile, HasId, HasNoId}
+use Rattle.object_store.specs.Tallies.{sum_with, tally_of}
+use Rattle.object_store.specs.declared.tally.Tally.{Tally}
 use Rattle.intent_book.specs.declared.intent.Intent.{Intent}
+use Rattle.world_rules.specs.RuleBook.{Harm, Sums}
+use Rattle.world_rules.specs.Tick.{total_for}
 
 -- A table that is ready for a rule which may make one object: there is memory for it and a serial, no object
 -- has its id, and all objects stand on tiles of the room.
@@ -24,7 +28,30 @@ pub record Keeps (old new : Table) : Type 0 where
   pub made : new.next ≤ old.next + 1
   pub tiles : AllByRecursion IsOnTile new.objects
 
--- The same for a step of upkeep that may make so many objects.
+-- What was done to the objects that still stand stays.
+abbrev pub KeepsTallies : Table → Table → Type 0
+KeepsTallies old new =
+    (id : ℕ) → HasId id new.objects → tally_of id new.tallies ≡ tally_of id old.tallies
+
+-- a tally with what an entry does to the object of an id
+abbrev pub tally_with : Harm → ℕ → Tally → Tally
+tally_with harm id tally = record {
+  damage = sum_with (total_for harm.damage id) tally.damage;
+  healing = sum_with (total_for harm.healing id) tally.healing;
+}
+
+-- What an entry does to objects was added to what was done to those that stand.
+abbrev pub IsHarmedBy : Harm → Table → Table → Type 0
+IsHarmedBy harm old new =
+    (id : ℕ) → HasId id new.objects
+    → tally_of id new.tallies ≡ tally_with harm id (tally_of id old.tallies)
+
+-- These are the sums of what was done to the objects of the table.
+pub record AreSumsOf (sums : Sums) (table : Table) : Type 0 where
+  pub damage : (id : ℕ) → HasId id table.objects → sums.damage id ≡ (tally_of id table.tallies).damage
+  pub healing : (id : ℕ) → HasId id table.objects → sums.healing id ≡ (tally_of id table.tallies).healing
+
+-- A table that is ready for a step of upkeep which may make so many objects, and what the step keeps.
 pub record IsReadyFor (many : ℕ) (table : Table) : Type 0 where
   pub spare : many ≤ table.spare
   pub serial : table.next + many ≤ 2 ^ 32 - 1

@@ -5,13 +5,13 @@ use Rattle.game_tables.specs.declared.kind.Kind.TheVariants.{Creep}
 use Rattle.room_terrain.specs.Tiles.{IsBorder}
 use Rattle.object_store.specs.declared.object.Object.{Object}
 use Rattle.object_store.specs.declared.world.Room.{Room}
-use Rattle.object_store.specs.Tables.{find_object, first_on, with_new, without}
+use Rattle.object_store.specs.Tables.{find_object, first_on, removed, with_new}
 use Rattle.object_store.specs.Stored.{Stored}
 use Rattle.world_rules.specs.Rules.{IsWall}
 
 -- the room without the object of an id
 abbrev pub left_by : ℕ → Room → Room
-left_by id room = record room { table = record room.table { objects = without id room.table.objects } }
+left_by id room = record room { table = removed id room.table }
 
 -- the room with an object more, for which it had memory
 abbrev pub entered_by : Object → Room → Room

@@ -3,3 +3,4 @@ pub mod RoomRules
 pub mod Followed
 pub mod Calls
 pub mod Crossed
+pub mod inner

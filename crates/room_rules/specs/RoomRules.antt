@@ -47,8 +47,8 @@ pub record KeepsRoomRules (players : ℕ → Bool) (stage : Stage) (part : RoomP
   -- no field is out of its range
   pub ranges : (id : ℕ) (object : Object) → Holds part id object → ¬ ¬ IsInRangeIn object.kind stage object
 
--- The change of a room's part keeps the rules of the room, at each stage of a tick.
-abbrev pub KeepsRules : (RoomPart → RoomPart) → Type 0
-KeepsRules change =
-    (players : ℕ → Bool) (stage : Stage) (part : RoomPart)
-    → KeepsRoomRules players stage part → KeepsRoomRules players stage (change part)
+-- The change leads a room that keeps its rules at one stage of a tick to one that keeps those of another.
+abbrev pub Leads : Stage → Stage → (RoomPart → RoomPart) → Type 0
+Leads before after change =
+    (players : ℕ → Bool) (part : RoomPart)
+    → KeepsRoomRules players before part → KeepsRoomRules players after (change part)

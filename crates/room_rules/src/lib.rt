@@ -2,35 +2,35 @@
 // keeps those of its room, and a world whose rooms keep theirs is sound.
 #![tactic(auto)]
 
-ghost use Rattle.std.specs.Prelude.{◌≡◌, ℕ, Bool, List, Some, slice_get};
-ghost use Rattle.std.specs.List.{AllByRecursion};
+ghost use Rattle.std.specs.Prelude.{◌≡◌, ◌++◌, ℕ, List, Some, slice_get};
 ghost use Rattle.intent_book.specs.declared.intent.Intent.{Intent};
 ghost use Rattle.object_store.specs.declared.world.Room.{Room};
 ghost use Rattle.object_store.specs.Stored.{Stored};
 ghost use Rattle.world_rules.specs.World.{world_of};
-ghost use Rattle.world_rules.specs.RoomParts.{RoomPart};
 ghost use Rattle.world_rules.specs.RuleBook.{Sums};
 ghost use Rattle.world_rules.specs.Steps.{each};
 ghost use Rattle.world_rules.specs.Crossings.{still};
+ghost use Rattle.world_rules.specs.RoomTick.{room_after_steps};
 ghost use Rattle.world_rules.specs.Tick.{book};
+ghost use Rattle.world_rules.specs.Upkeep.{first_steps, last_steps, middle_steps};
 ghost use Rattle.world_rules.specs.Sound.{IsSound};
 ghost use Rattle.room_rules.specs.Calls.{AreActorsOnce};
-ghost use Rattle.room_rules.specs.Within.{Stage, between, moved, after_movement};
-ghost use Rattle.room_rules.specs.RoomRules.{KeepsRoomRules, KeepsRules, is_player};
+ghost use Rattle.room_rules.specs.Within.{between, moved, within};
+ghost use Rattle.room_rules.specs.RoomRules.{KeepsRoomRules, Leads, is_player};
 ghost use Rattle.room_rules.specs.Followed.{part_stored, FollowRooms, KeepsPlayers};
 ghost use Rattle.room_rules.specs.Crossed.{HasCrossed};
 
-/// Says that each rule in force keeps the rules of the room whose part it changes, at each stage of a tick;
-/// that movement leads from between ticks to the stage at which creeps keep whether they moved; and that they
-/// are between ticks again once none has moved. It does nothing when it runs.
+/// Says through which stages of a tick the rules in force lead a room that keeps its rules: between ticks it
+/// also keeps the wider ones within a tick, which entries and movement keep; the steps of upkeep up to the
+/// gain of spawns lead to those before crossings, which the later steps keep; and once no creep has moved the
+/// room is between ticks again. It does nothing when it runs.
 pub fn rules_keep_rooms()
-    ensures entries { (entry : Intent) → KeepsRules (λ part. (book.effect entry part).part) }
-    ensures movement { (list : List Intent) (players : ℕ → Bool) (stage : Stage) (part : RoomPart)
-        → AreActorsOnce list → KeepsRoomRules players stage part
-        → KeepsRoomRules players (after_movement stage) (book.moved list part) }
-    ensures steps { AllByRecursion (λ step. (sums : Sums) → KeepsRules (step sums)) book.steps }
-    ensures rest { (players : ℕ → Bool) (part : RoomPart) → KeepsRoomRules players moved part
-        → KeepsRoomRules players between (each (λ object. Some (still object)) part) }
+    ensures begins { Leads between within (λ part. part) }
+    ensures entries { (entry : Intent) → Leads within within (λ part. (book.effect entry part).part) }
+    ensures movement { (list : List Intent) → AreActorsOnce list → Leads within within (book.moved list) }
+    ensures first { (sums : Sums) → Leads within moved (room_after_steps sums first_steps) }
+    ensures later { (sums : Sums) → Leads moved moved (room_after_steps sums (middle_steps ++ last_steps)) }
+    ensures rest { Leads moved between (each (λ object. Some (still object))) }
 {}
 
 /// Says that a sound world is one whose rooms keep their rules, as far as a tick changes it: each room of

@@ -1,21 +1,38 @@
 -- A sound world stays sound with other accounts of the same players.
-use Rattle.std.proofs.Common.{◌≡◌, ℕ, ◌≤◌, ◌==◌, Bool, true, false, cond, List, [], ◌∷◌, map, Option, Some, None, option_map, is_some, slice_get, refl, sym, ap, subst, ◌∙◌, ◌<◌, arith}
+use Rattle.std.proofs.Common.{◌≡◌, ℕ, ◌≤◌, ◌==◌, true, cond, List, [], ◌∷◌, map, Option, Some, None, option_map, is_some, slice_get, refl, sym, ap, subst, ◌∙◌, ◌<◌, arith}
 use Rattle.std.specs.List.{AllByRecursion, count_by}
 use Rattle.std.specs.Ordering.{nat_cmp}
 use Rattle.std.specs.Cmp.{nat_cmp_total}
 use Rattle.std.specs.FinMap.{find, get, get-from_entries}
 use Rattle.std.proofs.lemmas.List.Sums.{sum_by-cons}
 use Rattle.object_store.specs.declared.account.Account.{Account}
+use Rattle.object_store.specs.declared.world.Room.{Room}
 use Rattle.object_store.specs.Stored.{Stored, AreRising, IsLast}
 use Rattle.intent_book.specs.declared.player_run.PlayerRun.{PlayerRun}
 use Rattle.world_rules.specs.World.{world_of}
 use Rattle.world_rules.specs.Tick.{account_after, run_of}
 use Rattle.world_rules.specs.Sound.{IsSound}
 use Rattle.world_rules.proofs.Keys.{keyed, find_mapped}
+use Rattle.world_rules.proofs.Follows.{follows_self}
+use Rattle.world_rules.proofs.Same.{tables_at}
+use Rattle.room_rules.specs.Followed.{part_stored, FollowsAt}
 use Rattle.room_rules.specs.RoomRules.{is_player}
+use Rattle.room_rules.specs.Within.{between}
 use Rattle.room_rules.proofs.Followed.{followed_sound}
+use Rattle.room_rules.proofs.Sound.{sound_keeps}
 use Rattle.ruled_tick.specs.inner.Ticked.{accounted}
-use Rattle.ruled_tick.proofs.Entered.{stays_at}
+
+-- a room that stays follows itself
+stays_at : (w : Stored) → IsSound w → (k : ℕ) (found : Option Room) → slice_get w.rooms k ≡ found → FollowsAt (is_player (world_of w)) between found found
+stays_at w s k None is = tt
+stays_at w s k (Some room) is = record {
+  name = refl;
+  terrain = refl;
+  index = refl;
+  rising = tables_at w.rooms k room s.tables is;
+  follows = follows_self (part_stored room);
+  keeps = sound_keeps w s k room is;
+}
 
 -- ---- accounts
 

@@ -1,5 +1,5 @@
 -- Crossings look at rooms and objects alone, and leave the rest.
-use Rattle.std.proofs.Common.{◌≡◌, ℕ, suc, if◌then◌else◌, true, false, List, [], ◌∷◌, length, Option, Some, None, slice_get, refl, sym, ap, subst, ◌∙◌}
+use Rattle.std.proofs.Common.{◌≡◌, ℕ, suc, if◌then◌else◌, true, false, List, [], ◌∷◌, length, Option, Some, None, slice_get, refl, ap, ◌∙◌}
 use Rattle.std.specs.Ordering.{nat_cmp}
 use Rattle.std.specs.FinMap.{FinMap, get}
 use Rattle.object_store.specs.declared.account.Account.{Account}

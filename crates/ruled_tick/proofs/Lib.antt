@@ -1,4 +1,6 @@
 pub mod Entered
+pub mod Harming
+pub mod Summing
 pub mod Actions
 pub mod Acted
 pub mod Places

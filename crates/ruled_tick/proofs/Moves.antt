@@ -1,6 +1,6 @@
 -- The moves of a room among the entries in their turn are those that count there.
-use Rattle.std.proofs.Common.{◌≡◌, ℕ, ◌==◌, ◌&&◌, if◌then◌else◌, Bool, true, false, cond, List, [], ◌∷◌, ◌++◌, map, Option, Some, None, refl, sym, ap, subst, ◌∙◌}
-use Rattle.std.specs.List.{AllByRecursion, AllPairs, filter, flat_map}
+use Rattle.std.proofs.Common.{◌≡◌, ℕ, ◌==◌, ◌&&◌, if◌then◌else◌, Bool, true, false, cond, List, [], ◌∷◌, ◌++◌, map, Option, refl, sym, ap, subst, ◌∙◌}
+use Rattle.std.specs.List.{AllByRecursion, filter, flat_map}
 use Rattle.std.proofs.lemmas.Bool.{eqb-true}
 use Rattle.game_tables.specs.Actions.{action_number}
 use Rattle.game_tables.specs.declared.action.Action.{Action}
@@ -9,7 +9,7 @@ use Rattle.intent_book.specs.declared.intent.Intent.{Intent}
 use Rattle.kept_entries.specs.declared.entries.Entry.{Entry}
 use Rattle.kept_entries.specs.Turns.{in_turn, placed, placed_in, AreKept}
 use Rattle.world_rules.specs.World.{World}
-use Rattle.world_rules.specs.Intents.{all_actions, comes_before, entries_of, in_order, is_at, is_in, kept, put_in_order, room_of, those_in}
+use Rattle.world_rules.specs.Intents.{all_actions, comes_before, entries_of, in_order, is_at, is_in, kept, put_in_order, those_in}
 use Rattle.room_rules.specs.Calls.{AreActorsOnce}
 use Rattle.room_commutes.proofs.ActorsOnce.{moves_once}
 use Rattle.ruled_tick.specs.inner.Ticked.{is_move_in, moves_in}

@@ -1,10 +1,8 @@
 -- After movement and upkeep, once no creep has moved, the rooms follow those before, and the world is sound.
-use Rattle.std.proofs.Common.{◌≡◌, ◌≢◌, ℕ, zero, suc, ◌+◌, ◌<◌, ◌≤◌, ◌==◌, Bool, true, false, cond, if◌then◌else◌, List, [], ◌∷◌, map, length, Option, Some, None, option_map, option_and_then, slice_get, slice_index_or, refl, sym, ap, subst, ◌∙◌, arith}
-use Rattle.std.specs.List.{AllByRecursion, AllPairs, filter_map, sum_by}
+use Rattle.std.proofs.Common.{◌≡◌, ℕ, ◌==◌, Bool, true, false, cond, if◌then◌else◌, List, [], ◌∷◌, map, Option, Some, None, option_map, option_and_then, slice_get, refl, sym, ap, subst, ◌∙◌, arith}
+use Rattle.std.specs.List.{AllByRecursion, filter_map, sum_by}
 use Rattle.std.specs.Ordering.{nat_cmp}
-use Rattle.std.specs.Cmp.{nat_cmp_total}
 use Rattle.std.specs.FinMap.{find, from_entries}
-use Rattle.std.proofs.lemmas.List.{length-map}
 use Rattle.std.proofs.lemmas.List.Sums.{sum_by-cons}
 use Rattle.std.proofs.lemmas.Bool.{eqb-true}
 use Rattle.std.proofs.lemmas.Option.{slice_get-map}
@@ -12,7 +10,7 @@ use Rattle.game_tables.specs.Kinds.{is_creep}
 use Rattle.intent_book.specs.declared.intent.Intent.{Intent}
 use Rattle.object_store.specs.declared.object.Object.{Object}
 use Rattle.object_store.specs.declared.world.Room.{Room}
-use Rattle.object_store.specs.Tables.{IsRising, IsOnTile, HasId, find_object}
+use Rattle.object_store.specs.Tables.{Table, IsRising, IsOnTile, HasId}
 use Rattle.object_store.specs.Stored.{Stored}
 use Rattle.world_rules.specs.World.{Placed, listed_room, placed_from, world_of}
 use Rattle.world_rules.specs.RoomParts.{RoomPart}
@@ -21,29 +19,26 @@ use Rattle.world_rules.specs.RoomTick.{room_after_steps}
 use Rattle.world_rules.specs.Steps.{each}
 use Rattle.world_rules.specs.Crossings.{still}
 use Rattle.world_rules.specs.Moves.{moved}
-use Rattle.world_rules.specs.Upkeep.{steps}
-use Rattle.world_rules.specs.Tick.{book}
+use Rattle.world_rules.specs.Upkeep.{first_steps, steps}
 use Rattle.world_rules.specs.Sound.{IsSound}
-use Rattle.world_rules.specs.declared.rule.Rule.TheVariants.{RoomTwice}
-use Rattle.world_rules.proofs.Each.{each-stored, each_in_table, IsRising-filter_map}
+use Rattle.world_rules.proofs.Each.{each-stored, IsRising-filter_map}
 use Rattle.world_rules.proofs.Follows.{follows_self, follows_trans, follows_each}
 use Rattle.world_rules.proofs.Keys.{keyed}
-use Rattle.world_rules.proofs.Lifting.{AreIdsOnce, found_in_room, found_in_table, frame_stored, times_in, times_room, times_rooms}
+use Rattle.world_rules.proofs.Lifting.{AreIdsOnce, found_in_room, found_in_table, times_in, times_room, times_rooms}
 use Rattle.world_rules.proofs.Orderly.{book_orderly}
 use Rattle.world_rules.proofs.Parts.{only}
 use Rattle.world_rules.proofs.Same.{once}
 use Rattle.world_rules.proofs.TableParts.{find_keyed}
-use Rattle.room_rules.specs.Calls.{AreActorsOnce}
-use Rattle.room_rules.specs.Within.{Stage}
-use Rattle.room_rules.specs.Within.{between, moved as stage_moved}
-use Rattle.room_rules.specs.RoomRules.{KeepsRoomRules, KeepsRules, is_player}
+use Rattle.object_store.specs.Tallies.{tally_of}
+use Rattle.room_rules.specs.Calls.{AreActorsOnce, AreSumsOf}
+use Rattle.room_rules.specs.Within.{between, within, moved as stage_moved}
+use Rattle.room_rules.specs.RoomRules.{KeepsRoomRules, is_player}
 use Rattle.room_rules.specs.Followed.{part_stored, FollowsRoom, FollowsAt, FollowRooms}
-use Rattle.room_rules.proofs.Sound.{sound_keeps}
 use Rattle.room_rules.proofs.Followed.{followed_sound}
-use Rattle.room_rules.proofs.Rules.{steps_keep}
+use Rattle.room_rules.proofs.Rules.{first_lead, later_keep}
 use Rattle.room_rules.proofs.Steps.{keeps_rest}
 use Rattle.room_rules.proofs.Moved.{keeps_moved}
-use Rattle.exit_crossing.specs.Crossing.{AreIdsApart, IsReadyToCross, most_arrivals, rested_table, rested_room}
+use Rattle.exit_crossing.specs.Crossing.{AreIdsApart, rested_room}
 use Rattle.ruled_tick.specs.inner.Ticked.{ticked_part, IsTicked, IsTickedAt}
 
 -- ---- objects at rest
@@ -114,57 +109,64 @@ ids_apart rooms alone one other id first second at there has mate =
 
 -- ---- rooms
 
--- steps that keep the rules, one after the other
-steps_kept : (list : List Step) → AllByRecursion (λ step. (sums : Sums) → KeepsRules (step sums)) list → (sums : Sums) (players : ℕ → Bool) (stage : Stage) (part : RoomPart) → KeepsRoomRules players stage part → KeepsRoomRules players stage (room_after_steps sums list part)
-steps_kept [] all sums players stage part keeps = keeps
-steps_kept (step ∷ later) all sums players stage part keeps = steps_kept later all.1 sums players stage (step sums part) (all.0 sums players stage part keeps)
-
 pub steps_follow : (list : List Step) → AllByRecursion (λ step. (sums : Sums) → StaysInRoom (step sums)) list → (sums : Sums) → StaysInRoom (room_after_steps sums list)
 steps_follow [] all sums part = follows_self part
 steps_follow (step ∷ later) all sums part = follows_trans part (step sums part) (room_after_steps sums later (step sums part)) (all.0 sums part) (steps_follow later all.1 sums (step sums part))
 
-pub no_sums : Sums
-no_sums = record { damage = λ id. 0; healing = λ id. 0 }
+-- the sums that are beside a table
+pub sums_beside : Table → Sums
+sums_beside table = record { damage = λ id. (tally_of id table.tallies).damage; healing = λ id. (tally_of id table.tallies).healing }
 
-module _ (w : Stored) (sound : IsSound w) (rooms : List Room) (moves : ℕ → List Intent) (alone : (k : ℕ) → AreActorsOnce (moves k))
-    (are : (k : ℕ) → IsTickedAt (moves k) (slice_get w.rooms k) (slice_get rooms k)) where
+pub beside_are : (table : Table) → AreSumsOf (sums_beside table) table
+unfolding sums_beside
+beside_are table = record { damage = λ id has. refl; healing = λ id has. refl }
+
+module _ (stored : Stored) (sound : IsSound stored) (before : List Room) (follow : FollowRooms (is_player (world_of stored)) within stored (record stored { rooms = before }))
+    (rooms : List Room) (moves : ℕ → List Intent) (alone : (k : ℕ) → AreActorsOnce (moves k)) (are : (k : ℕ) → IsTickedAt (moves k) (slice_get before k) (slice_get rooms k)) where
   abbrev players : ℕ → Bool
-  players = is_player (world_of w)
+  players = is_player (world_of stored)
 
   abbrev pub at_rest : Stored
-  at_rest = record w { rooms = map rested_room rooms }
+  at_rest = record stored { rooms = map rested_room rooms }
 
-  room_follows : (k : ℕ) (room mate : Room) → slice_get w.rooms k ≡ Some room → IsTicked (moves k) room mate → FollowsRoom players between room (rested_room mate)
-  room_follows k room mate at ticked =
+  -- what a room becomes follows what it was as the tick began
+  room_follows : (k : ℕ) (was room mate : Room) → FollowsRoom players within was room → IsTicked (moves k) room mate → FollowsRoom players between was (rested_room mate)
+  room_follows k was room mate came ticked =
+      let first : RoomPart = part_stored was in
       let part : RoomPart = part_stored room in
+      let sums : Sums = sums_beside room.table in
       let stepped : RoomPart = moved (moves k) part in
-      let done : RoomPart = ticked_part (moves k) no_sums part in
-      let is : part_stored (rested_room mate) ≡ each rests done = rested_part mate ticked.rising ∙ ap (each rests) (ticked.part no_sums) in
-      let kept = keeps_moved players between (moves k) part (alone k) (sound_keeps w sound k room at) in
-      let upkept = steps_kept steps steps_keep no_sums players stage_moved stepped kept in
+      let early : RoomPart = room_after_steps sums first_steps stepped in
+      let done : RoomPart = ticked_part (moves k) sums part in
+      let is : part_stored (rested_room mate) ≡ each rests done = rested_part mate ticked.rising ∙ ap (each rests) (ticked.part sums (beside_are room.table)) in
+      let kept : KeepsRoomRules players within stepped = keeps_moved players (moves k) part (alone k) came.keeps in
+      let upkept : KeepsRoomRules players stage_moved done = later_keep sums players early (first_lead sums players stepped kept) in
+      let follows : Follows part (each rests done) =
+      follows_trans part stepped (each rests done) (book_orderly.moved (moves k) part)
+      (follows_trans stepped done (each rests done) (steps_follow steps book_orderly.steps sums stepped) (follows_each rests done)) in
       record {
-        name = ticked.name;
-        terrain = ticked.terrain;
-        index = ticked.index;
+        name = ticked.name ∙ came.name;
+        terrain = ticked.terrain ∙ came.terrain;
+        index = ticked.index ∙ came.index;
         rising = rested_rise mate.table.objects ticked.rising;
-        follows = subst (Follows part) (sym is)
-            (follows_trans part stepped (each rests done) (book_orderly.moved (moves k) part)
-            (follows_trans stepped done (each rests done) (steps_follow steps book_orderly.steps no_sums stepped) (follows_each rests done)));
+        follows = subst (Follows first) (sym is) (follows_trans first part (each rests done) came.follows follows);
         keeps = subst (KeepsRoomRules players between) (sym is) (keeps_rest players done upkept);
       }
 
-  at_follows : (k : ℕ) (found mate : Option Room) → slice_get w.rooms k ≡ found → IsTickedAt (moves k) found mate → FollowsAt players between found (option_map rested_room mate)
-  at_follows k None None is ticked = tt
-  at_follows k None (Some mate) is ticked = absurd ticked
-  at_follows k (Some room) None is ticked = absurd ticked
-  at_follows k (Some room) (Some mate) is ticked = room_follows k room mate is ticked
+  at_follows : (k : ℕ) (was found mate : Option Room) → FollowsAt players within was found → IsTickedAt (moves k) found mate → FollowsAt players between was (option_map rested_room mate)
+  at_follows k None None None came ticked = tt
+  at_follows k None None (Some mate) came ticked = absurd ticked
+  at_follows k None (Some room) mate came ticked = absurd came
+  at_follows k (Some was) None mate came ticked = absurd came
+  at_follows k (Some was) (Some room) None came ticked = absurd ticked
+  at_follows k (Some was) (Some room) (Some mate) came ticked = room_follows k was room mate came ticked
 
-  follow : FollowRooms players between w at_rest
-  follow k =
-      subst (FollowsAt players between (slice_get w.rooms k)) (sym (slice_get-map rested_room rooms k)) (at_follows k (slice_get w.rooms k) (slice_get rooms k) refl (are k))
+  follow_rested : FollowRooms players between stored at_rest
+  follow_rested k =
+      subst (FollowsAt players between (slice_get stored.rooms k)) (sym (slice_get-map rested_room rooms k)) (at_follows k (slice_get stored.rooms k) (slice_get before k) (slice_get rooms k) (follow k) (are k))
 
   pub rested_sound : IsSound at_rest
-  rested_sound = followed_sound w at_rest sound follow (record { rising = sound.accounts; players = λ player listed. listed; fewer = λ player. omega arith })
+  rested_sound = followed_sound stored at_rest sound follow_rested (record { rising = sound.accounts; players = λ player listed. listed; fewer = λ player. omega arith })
 
   pub once_ticked : AreIdsOnce rooms
   once_ticked = once_before_rest rooms (once at_rest rested_sound)

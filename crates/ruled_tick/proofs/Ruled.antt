@@ -1,47 +1,49 @@
 -- The rooms of a tick after all but crossings, and what they come to with them.
-use Rattle.std.proofs.Common.{◌≡◌, ◌≢◌, ℕ, suc, ◌+◌, ◌*◌, ◌^◌, ◌<◌, ◌≤◌, List, [], ◌∷◌, ◌++◌, length, map, take, drop, get_or, Option, Some, None, option_map, slice_get, if◌then◌else◌, true, false, refl, sym, ap, subst, ◌∙◌, arith}
+use Rattle.std.proofs.Common.{◌≡◌, ◌≢◌, ℕ, suc, ◌+◌, ◌≤◌, List, [], ◌∷◌, ◌++◌, length, map, take, drop, get_or, Option, Some, None, option_map, slice_get, if◌then◌else◌, true, false, refl, sym, ap, subst, ◌∙◌, arith}
 use Rattle.std.specs.List.{AllByRecursion, AllPairs}
 use Rattle.std.specs.Ordering.{nat_cmp}
 use Rattle.std.specs.Cmp.{nat_cmp_total}
-use Rattle.std.specs.FinMap.{find, get, entries, get-entries, from_entries, get-from_entries, same_map, nat_cmp-IsAntisymmetric}
+use Rattle.std.specs.FinMap.{find, from_entries, get-from_entries, same_map, nat_cmp-IsAntisymmetric}
 use Rattle.std.proofs.lemmas.List.{length-map, take_all}
 use Rattle.std.proofs.lemmas.Option.{slice_get-get_or, slice_get-map}
 use Rattle.intent_book.specs.declared.intent.Intent.{Intent}
 use Rattle.object_store.specs.declared.object.Object.{Object}
 use Rattle.object_store.specs.declared.world.Room.{Room}
-use Rattle.object_store.specs.Tables.{IsOnTile, find_object}
+use Rattle.object_store.specs.Tables.{IsOnTile}
 use Rattle.object_store.specs.Stored.{Stored}
 use Rattle.kept_entries.specs.declared.entries.Entry.{Entry}
 use Rattle.kept_entries.specs.Turns.{in_turn, placed, placed_in, AreKept}
 use Rattle.game_tables.specs.Kinds.{is_creep}
 use Rattle.world_rules.specs.World.{Placed, Frame, World, framed_from, listed_room, placed_from, world_of}
 use Rattle.world_rules.specs.RoomParts.{in_every_room}
-use Rattle.world_rules.specs.RuleBook.{Sums}
+use Rattle.world_rules.specs.RuleBook.{Harm, Sums}
 use Rattle.world_rules.specs.Crossings.{all_rested, crossed, crossed_over, crossers, rested, still}
-use Rattle.world_rules.specs.Intents.{all_actions, entries_of, kept, those_in}
+use Rattle.world_rules.specs.Intents.{kept}
 use Rattle.world_rules.specs.Moves.{moved}
 use Rattle.world_rules.specs.Upkeep.{steps}
-use Rattle.world_rules.specs.Tick.{Course, acted, after_steps, book, inner, movement, sums_in}
+use Rattle.world_rules.specs.Tick.{Course, acted, after_steps, book, harms_in, inner, sums_in, sums_of}
 use Rattle.world_rules.specs.Sound.{IsSound, IsSoundRoom}
 use Rattle.world_rules.specs.declared.rule.Rule.TheVariants.{RoomTwice}
-use Rattle.game_tables.specs.declared.action.Action.TheVariants.{Move}
 use Rattle.world_rules.proofs.Keys.{find_mapped}
 use Rattle.world_rules.proofs.Lifting.{frame_stored}
 use Rattle.world_rules.proofs.Same.{once}
-use Rattle.room_rules.specs.Calls.{AreActorsOnce}
-use Rattle.room_rules.specs.Within.{between}
+use Rattle.room_rules.specs.Calls.{AreActorsOnce, AreSumsOf}
+use Rattle.room_rules.specs.Followed.{FollowRooms}
+use Rattle.room_rules.specs.Within.{within}
 use Rattle.room_rules.specs.RoomRules.{is_player}
-use Rattle.room_rules.proofs.Ready.{movable, unborn}
-use Rattle.room_rules.proofs.Sound.{sound_keeps}
+use Rattle.room_rules.proofs.Followed.{followed_once}
+use Rattle.room_rules.proofs.Ready.{movable}
+use Rattle.room_commutes.specs.Serials.{AreSerialsUsed}
+use Rattle.room_commutes.proofs.Births.{used_stored}
 use Rattle.room_commutes.proofs.Rested.{all_rested_get, rested_first}
-use Rattle.world_rules.proofs.Same.{tables_at}
 use Rattle.exit_crossing.specs.declared.leaving.Crosser.{Crosser}
 use Rattle.exit_crossing.specs.Crossing.{AreCrossers, AreIdsApart, IsReadyToCross, most_arrivals, rested_room}
-use Rattle.ruled_tick.specs.inner.Entered.{entered_all, IsActed}
-use Rattle.ruled_tick.specs.inner.Ticked.{moves_in, AreTicked, IsReadyToTick, IsRuledRooms, IsTicked, IsTickedAt}
-use Rattle.ruled_tick.proofs.Actions.{acted_world}
+use Rattle.ruled_tick.specs.inner.Entered.{entered_all, harms_entered, IsActed}
+use Rattle.ruled_tick.specs.inner.Ticked.{moves_in, AreTicked, IsReadyToTick, IsRuledRooms, IsTickedAt}
+use Rattle.ruled_tick.proofs.Actions.{acted_enters, used_entered}
+use Rattle.ruled_tick.proofs.Entered.{came_from, keeps_here, place_here, unborn_here}
 use Rattle.ruled_tick.proofs.Moves.{actors_once, moves_kept}
-use Rattle.ruled_tick.proofs.Rested.{at_rest, ids_apart, once_ticked, rested_sound}
+use Rattle.ruled_tick.proofs.Rested.{ids_apart, once_ticked, rested_sound}
 use Rattle.ruled_tick.proofs.Worlds.{stored_after}
 
 -- ---- a stored world at rest
@@ -116,17 +118,16 @@ rested_spare : (rooms : List Room) → AllByRecursion (λ room. most_arrivals �
 rested_spare [] all = tt
 rested_spare (room ∷ rooms) all = (all.0, rested_spare rooms all.1)
 
--- ---- ready for movement
-
-pub ready_to_tick : (w : Stored) → IsSound w → (k : ℕ) (room : Room) → slice_get w.rooms k ≡ Some room → IsReadyToTick room.table
-ready_to_tick w sound k room at =
-    let keeps = sound_keeps w sound k room at in
-    let rise = tables_at w.rooms k room sound.tables at in
-    record { movable = movable (is_player (world_of w)) between room keeps rise; fresh = λ serial least most. unborn (is_player (world_of w)) between room keeps rise serial least most (find_object (room.table.index * 2 ^ 32 + serial) room.table.objects) refl }
-
 -- ---- the whole
 
-module _ (stored : Stored) (entries : List Entry) (list : List Intent) (are : AreKept (world_of stored) list entries) (i : ℕ) (rooms : List Room) (acted_rooms : IsActed stored (take i entries) (drop i entries) rooms) (past : length entries ≤ i)
+-- Within a tick of a sound world a room is ready for movement.
+pub ready_to_tick : (stored : Stored) → IsSound stored → (rooms : List Room) → FollowRooms (is_player (world_of stored)) within stored (record stored { rooms = rooms }) → (k : ℕ) (room : Room) → slice_get rooms k ≡ Some room → IsReadyToTick room.table
+ready_to_tick stored sound rooms follow k room at = record {
+  movable = movable (is_player (world_of stored)) within room (keeps_here stored sound rooms follow k room at) (came_from stored sound rooms follow k room at).2.rising;
+  fresh = unborn_here stored sound rooms follow k room at;
+}
+
+module _ (stored : Stored) (begins : IsSound stored) (entries : List Entry) (list : List Intent) (are : AreKept (world_of stored) list entries) (i : ℕ) (rooms : List Room) (acted_rooms : IsActed stored (take i entries) (drop i entries) rooms) (past : length entries ≤ i)
     (ticked : List Room) (all : AreTicked entries rooms ticked) where
   abbrev w : Stored
   w = record stored { rooms = rooms }
@@ -138,7 +139,7 @@ module _ (stored : Stored) (entries : List Entry) (list : List Intent) (are : Ar
   alone = actors_once (world_of stored) list entries are
 
   sound : IsSound (record stored { rooms = map rested_room ticked })
-  sound = rested_sound w acted_rooms.sound ticked moves alone all
+  sound = rested_sound stored begins rooms acted_rooms.follow ticked moves alone all
 
   pub ready : IsReadyToCross (map rested_room ticked)
   ready = record {
@@ -163,7 +164,17 @@ module _ (stored : Stored) (entries : List Entry) (list : List Intent) (are : Ar
   ticked_tiles = all_of_places (λ room. AllByRecursion IsOnTile room.table.objects) ticked (λ k room at. tiles_at (moves k) room (slice_get rooms k) (slice_get ticked k) at (all k))
 
   pub ticked_ids : AreIdsApart ticked
-  ticked_ids = ids_apart ticked (once_ticked w acted_rooms.sound ticked moves alone all)
+  ticked_ids = ids_apart ticked (once_ticked stored begins rooms acted_rooms.follow ticked moves alone all)
+
+  -- the entries all together
+  abbrev entered_list : List (Option ℕ × Intent)
+  entered_list = map placed (take i entries)
+
+  all_done : (intents : List Intent) → AreKept (world_of stored) intents entries → entered_list ≡ map (placed_in (world_of stored)) (in_turn (kept (world_of stored) intents))
+  all_done intents kept_are = ap (map placed) (take_all i entries past) ∙ kept_are
+
+  used : AreSerialsUsed (world_of w)
+  used = subst AreSerialsUsed (sym acted_rooms.same) (used_entered (world_of stored) (used_stored stored begins) entered_list)
 
   -- the world before crossings
   inner_world : (intents : List Intent) → AreKept (world_of stored) intents entries → world_of (record stored { rooms = ticked }) ≡ (inner book (world_of stored) intents).world
@@ -171,8 +182,12 @@ module _ (stored : Stored) (entries : List Entry) (list : List Intent) (are : Ar
       let world : World = world_of stored in
       let after : Course = acted book world intents in
       let sums : ℕ → Sums = sums_in after in
-      let entered : world_of w ≡ after.world = acted_rooms.same ∙ ap (λ (done : List Entry). entered_all world (map placed done)) (take_all i entries past) ∙ ap (entered_all world) kept_are ∙ sym (acted_world world (kept world intents)) in
-      stored_after w acted_rooms.sound ticked (once_ticked w acted_rooms.sound ticked moves alone all) moves sums all
+      let enters = acted_enters stored begins intents in
+      let entered : world_of w ≡ after.world = acted_rooms.same ∙ ap (entered_all world) (all_done intents kept_are) ∙ sym enters.world in
+      let harms : harms_entered world entered_list ≡ after.harms = ap (harms_entered world) (all_done intents kept_are) ∙ sym enters.harms in
+      let told : (k : ℕ) (room : Room) → slice_get rooms k ≡ Some room → AreSumsOf (sums k) room.table = λ k room at.
+      subst (λ (h : List (ℕ × Harm)). AreSumsOf (sums_of (map (λ (one : ℕ × Harm). one.1) (harms_in k h))) room.table) harms (acted_rooms.summed k room at).sums in
+      stored_after w used (place_here stored begins rooms acted_rooms.follow) (followed_once stored w begins within acted_rooms.follow) ticked (once_ticked stored begins rooms acted_rooms.follow ticked moves alone all) moves sums told all
       ∙ ap (λ (start : World). after_steps sums steps (in_every_room (λ k. moved (moves_in k entries)) start)) entered
       ∙ (λ j. after_steps sums steps (in_every_room (λ k. moved (moves_kept world intents entries kept_are k j)) after.world))
 

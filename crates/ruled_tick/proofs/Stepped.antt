@@ -1,12 +1,14 @@
 -- A room's table after movement and upkeep.
-use Rattle.std.proofs.Common.{◌≡◌, ℕ, ◌+◌, ◌-◌, ◌*◌, ◌^◌, ◌<◌, ◌≤◌, ◌&&◌, max, nat_lt, Bool, true, false, cond, List, [], ◌∷◌, length, Option, Some, None, refl, sym, ap, subst, ◌∙◌, inl, inr, arith}
+use Rattle.std.proofs.Common.{◌≡◌, ℕ, ◌+◌, ◌*◌, ◌^◌, ◌<◌, ◌≤◌, ◌&&◌, ◌||◌, max, nat_lt, Bool, true, false, cond, List, [], ◌∷◌, length, Option, Some, None, refl, sym, ap, subst, ◌∙◌, inl, inr, arith}
 use Rattle.std.specs.List.{AllByRecursion, count_by}
 use Rattle.std.proofs.lemmas.List.Sums.{sum_by-cons}
+use Rattle.game_tables.specs.Kinds.{is_building, is_creep}
 use Rattle.room_terrain.specs.declared.terrain.Ground.{Ground}
 use Rattle.intent_book.specs.declared.intent.Intent.{Intent}
 use Rattle.object_store.specs.declared.object.Object.{Object}
 use Rattle.object_store.specs.declared.world.Room.{Room}
-use Rattle.object_store.specs.Tables.{Table, IsRising, IsOnTile, HasNoId, find_object}
+use Rattle.object_store.specs.Tables.{Table, IsRising, IsOnTile, HasId, HasNoId, find_object}
+use Rattle.object_store.specs.Tallies.{Tallies, tally_of}
 use Rattle.world_rules.specs.RoomParts.{RoomPart, table_part}
 use Rattle.world_rules.specs.RuleBook.{Sums, Step, Follows, StaysInRoom}
 use Rattle.world_rules.specs.RoomTick.{room_after_steps}
@@ -15,75 +17,152 @@ use Rattle.world_rules.specs.Upkeep.{first_steps, last_steps, decays}
 use Rattle.world_rules.proofs.Follows.{follows_trans}
 use Rattle.world_rules.proofs.Orderly.{book_orderly}
 use Rattle.world_rules.proofs.TableParts.{get_table_part}
-use Rattle.room_rules.specs.Calls.{IsReadyFor, KeepsUpTo}
-use Rattle.room_rules.specs.Followed.{part_stored}
-use Rattle.upkeep_rules.specs.Falling.{may_fall}
+use Rattle.room_rules.specs.Calls.{AreSumsOf, IsReadyFor, KeepsUpTo}
+use Rattle.upkeep_rules.specs.Falling.{many_fighters, may_fall, may_leave}
 use Rattle.exit_crossing.specs.Crossing.{most_arrivals}
-use Rattle.ruled_tick.specs.inner.Ticked.{ticked_part, HasMemory, IsReadyToTick, IsTicked}
-use Rattle.ruled_tick.proofs.Rested.{no_sums, steps_follow}
+use Rattle.ruled_tick.specs.inner.Ticked.{HasMemory, IsReadyToTick, IsTicked}
+use Rattle.ruled_tick.proofs.Rested.{beside_are, steps_follow, sums_beside}
+
+-- ---- how many piles may be made
+
+few_of : (test : Object → Bool) (objects : List Object) → count_by test objects ≤ length objects
+few_of test [] = omega arith
+few_of test (object ∷ objects) =
+    let one_of : Object → ℕ = λ o. cond (test o) 1 0 in
+    let one : one_of object ≤ 1 = elim (test object) as (λ b. cond {A = ℕ} b 1 0 ≤ 1) [ true ↦ omega arith | false ↦ omega arith ] in
+    omega (arith, sum_by-cons one_of object objects, few_of test objects, one)
 
 -- no more fall than there are
-pub few_fall : (objects : List Object) → may_fall objects ≤ length objects
-few_fall [] = omega arith
-few_fall (object ∷ objects) =
-    let test : Object → ℕ = λ o. cond (decays o.kind && nat_lt 0 o.energy) 1 0 in
-    let one : test object ≤ 1 = elim (decays object.kind && nat_lt 0 object.energy) as (λ b. cond {A = ℕ} b 1 0 ≤ 1) [ true ↦ omega arith | false ↦ omega arith ] in
-    omega (arith, sum_by-cons test object objects, few_fall objects, one)
+few_fall : (objects : List Object) → may_fall objects ≤ length objects
+few_fall objects = few_of (λ o. decays o.kind && nat_lt 0 o.energy) objects
 
--- movement and the first steps
-module _ (moves : List Intent) (grounds : List Ground) (start first : Table) (rule : (sums : Sums) → table_part grounds first ≡ room_after_steps sums first_steps (moved moves (table_part grounds start)))
-    (same : first.next ≡ start.next) where
-  follows : Follows (table_part grounds start) (table_part grounds first)
-  follows =
-      let part : RoomPart = table_part grounds start in
-      let all = book_orderly.steps in
-      let own : AllByRecursion (λ (step : Step). (sums : Sums) → StaysInRoom (step sums)) first_steps = (all.0, (all.1.0, (all.1.1.0, (all.1.1.1.0, (all.1.1.1.1.0, tt))))) in
-      subst (Follows part) (sym (rule no_sums)) (follows_trans part (moved moves part) (room_after_steps no_sums first_steps (moved moves part)) (book_orderly.moved moves part) (steps_follow first_steps own no_sums (moved moves part)))
+few_leave : (objects : List Object) → may_leave objects ≤ 2 * length objects
+few_leave objects = let few : many_fighters objects ≤ length objects = few_of (λ o. is_creep o.kind || is_building o.kind) objects in omega (arith, few)
 
+-- ---- a table that comes of another
+
+module _ (grounds : List Ground) (start after : Table) (follows : Follows (table_part grounds start) (table_part grounds after)) where
   -- no object has an id that the room will give
-  still_fresh : ((serial : ℕ) → start.next ≤ serial → serial < 2 ^ 32 → HasNoId (start.index * 2 ^ 32 + serial) start.objects) → (serial : ℕ) → start.next ≤ serial → serial < 2 ^ 32 → HasNoId (start.index * 2 ^ 32 + serial) first.objects
-  still_fresh fresh serial least most = none_as (find_object id first.objects) refl
+  pub fresh_after : ((serial : ℕ) → start.next ≤ serial → serial < 2 ^ 32 → HasNoId (start.index * 2 ^ 32 + serial) start.objects) → (serial : ℕ) → after.next ≤ serial → serial < 2 ^ 32 → HasNoId (after.index * 2 ^ 32 + serial) after.objects
+  fresh_after fresh serial least most = none_as (find_object id after.objects) refl
     where
       id : ℕ
-      id = start.index * 2 ^ 32 + serial
+      id = after.index * 2 ^ 32 + serial
 
-      none_as : (found : Option Object) → find_object id first.objects ≡ found → found ≡ None
+      index : after.index ≡ start.index
+      index = follows.index
+
+      grows : start.next ≤ after.next
+      grows = follows.serial
+
+      none_as : (found : Option Object) → find_object id after.objects ≡ found → found ≡ None
       none_as None is = refl
-      none_as (Some o) is = elim (follows.own id (o, get_table_part grounds first id ∙ is)) [
+      none_as (Some o) is = elim (follows.own id (o, get_table_part grounds after id ∙ is)) [
         | inl stood ↦ (
-            let gone : None ≡ Some stood.0 = sym (fresh serial least most) ∙ sym (get_table_part grounds start id) ∙ stood.1 in
+            let gone : None ≡ Some stood.0 = sym (subst (λ (n : ℕ). HasNoId (n * 2 ^ 32 + serial) start.objects) (sym index) (fresh serial (omega (arith, least, grows)) most)) ∙ sym (get_table_part grounds start id) ∙ stood.1 in
             absurd cc
             )
-        | inr new ↦ absurd (omega (arith, new.1, new.2, new.3, new.4, same, least, most))
+        | inr new ↦ (let is_id : after.index * 2 ^ 32 + serial ≡ start.index * 2 ^ 32 + new.0 = new.1 in absurd (omega (arith, is_id, index, new.3, new.4, least, most)))
       ]
 
--- ready for the last steps
-pub ready_last : (moves : List Intent) (grounds : List Ground) (start first wide : Table) → IsReadyToTick start → ((sums : Sums) → table_part grounds first ≡ room_after_steps sums first_steps (moved moves (table_part grounds start)))
-    → first.next ≡ start.next → first.index ≡ start.index → AllByRecursion IsOnTile first.objects → HasMemory first wide → IsReadyFor (may_fall wide.objects) wide
-ready_last moves grounds start first wide ready rule next index tiles memory =
-    subst (λ (t : Table). IsReadyFor (may_fall t.objects) t) (sym memory.same) (record {
-      spare = omega (arith, few_fall first.objects);
-      serial = omega (arith, few_fall first.objects, memory.serials);
-      fresh = λ serial least most. subst (λ (n : ℕ). HasNoId (n * 2 ^ 32 + serial) first.objects) (sym index) (still_fresh moves grounds start first rule next ready.fresh serial (omega (arith, least, next)) most);
-      tiles = tiles;
-    })
+  -- What was done to what stands is what was done to it before, where nothing was made.
+  pub sums_after : (sums : Sums) → after.next ≡ start.next → after.tallies ≡ start.tallies → AreSumsOf sums start → AreSumsOf sums after
+  sums_after sums next same are = record {
+    damage = λ id has. are.damage id (stood id has) ∙ ap (λ (t : Tallies). (tally_of id t).damage) (sym same);
+    healing = λ id has. are.healing id (stood id has) ∙ ap (λ (t : Tallies). (tally_of id t).healing) (sym same);
+  }
+    where
+      stood : (id : ℕ) → HasId id after.objects → HasId id start.objects
+      stood id has = elim (follows.own id (has.0, get_table_part grounds after id ∙ has.1)) [
+        | inl there ↦ (there.0, sym (get_table_part grounds start id) ∙ there.1)
+        | inr new ↦ absurd (omega (arith, next, new.2, new.3))
+      ]
+
+-- ---- movement, and memory for the first steps
+
+-- A table after movement, and with memory for the first steps.
+pub record HasMoved (moves : List Intent) (grounds : List Ground) (start one two : Table) : Type 0 where
+  pub ready : IsReadyToTick start
+  pub rule : table_part grounds one ≡ moved moves (table_part grounds start)
+  pub index : one.index ≡ start.index
+  pub next : one.next ≡ start.next
+  pub tallies : one.tallies ≡ start.tallies
+  pub tiles : AllByRecursion IsOnTile one.objects
+  pub memory : HasMemory (2 * length one.objects) one two
+
+module _ (moves : List Intent) (grounds : List Ground) (start one two : Table) (has : HasMoved moves grounds start one two) where
+  follows_one : Follows (table_part grounds start) (table_part grounds one)
+  follows_one = subst (Follows (table_part grounds start)) (sym has.rule) (book_orderly.moved moves (table_part grounds start))
+
+  -- ready for the first steps
+  pub ready_first : IsReadyFor (may_leave two.objects) two
+  ready_first =
+      subst (λ (t : Table). IsReadyFor (may_leave t.objects) t) (sym has.memory.same) (record {
+        spare = omega (arith, few_leave one.objects);
+        serial = omega (arith, few_leave one.objects, has.memory.serials);
+        fresh = fresh_after grounds start one follows_one has.ready.fresh;
+        tiles = has.tiles;
+      })
+
+  part_two : table_part grounds two ≡ moved moves (table_part grounds start)
+  part_two = ap (table_part grounds) has.memory.same ∙ has.rule
+
+  sums_two : (sums : Sums) → AreSumsOf sums start → AreSumsOf sums two
+  sums_two sums are = subst (AreSumsOf sums) (sym has.memory.same) (record { damage = (sums_after grounds start one follows_one sums has.next has.tallies are).damage; healing = (sums_after grounds start one follows_one sums has.next has.tallies are).healing })
+
+  -- ---- the first steps, and memory for the last ones
+
+  module _ (three four : Table) (rule : (sums : Sums) → AreSumsOf sums two → table_part grounds three ≡ room_after_steps sums first_steps (table_part grounds two)) (keeps : KeepsUpTo (may_leave two.objects) two three)
+      (memory : HasMemory (length three.objects + most_arrivals) three four) where
+    abbrev own : Sums
+    own = sums_beside start
+
+    part_three : (sums : Sums) → AreSumsOf sums start → table_part grounds three ≡ room_after_steps sums first_steps (moved moves (table_part grounds start))
+    part_three sums are = rule sums (sums_two sums are) ∙ ap (room_after_steps sums first_steps) part_two
+
+    follows_three : Follows (table_part grounds start) (table_part grounds three)
+    follows_three =
+        let part : RoomPart = table_part grounds start in
+        let all = book_orderly.steps in
+        let stay : AllByRecursion (λ (step : Step). (sums : Sums) → StaysInRoom (step sums)) first_steps = (all.0, (all.1.0, (all.1.1.0, (all.1.1.1.0, (all.1.1.1.1.0, tt))))) in
+        subst (Follows part) (sym (part_three own (beside_are start))) (follows_trans part (moved moves part) (room_after_steps own first_steps (moved moves part)) (book_orderly.moved moves part) (steps_follow first_steps stay own (moved moves part)))
+
+    -- ready for the last steps
+    pub ready_last : IsReadyFor (may_fall four.objects) four
+    ready_last =
+        subst (λ (t : Table). IsReadyFor (may_fall t.objects) t) (sym memory.same) (record {
+          spare = omega (arith, few_fall three.objects);
+          serial = omega (arith, few_fall three.objects, memory.serials);
+          fresh = fresh_after grounds start three follows_three has.ready.fresh;
+          tiles = keeps.tiles;
+        })
+
+    index_three : three.index ≡ start.index
+    index_three = keeps.index ∙ ap (λ (t : Table). t.index) has.memory.same ∙ has.index
+
+    part_four : table_part grounds four ≡ table_part grounds three
+    part_four = ap (table_part grounds) memory.same
+
+    spare_four : (last : Table) → KeepsUpTo (may_fall four.objects) four last → most_arrivals ≤ last.spare
+    spare_four last kept =
+        let spare : four.spare ≡ max three.spare (length three.objects + most_arrivals) = ap (λ (t : Table). t.spare) memory.same in
+        let few : may_fall four.objects ≤ length three.objects = subst (λ (t : Table). may_fall t.objects ≤ length three.objects) (sym memory.same) (few_fall three.objects) in
+        omega (arith, kept.used, kept.made, spare, few)
 
 -- the whole
-pub ticked_room : (moves : List Intent) (room later : Room) (first wide : Table) → later.name ≡ room.name → later.terrain ≡ room.terrain
-    → ((sums : Sums) → table_part room.terrain first ≡ room_after_steps sums first_steps (moved moves (table_part room.terrain room.table))) → first.index ≡ room.table.index → HasMemory first wide
-    → ((grounds : List Ground) (sums : Sums) → table_part grounds later.table ≡ room_after_steps sums last_steps (table_part grounds wide)) → KeepsUpTo (may_fall wide.objects) wide later.table → IsRising later.table.objects
+pub ticked_room : (moves : List Intent) (room later : Room) (one two three four : Table) → later.name ≡ room.name → later.terrain ≡ room.terrain → HasMoved moves room.terrain room.table one two
+    → ((sums : Sums) → AreSumsOf sums two → table_part room.terrain three ≡ room_after_steps sums first_steps (table_part room.terrain two)) → KeepsUpTo (may_leave two.objects) two three → HasMemory (length three.objects + most_arrivals) three four
+    → ((grounds : List Ground) (sums : Sums) → table_part grounds later.table ≡ room_after_steps sums last_steps (table_part grounds four)) → KeepsUpTo (may_fall four.objects) four later.table → IsRising later.table.objects
     → IsTicked moves room later
-ticked_room moves room later first wide name terrain rule index memory last keeps rise =
-    let wide_part : table_part room.terrain wide ≡ table_part room.terrain first = ap (table_part room.terrain) memory.same in
-    let wide_index : wide.index ≡ first.index = ap (λ (t : Table). t.index) memory.same in
-    let wide_spare : wide.spare ≡ max first.spare (length first.objects + most_arrivals) = ap (λ (t : Table). t.spare) memory.same in
-    let wide_fall : may_fall wide.objects ≤ length first.objects = subst (λ (t : Table). may_fall t.objects ≤ length first.objects) (sym memory.same) (few_fall first.objects) in
-    record {
-      name = name;
-      terrain = terrain;
-      index = keeps.index ∙ wide_index ∙ index;
-      part = λ sums. ap (λ (grounds : List Ground). table_part grounds later.table) terrain ∙ last room.terrain sums ∙ ap (room_after_steps sums last_steps) (wide_part ∙ rule sums);
-      rising = rise;
-      tiles = keeps.tiles;
-      spare = omega (arith, keeps.used, keeps.made, wide_spare, wide_fall);
-    }
+ticked_room moves room later one two three four name terrain has rule keeps memory last kept rise = record {
+  name = name;
+  terrain = terrain;
+  index = kept.index ∙ ap (λ (t : Table). t.index) memory.same ∙ index_three moves room.terrain room.table one two has three four rule keeps memory;
+  part = λ sums are.
+      ap (λ (grounds : List Ground). table_part grounds later.table) terrain
+      ∙ last room.terrain sums
+      ∙ ap (room_after_steps sums last_steps) (part_four moves room.terrain room.table one two has three four rule keeps memory ∙ part_three moves room.terrain room.table one two has three four rule keeps memory sums are);
+  rising = rise;
+  tiles = kept.tiles;
+  spare = spare_four moves room.terrain room.table one two has three four rule keeps memory later.table kept;
+}

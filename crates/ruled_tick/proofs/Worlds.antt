@@ -1,32 +1,29 @@
 -- Movement and upkeep in every room, on the world and on what is stored.
-use Rattle.std.proofs.Common.{◌≡◌, ℕ, List, [], ◌∷◌, map, Option, Some, None, option_map, option_and_then, slice_get, refl, sym, ap, subst, ◌∙◌}
+use Rattle.std.proofs.Common.{◌≡◌, ℕ, List, [], ◌∷◌, Option, Some, None, option_map, option_and_then, slice_get, refl, sym, ap, ◌∙◌}
 use Rattle.std.specs.List.{AllByRecursion}
-use Rattle.std.specs.Ordering.{nat_cmp}
 use Rattle.std.specs.Cmp.{nat_cmp_total}
-use Rattle.std.specs.FinMap.{FinMap, find, get, get-from_entries, same_map, nat_cmp-IsAntisymmetric}
+use Rattle.std.specs.FinMap.{get, get-from_entries, same_map, nat_cmp-IsAntisymmetric}
 use Rattle.intent_book.specs.declared.intent.Intent.{Intent}
-use Rattle.object_store.specs.declared.object.Object.{Object}
 use Rattle.object_store.specs.declared.world.Room.{Room}
 use Rattle.object_store.specs.Stored.{Stored}
-use Rattle.world_rules.specs.World.{Placed, Frame, World, listed_room, listing_of, placed, world_of}
+use Rattle.world_rules.specs.World.{Frame, World, listed_room, listing_of, placed, world_of}
 use Rattle.world_rules.specs.RoomParts.{RoomPart, in_every_room, objects_in}
 use Rattle.world_rules.specs.RuleBook.{Sums, Step, Follows, StaysInRoom}
 use Rattle.world_rules.specs.RoomTick.{room_after_steps}
 use Rattle.world_rules.specs.Seen.{Seen, seen}
-use Rattle.world_rules.specs.Sound.{IsSound}
 use Rattle.world_rules.specs.Moves.{moved}
 use Rattle.world_rules.specs.Upkeep.{steps}
-use Rattle.world_rules.specs.Tick.{after_steps, book}
+use Rattle.world_rules.specs.Tick.{after_steps}
 use Rattle.world_rules.proofs.Lifting.{AreIdsOnce, found_in_room, found_in_table, frame_stored}
 use Rattle.world_rules.proofs.Orderly.{book_orderly}
 use Rattle.world_rules.proofs.Parts.{changed, changed_as, get_objects_in, only, same_world}
-use Rattle.world_rules.proofs.Same.{once}
 use Rattle.room_rules.specs.Followed.{part_stored}
 use Rattle.room_rules.proofs.Sound.{get_part}
-use Rattle.room_commutes.proofs.Births.{used_stored}
+use Rattle.room_commutes.specs.Serials.{AreSerialsUsed}
+use Rattle.room_rules.specs.Calls.{AreSumsOf}
 use Rattle.room_commutes.proofs.Everywhere.{every_here, in_tick_every, in_tick_steps}
 use Rattle.room_commutes.proofs.InTick.{IsInTick, at_start}
-use Rattle.ruled_tick.specs.inner.Ticked.{ticked_part, IsTicked, IsTickedAt}
+use Rattle.ruled_tick.specs.inner.Ticked.{ticked_part, IsTickedAt}
 
 -- ---- changes one after the other, seen at a room
 
@@ -58,13 +55,14 @@ module _ (before : World) (sums : ℕ → Sums) where
 
 -- ---- a stored world, seen at a room
 
-stored_objects : (w : Stored) → AreIdsOnce w.rooms → (k id : ℕ) → get (objects_in (world_of w) k) id ≡ option_and_then (found_in_table id) (slice_get w.rooms k)
+pub stored_objects : (w : Stored) → AreIdsOnce w.rooms → (k id : ℕ) → get (objects_in (world_of w) k) id ≡ option_and_then (found_in_table id) (slice_get w.rooms k)
 stored_objects w alone k id =
     get_objects_in (world_of w) k id
     ∙ ap (option_and_then (only k)) (get-from_entries nat_cmp_total (placed (listing_of w)) id)
     ∙ sym (found_in_room w.rooms k id alone)
 
-module _ (w : Stored) (sound : IsSound w) (rooms : List Room) (alone : AreIdsOnce rooms) (moves : ℕ → List Intent) (sums : ℕ → Sums)
+module _ (w : Stored) (used : AreSerialsUsed (world_of w)) (places : (k : ℕ) (room : Room) → slice_get w.rooms k ≡ Some room → room.table.index ≡ k) (apart : AreIdsOnce w.rooms)
+    (rooms : List Room) (alone : AreIdsOnce rooms) (moves : ℕ → List Intent) (sums : ℕ → Sums) (told : (k : ℕ) (room : Room) → slice_get w.rooms k ≡ Some room → AreSumsOf (sums k) room.table)
     (are : (k : ℕ) → IsTickedAt (moves k) (slice_get w.rooms k) (slice_get rooms k)) where
   abbrev later : Stored
   later = record w { rooms = rooms }
@@ -73,7 +71,7 @@ module _ (w : Stored) (sound : IsSound w) (rooms : List Room) (alone : AreIdsOnc
   start = world_of w
 
   in_tick : IsInTick (world_of w) (world_of w)
-  in_tick = at_start (world_of w) (used_stored w sound)
+  in_tick = at_start (world_of w) used
 
   moves_own : (k : ℕ) → StaysInRoom (moved (moves k))
   moves_own k = book_orderly.moved (moves k)
@@ -105,22 +103,22 @@ module _ (w : Stored) (sound : IsSound w) (rooms : List Room) (alone : AreIdsOnc
       let frame : get (world_of w).rooms k ≡ None = frame_stored w k ∙ ap (option_map (λ (room : Room). (listed_room room).frame)) is in
       let frame_then : get (world_of later).rooms k ≡ None = frame_stored later k ∙ ap (option_map (λ (room : Room). (listed_room room).frame)) mate in
       let objects = same_map nat_cmp_total nat_cmp-IsAntisymmetric (objects_in (world_of later) k) (objects_in (world_of w) k) (λ id.
-      stored_objects later alone k id ∙ ap (option_and_then (found_in_table id)) (mate ∙ sym is) ∙ sym (stored_objects w (once w sound) k id)) in
+      stored_objects later alone k id ∙ ap (option_and_then (found_in_table id)) (mate ∙ sym is) ∙ sym (stored_objects w apart k id)) in
       (λ i. record { rules = 1; frame = (frame_then ∙ sym frame) i; objects = objects i })
       ∙ sym (ap (changed_as (change k) k (seen (world_of w) k)) frame)
   here_as k None (Some mate) is at ticked = absurd ticked
   here_as k (Some room) None is at ticked = absurd ticked
   here_as k (Some room) (Some mate) is at ticked =
-      let place : room.table.index ≡ k = sound.places k room is in
+      let place : room.table.index ≡ k = places k room is in
       let frame : get (world_of w).rooms k ≡ Some (listed_room room).frame = frame_stored w k ∙ ap (option_map (λ (room : Room). (listed_room room).frame)) is in
       let frame_then : get (world_of later).rooms k ≡ Some (listed_room mate).frame = frame_stored later k ∙ ap (option_map (λ (room : Room). (listed_room room).frame)) at in
       let objects : objects_in (world_of w) k ≡ (part_stored room).objects = same_map nat_cmp_total nat_cmp-IsAntisymmetric (objects_in (world_of w) k) (part_stored room).objects (λ id.
-      stored_objects w (once w sound) k id ∙ ap (option_and_then (found_in_table id)) is ∙ sym (get_part room id)) in
+      stored_objects w apart k id ∙ ap (option_and_then (found_in_table id)) is ∙ sym (get_part room id)) in
       let objects_then : objects_in (world_of later) k ≡ (part_stored mate).objects = same_map nat_cmp_total nat_cmp-IsAntisymmetric (objects_in (world_of later) k) (part_stored mate).objects (λ id.
       stored_objects later alone k id ∙ ap (option_and_then (found_in_table id)) at ∙ sym (get_part mate id)) in
       let given : RoomPart = record { rules = 1; index = k; grounds = room.terrain; next = room.table.next; objects = objects_in (world_of w) k } in
       let same : part_stored room ≡ given = λ i. record { rules = 1; index = place i; grounds = room.terrain; next = room.table.next; objects = sym objects i } in
-      let part : part_stored mate ≡ change k given = ticked.part (sums k) ∙ ap (change k) same in
+      let part : part_stored mate ≡ change k given = ticked.part (sums k) (told k room is) ∙ ap (change k) same in
       (λ i. record { rules = 1; frame = frame_then i; objects = objects_then i })
       ∙ (λ i. record { rules = 1; frame = Some (record { name = ticked.name i; grounds = ticked.terrain i; next = (part i).next }); objects = (part i).objects })
       ∙ sym (ap (changed_as (change k) k (seen (world_of w) k)) frame)

@@ -4,19 +4,21 @@ ghost use Rattle.room_terrain.specs.declared.terrain.Ground.{Ground};
 ghost use Rattle.object_store.specs.declared.world.Room.{Room};
 ghost use Rattle.world_rules.specs.RoomParts.{table_part};
 ghost use Rattle.world_rules.specs.Tick.{book};
-ghost use Rattle.room_rules.specs.Calls.{IsReady, Keeps};
+ghost use Rattle.object_store.specs.Tables.{AreTalliesOf};
+ghost use Rattle.room_rules.specs.Calls.{IsHarmedBy, IsReady, Keeps};
 ghost use Rattle.ruled_tick.specs.inner.Entered.{many_in, widened, AreCounts, IsRuled, IsRuledIn};
 
+use creep_combat::{attack, heal, mass_attack, ranged_attack, ranged_heal, suicide};
 use creep_logistics::{drop_load, pickup, transfer, withdraw};
-use creep_work::{build, harvest, repair};
+use creep_work::{build, dismantle, harvest, repair};
 use game_tables::Action;
 use intent_book::Intent;
 use kept_entries::Entry;
 use object_store::{Room, RoomTable};
 use std::alloc::{AllocError as NoMemory, Global};
 
-/// Gives the table of each room memory for what its entries and a step of upkeep may make. A table that has
-/// as much is left as it is, and another is copied.
+/// Begins a tick in each room: forgets what was done to its objects, and gives its table memory for what its
+/// entries and a step of upkeep may make. A table that has as much is left in its place, another is copied.
 pub fn widen_all(alloc: Global, rooms: &mut [Room], entries: &[Entry]) -> Result<(), NoMemory>
     requires few { length entries.now ≤ 2 ^ 18 }
     ensures { OnOk result ((index : ℕ) → slice_get rooms.new index
@@ -56,12 +58,13 @@ fn counts_of(alloc: Global, rooms: usize, entries: &[Entry]) -> Result<Vec<u32>,
     Ok(counts)
 }
 
-// Gives the table of a room that has so many entries the memory that it may need, by a copy where it hasn't
-// as much. Where its objects and that memory come to 2^32, it is refused as one without memory; a room that
-// keeps the rules has at most 7,500 objects.
+// Forgets what was done to the objects of a room, and gives its table the memory that so many entries may
+// need, by a copy where it hasn't as much. Where its objects and that memory come to 2^32, it is refused as
+// one without memory; a room that keeps the rules has at most 7,500 objects.
 fn widen(alloc: Global, room: &mut Room, entries: u32) -> Result<(), NoMemory>
     ensures { OnOk result (room.new ≡ widened entries room.old) }
 {
+    room.table.clear_sums();
     let len = u64::from(room.table.len());
     let spare = u64::from(entries) + (4 * len + 196);
     if spare <= u64::from(room.table.spare()) {
@@ -89,16 +92,28 @@ fn rule(table: &mut RoomTable, intent: &Intent)
     requires ready { IsReady table.old }
     ensures rule { (grounds : List Ground)
         → table_part grounds table.new ≡ (book.effect intent.now (table_part grounds table.old)).part }
+    ensures harm { (grounds : List Ground)
+        → IsHarmedBy (book.harm intent.now (table_part grounds table.old)) table.old table.new }
+    ensures told { AreTalliesOf table.old.objects table.old.tallies }
     ensures keeps { Keeps table.old table.new }
 {
+    // No sum passes its most, and nothing was done to what doesn't stand.
+    let _told = table.objects();
     match intent.action {
         Action::DropLoad => drop_load(table, intent),
         Action::Transfer => transfer(table, intent),
         Action::Withdraw => withdraw(table, intent),
         Action::Pickup => pickup(table, intent),
+        Action::Heal => heal(table, intent),
+        Action::RangedHeal => ranged_heal(table, intent),
+        Action::Dismantle => dismantle(table, intent),
+        Action::Attack => attack(table, intent),
         Action::Harvest => harvest(table, intent),
         Action::Repair => repair(table, intent),
         Action::Build => build(table, intent),
+        Action::RangedMassAttack => mass_attack(table, intent),
+        Action::RangedAttack => ranged_attack(table, intent),
+        Action::Suicide => suicide(table, intent),
         _ => {}
     }
 }

@@ -1,5 +1,5 @@
 // Movement and upkeep of all rooms.
-ghost use Rattle.std.specs.Prelude.{◌≡◌, ◌∷◌, ◌++◌, [], ℕ, List, Some, slice_get, OnOk, IfOk};
+ghost use Rattle.std.specs.Prelude.{◌≡◌, IsTrue, ◌<◌, ◌^◌, ◌∷◌, ◌++◌, [], ℕ, List, Some, slice_get, OnOk, IfOk};
 ghost use Rattle.object_store.specs.declared.world.Room.{Room};
 ghost use Rattle.kept_entries.specs.declared.entries.Entry.{Entry};
 ghost use Rattle.room_rules.specs.Calls.{AreActorsOnce};
@@ -67,25 +67,28 @@ fn tick_room(room: &mut Room, moves: &[Intent]) -> Result<(), NoMemory>
     ensures { OnOk result (IsTicked moves.now room.old room.new) }
 {
     settle_moves(&room.terrain, &mut room.table, moves);
+    let most_left = 2 * u64::from(room.table.len());
+    take_memory(&mut room.table, most_left)?;
     upkeep_first(&mut room.table);
-    take_memory(&mut room.table)?;
+    let most_made = u64::from(room.table.len()) + MOST_ARRIVALS;
+    take_memory(&mut room.table, most_made)?;
     upkeep_last(&mut room.table);
     let _rising = room.table.objects();
     Ok(())
 }
 
-// Takes memory for the piles that upkeep may make and the creeps that may come, where there isn't as much. A
-// room without serials for so many is refused as one without memory; one that keeps the rules has at most
-// 7,500 objects.
-fn take_memory(table: &mut RoomTable) -> Result<(), NoMemory>
-    ensures { OnOk result (HasMemory table.old table.new) }
+// Takes memory for so many objects, for the piles that upkeep may make and the creeps that may come, where
+// there isn't as much. A room without serials for so many is refused as one without memory; one that keeps the
+// rules has at most 7,500 objects.
+fn take_memory(table: &mut RoomTable, many: u64) -> Result<(), NoMemory>
+    requires few { many < 2 ^ 34 }
+    ensures { OnOk result (HasMemory many table.old table.new) }
 {
-    let len = u64::from(table.len());
     let most = u64::from(u32::MAX);
-    if u64::from(table.next()) + len > most || 2 * len + MOST_ARRIVALS > most {
+    if u64::from(table.next()) + many > most || u64::from(table.len()) + many > most {
         return Err(NoMemory);
     }
-    table.reserve(len + MOST_ARRIVALS)
+    table.reserve(many)
 }
 
 // A creep may come to each border tile of a room.

@@ -183,25 +183,26 @@ fn refused_streams_and_used_up_serials(rt: HostRuntime) -> Result<(), Fail> {
     Ok(())
 }
 
-// Two rooms with these next serials: in the first a creep of player 1 with this load on a pile of this
-// energy, in the
-// second a creep of player 2 with this load, and more objects; and the players with these buckets.
+// Two rooms with these next serials: in the first a creep of player 1 with this load on a pile of this energy, in
+// the second a creep of player 2 with this load, and more objects; the creeps have so many ticks left, and the
+// players these buckets.
 fn world_of_two(
     alloc: Global,
     nexts: (u32, u32),
     loads: (u32, u32),
     pile: u32,
     more: &str,
+    timer: u32,
     buckets: (u32, u32),
 ) -> Result<String, AllocError> {
     let (load, pile_energy) = (loads.0, pile);
     let objects = format!(in alloc;
-        "{{\"id\":2,\"kind\":\"pile\",\"x\":30,\"y\":30,\"energy\":{pile_energy}}},{{\"id\":3,\"kind\":\"creep\",\"x\":30,\"y\":30,\"owner\":1,\"body\":[\"carry\",\"move\"],\"energy\":{load},\"timer\":1500}}"
+        "{{\"id\":2,\"kind\":\"pile\",\"x\":30,\"y\":30,\"energy\":{pile_energy}}},{{\"id\":3,\"kind\":\"creep\",\"x\":30,\"y\":30,\"owner\":1,\"body\":[\"carry\",\"move\"],\"energy\":{load},\"timer\":{timer}}}"
     )?;
     let first = room(alloc, "E0S0", nexts.0, &objects)?;
     let load = loads.1;
     let objects = format!(in alloc;
-        "{{\"id\":4294967297,\"kind\":\"creep\",\"x\":10,\"y\":10,\"owner\":2,\"body\":[\"carry\",\"move\"],\"energy\":{load},\"timer\":1500}}{more}"
+        "{{\"id\":4294967297,\"kind\":\"creep\",\"x\":10,\"y\":10,\"owner\":2,\"body\":[\"carry\",\"move\"],\"energy\":{load},\"timer\":{timer}}}{more}"
     )?;
     let second = room(alloc, "E1S0", nexts.1, &objects)?;
     let (one, other) = buckets;
@@ -223,7 +224,7 @@ fn end_of(alloc: Global, text: &str) -> Result<Vec<u8>, Fail> {
 #[test]
 fn players_of_two_rooms_drop_in_one_tick(rt: HostRuntime) -> Result<(), Fail> {
     let alloc = rt.alloc();
-    let world = world_of_two(alloc, (4, 2), (20, 50), 1001, "", (30, 9_000))?;
+    let world = world_of_two(alloc, (4, 2), (20, 50), 1001, "", 1500, (30, 9_000))?;
     let uploads: [(u64, u32, &[u8]); 2] = [(0, 1, DROPPER), (0, 2, OTHER_DROPPER)];
     let ended = run(alloc, world.into_bytes(), &uploads, "1")?;
     assert_eq!(rt; ended.status, Status::Done);
@@ -235,7 +236,7 @@ fn players_of_two_rooms_drop_in_one_tick(rt: HostRuntime) -> Result<(), Fail> {
     );
     // (the pile of 1,001 and 5 loses 2, the new one of 7 loses 1; the buckets lose a unit)
     let more = ",{\"id\":4294967298,\"kind\":\"pile\",\"x\":10,\"y\":10,\"energy\":6}";
-    let after = world_of_two(alloc, (4, 3), (15, 43), 1004, more, (49, 9_499))?;
+    let after = world_of_two(alloc, (4, 3), (15, 43), 1004, more, 1499, (49, 9_499))?;
     let end = end_of(alloc, &after)?;
     assert!(rt; end.len() > 200);
     assert!(rt; ended.journal.ends_with(&end));

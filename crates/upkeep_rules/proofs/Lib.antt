@@ -1,8 +1,11 @@
 pub mod Lefts
 pub mod Passing
 pub mod Parts
+pub mod Outcomes
 pub mod Fallen
 pub mod Split
-pub mod Weathering
 pub mod Renewed
+pub mod Turns
+pub mod First
+pub mod Gains
 pub mod Ready

@@ -6,6 +6,7 @@ use Rattle.std.proofs.lemmas.Bool.{cases_eq, eq-eqb, ne_eqb}
 use Rattle.room_terrain.specs.declared.terrain.Ground.{Ground}
 use Rattle.object_store.specs.declared.object.Object.{Object}
 use Rattle.object_store.specs.Tables.{Table, IsRising, HasNoId, find_object}
+use Rattle.object_store.specs.Tallies.{Tallies}
 use Rattle.world_rules.specs.RoomParts.{RoomPart, table_part}
 use Rattle.world_rules.specs.Steps.{each}
 use Rattle.world_rules.proofs.Each.{KeepsIds, each_is_at_once, kept}
@@ -57,8 +58,8 @@ module _ (change : Object → Option Object) (keeps : KeepsIds change) where
       ]
 
 -- A step of a table is that of its part.
-pub passed_part : (step : Step) (grounds : List Ground) (table : Table) → IsRising table.objects → table_part grounds (passed step table) ≡ each (left_by step) (table_part grounds table)
-passed_part step grounds table rise = each_table (left_by step) (left-id step) grounds table rise
+pub passed_part : (step : Step) (tallies : Tallies) (grounds : List Ground) (table : Table) → IsRising table.objects → table_part grounds (passed step tallies table) ≡ each (left_by step) (table_part grounds table)
+passed_part step tallies grounds table rise = each_table (left_by step) (left-id step) grounds table rise
 
-pub passed_absent : (step : Step) (id : ℕ) (table : Table) → HasNoId id table.objects → HasNoId id (passed step table).objects
-passed_absent step id table absent = absent_left (left_by step) (left-id step) id table.objects absent
+pub passed_absent : (step : Step) (id : ℕ) (objects : List Object) → HasNoId id objects → HasNoId id (filter_map (left_by step) objects)
+passed_absent step id objects absent = absent_left (left_by step) (left-id step) id objects absent

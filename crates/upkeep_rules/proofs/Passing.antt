@@ -1,12 +1,15 @@
 -- A step in place, object by object.
 use Rattle.std.proofs.Common.{◌≡◌, ℕ, zero, suc, ◌+◌, ◌-◌, ◌<◌, ◌≤◌, Bool, true, false, List, [], ◌∷◌, ◌++◌, length, get_or, set, filter_map, Option, Some, None, is_some, slice_get, refl, sym, ap, subst, ◌∙◌, arith, append_assoc}
-use Rattle.std.specs.List.{AllByRecursion, cons_option, remove}
+use Rattle.std.specs.List.{AllByRecursion, cons_option}
+use Rattle.std.specs.List.{remove as remove_at}
 use Rattle.std.proofs.lemmas.Bool.{both_ways}
 use Rattle.std.proofs.lemmas.List.{append-nil, length-append}
 use Rattle.std.proofs.lemmas.List.Elements.{filter_map-append}
 use Rattle.std.proofs.lemmas.Option.{get_or_from_slice_get, slice_get_within}
 use Rattle.object_store.specs.declared.object.Object.{Object}
-use Rattle.object_store.specs.Tables.{Table, IsRising, IsOnTile, find_object, with_object, without}
+use Rattle.std.specs.FinMap.{remove}
+use Rattle.object_store.specs.Tables.{Table, IsRising, IsOnTile, find_object, removed, with_object, without}
+use Rattle.object_store.specs.Tallies.{Tallies}
 use Rattle.object_store.proofs.Keyed.{rises_from_objects}
 use Rattle.object_store.proofs.Rising.{find-at, remove-at, set-at}
 use Rattle.upkeep_rules.specs.declared.pass.Step.{Step}
@@ -45,7 +48,7 @@ set_middle : {A : Type 0} (before : List A) (x y : A) (after : List A) → set (
 set_middle [] x y after = refl
 set_middle {A} (first ∷ before) x y after = ap (λ (more : List A). first ∷ more) (set_middle before x y after)
 
-remove_middle : {A : Type 0} (before : List A) (x : A) (after : List A) → remove (before ++ x ∷ after) (length before) ≡ before ++ after
+remove_middle : {A : Type 0} (before : List A) (x : A) (after : List A) → remove_at (before ++ x ∷ after) (length before) ≡ before ++ after
 remove_middle [] x after = refl
 remove_middle {A} (first ∷ before) x after = ap (λ (more : List A). first ∷ more) (remove_middle before x after)
 
@@ -80,21 +83,25 @@ module _ (step : Step) (table : Table) (place : ℕ) (read : Object) (at : slice
   abbrev then_objects : Option Object → List Object
   then_objects left = before ++ cons_option left after
 
-  abbrev then_table : List Object → Table
-  then_table objects = record table { objects = objects }
+  abbrev then_table : Tallies → List Object → Table
+  then_table tallies objects = record table { objects = objects; tallies = tallies }
 
-  pub stays : left_by step read ≡ Some read → table ≡ then_table (then_objects (left_by step object))
-  stays is = ap then_table (whole ∙ ap then_objects (ap Some same ∙ sym (left_then (Some read) is)))
+  -- as a clause says it of a new table
+  pub its_own : (new : Table) (tallies : Tallies) (objects : List Object) → new ≡ then_table tallies objects → new ≡ then_table new.tallies objects
+  its_own new tallies objects is = is ∙ ap (λ (t : Tallies). then_table t objects) (sym (ap (λ (t : Table). t.tallies) is))
+
+  pub stays : left_by step read ≡ Some read → table ≡ then_table table.tallies (then_objects (left_by step object))
+  stays is = ap (then_table table.tallies) (whole ∙ ap then_objects (ap Some same ∙ sym (left_then (Some read) is)))
 
   module _ (rising : IsRising table.objects) where
-    pub changes : (left : Object) → left_by step read ≡ Some left → then_table (with_object left table.objects) ≡ then_table (then_objects (left_by step object))
-    changes left is = ap then_table (
+    pub changes : (left : Object) → left_by step read ≡ Some left → then_table table.tallies (with_object left table.objects) ≡ then_table table.tallies (then_objects (left_by step object))
+    changes left is = ap (then_table table.tallies) (
         ap (with_object left) whole
         ∙ replaced_middle before object after (subst IsRising whole rising) left (left-id step object left (left_then (Some left) is))
         ∙ ap then_objects (sym (left_then (Some left) is)))
 
-    pub goes : left_by step read ≡ None → then_table (without read.id table.objects) ≡ then_table (then_objects (left_by step object))
-    goes is = ap then_table (
+    pub goes : left_by step read ≡ None → removed read.id table ≡ then_table (remove table.tallies read.id) (then_objects (left_by step object))
+    goes is = ap (then_table (remove table.tallies read.id)) (
         ap (λ (o : Object). without o.id table.objects) (sym same)
         ∙ ap (without object.id) whole
         ∙ removed_middle before object after (subst IsRising whole rising)
@@ -115,22 +122,22 @@ module _ (step : Step) (start : Table) (place : ℕ) (now : Table) (upto : IsPas
   many_now : length now.objects ≡ place + length upto.later
   many_now = ap length objects_now ∙ length-append kept upto.later ∙ ap (λ (n : ℕ). n + length upto.later) upto.count
 
-  all_done : (later : List Object) → upto.later ≡ later → length now.objects ≤ place → now ≡ record start { objects = filter_map (left_by step) start.objects }
+  all_done : (later : List Object) → upto.later ≡ later → length now.objects ≤ place → now ≡ record start { objects = filter_map (left_by step) start.objects; tallies = now.tallies }
   all_done (object ∷ later) is past = absurd (omega (arith, many_now, ap length is))
   all_done [] is past =
       upto.table
-      ∙ ap (λ (objects : List Object). record start { objects = objects }) (
+      ∙ ap (λ (objects : List Object). record start { objects = objects; tallies = now.tallies }) (
       ap (λ (more : List Object). kept ++ more) is
       ∙ append-nil kept
       ∙ ap (filter_map (left_by step)) (sym (upto.whole ∙ ap (λ (more : List Object). upto.done ++ more) is ∙ append-nil upto.done)))
 
-  pub pass_last : length now.objects ≤ place → now ≡ record start { objects = filter_map (left_by step) start.objects }
+  pub pass_last : length now.objects ≤ place → now ≡ record start { objects = filter_map (left_by step) start.objects; tallies = now.tallies }
   pass_last = all_done upto.later refl
 
   -- a step at the place
   module _ (new : Table) (left : Bool) (tiles : AllByRecursion IsOnTile new.objects)
       (is_left : (before after : List Object) (object : Object) → now.objects ≡ before ++ object ∷ after → length before ≡ place → left ≡ is_some (left_by step object))
-      (table : (before after : List Object) (object : Object) → now.objects ≡ before ++ object ∷ after → length before ≡ place → new ≡ record now { objects = before ++ cons_option (left_by step object) after }) where
+      (table : (before after : List Object) (object : Object) → now.objects ≡ before ++ object ∷ after → length before ≡ place → new ≡ record now { objects = before ++ cons_option (left_by step object) after; tallies = new.tallies }) where
     module _ (object : Object) (rest : List Object) (is : upto.later ≡ object ∷ rest) where
       abbrev done_then : List Object
       done_then = upto.done ++ object ∷ []
@@ -145,8 +152,8 @@ module _ (step : Step) (start : Table) (place : ℕ) (now : Table) (upto : IsPas
       regrouped None = ap (λ (some : List Object). some ++ rest) (sym (append-nil kept))
       regrouped (Some after) = sym (append_assoc kept (after ∷ []) rest)
 
-      new_is : new ≡ record start { objects = kept ++ cons_option (left_by step object) rest }
-      new_is = table kept rest object whole_now upto.count ∙ ap (λ (t : Table). record t { objects = kept ++ cons_option (left_by step object) rest }) upto.table
+      new_is : new ≡ record start { objects = kept ++ cons_option (left_by step object) rest; tallies = new.tallies }
+      new_is = table kept rest object whole_now upto.count ∙ ap (λ (t : Table). record t { objects = kept ++ cons_option (left_by step object) rest; tallies = new.tallies }) upto.table
 
       moved_on : (n : ℕ) → length (cons_option (left_by step object) []) ≡ n → IsPassedTo step start (place + n) new
       moved_on n many = record {
@@ -154,7 +161,7 @@ module _ (step : Step) (start : Table) (place : ℕ) (now : Table) (upto : IsPas
         later = rest;
         whole = upto.whole ∙ ap (λ (more : List Object). upto.done ++ more) is ∙ sym (append_assoc upto.done (object ∷ []) rest);
         count = ap length kept_then ∙ length-append kept (cons_option (left_by step object) []) ∙ (λ i. upto.count i + many i);
-        table = new_is ∙ ap (λ (objects : List Object). record start { objects = objects }) (regrouped (left_by step object) ∙ ap (λ (some : List Object). some ++ rest) (sym kept_then));
+        table = new_is ∙ ap (λ (objects : List Object). record start { objects = objects; tallies = new.tallies }) (regrouped (left_by step object) ∙ ap (λ (some : List Object). some ++ rest) (sym kept_then));
         tiles = tiles;
       }
 

@@ -18,7 +18,10 @@ use Rattle.upkeep_rules.specs.declared.pass.Step.TheVariants.{Renew}
 use Rattle.upkeep_rules.specs.inner.Passed.{left_by, passed}
 use Rattle.upkeep_rules.proofs.Lefts.{source_stays}
 use Rattle.upkeep_rules.proofs.Parts.{passed_absent}
-use Rattle.upkeep_rules.proofs.Split.{may_fall_more}
+use Rattle.std.proofs.lemmas.List.Sums.{sum_by-cons}
+
+may_fall_more : (object : Object) (objects : List Object) → may_fall (object ∷ objects) ≡ cond {A = ℕ} (decays object.kind && nat_lt 0 object.energy) 1 0 + may_fall objects
+may_fall_more object objects = sum_by-cons (λ (o : Object). cond {A = ℕ} (decays o.kind && nat_lt 0 o.energy) 1 0) object objects
 
 nothing_falls : (object : Object) (objects : List Object) → object.kind ≡ Source → may_fall (object ∷ objects) ≡ 0 + may_fall objects
 nothing_falls object objects is = may_fall_more object objects ∙ ap (λ (k : Kind). cond {A = ℕ} (decays k && nat_lt 0 object.energy) 1 0 + may_fall objects) is
@@ -33,12 +36,12 @@ pub may_fall_renewed : (capacity : ℕ) (objects : List Object) → may_fall (fi
 may_fall_renewed capacity [] = refl
 may_fall_renewed capacity (object ∷ objects) = one_renewed object.kind capacity object (filter_map (left_by (Renew capacity)) objects) objects refl (may_fall_renewed capacity objects)
 
-pub ready_renewed : (capacity : ℕ) (table new : Table) → new ≡ passed (Renew capacity) table → AllByRecursion IsOnTile new.objects → IsReadyFor (may_fall table.objects) table → IsReadyFor (may_fall new.objects) new
+pub ready_renewed : (capacity : ℕ) (table new : Table) → new ≡ passed (Renew capacity) new.tallies table → AllByRecursion IsOnTile new.objects → IsReadyFor (may_fall table.objects) table → IsReadyFor (may_fall new.objects) new
 ready_renewed capacity table new is tiles ready =
-    subst (λ (t : Table). IsReadyFor (may_fall t.objects) t) (sym is) (subst (λ (n : ℕ). IsReadyFor n (passed (Renew capacity) table)) (sym (may_fall_renewed capacity table.objects)) (record {
+    subst (λ (t : Table). IsReadyFor (may_fall t.objects) t) (sym is) (subst (λ (n : ℕ). IsReadyFor n (passed (Renew capacity) new.tallies table)) (sym (may_fall_renewed capacity table.objects)) (record {
       spare = ready.spare;
       serial = ready.serial;
-      fresh = λ serial from below. passed_absent (Renew capacity) _ table (ready.fresh serial from below);
+      fresh = λ serial from below. passed_absent (Renew capacity) _ table.objects (ready.fresh serial from below);
       tiles = subst (λ (t : Table). AllByRecursion IsOnTile t.objects) is tiles;
     }))
 

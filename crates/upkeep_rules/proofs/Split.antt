@@ -1,16 +1,14 @@
 -- What stands before and behind an id, once an object is put among others.
-use Rattle.std.proofs.Common.{◌≡◌, ℕ, zero, suc, ◌⊎◌, ◌+◌, ◌<◌, ◌≤◌, ◌==◌, ◌&&◌, Bool, true, false, cond, if◌then◌else◌, nat_lt, List, [], ◌∷◌, ◌++◌, length, map, take, drop, Option, Some, None, slice_get, refl, sym, ap, subst, ◌∙◌, inl, inr, arith, append_assoc}
-use Rattle.std.specs.List.{AllByRecursion, count_by, filter}
-use Rattle.std.proofs.lemmas.Bool.{cases_eq, eq-eqb, eqb-true, ne_eqb, lt-ltb, le-ltb, ltb-true}
+use Rattle.std.proofs.Common.{◌≡◌, ℕ, zero, suc, ◌⊎◌, ◌+◌, ◌<◌, ◌≤◌, ◌==◌, Bool, true, false, cond, if◌then◌else◌, nat_lt, List, [], ◌∷◌, ◌++◌, length, map, take, drop, Option, Some, None, slice_get, refl, sym, ap, subst, ◌∙◌, inl, inr, arith, append_assoc}
+use Rattle.std.specs.List.{AllByRecursion, filter}
+use Rattle.std.proofs.lemmas.Bool.{cases_eq, eq-eqb, eqb-true, ne_eqb, lt-ltb, lt-leb, le-ltb, le-leb, ltb-true}
 use Rattle.std.proofs.lemmas.List.{append-nil, length-append}
-use Rattle.std.proofs.lemmas.List.Sums.{sum_by-cons}
+use Rattle.std.proofs.lemmas.List.Elements.{filter-append}
 use Rattle.object_store.specs.declared.object.Object.{Object}
 use Rattle.object_store.specs.Tables.{IsRising, HasNoId, find_object, with_object, with_new}
 use Rattle.object_store.proofs.Keyed.{objects_from_rises, rises_from_objects}
 use Rattle.object_store.proofs.Rising.{all_both, all_filter, all_weaker, rises-filter}
-use Rattle.world_rules.specs.Upkeep.{decays}
-use Rattle.upkeep_rules.specs.Falling.{may_fall}
-use Rattle.upkeep_rules.specs.inner.Weathered.{decaying, place_past, place_behind}
+use Rattle.upkeep_rules.specs.inner.Worn.{place_past, place_behind}
 
 abbrev id_of : Object → ℕ
 id_of object = object.id
@@ -40,23 +38,17 @@ at_end : {A : Type 0} (front back : List A) → slice_get (front ++ back) (lengt
 at_end [] back = refl
 at_end (x ∷ front) back = at_end front back
 
-all_front : {A : Type 0} (P : A → Type 0) (xs ys : List A) → AllByRecursion P (xs ++ ys) → AllByRecursion P xs
+pub all_front : {A : Type 0} (P : A → Type 0) (xs ys : List A) → AllByRecursion P (xs ++ ys) → AllByRecursion P xs
 all_front P [] ys all = tt
 all_front P (x ∷ xs) ys all = (all.0, all_front P xs ys all.1)
 
-all_back : {A : Type 0} (P : A → Type 0) (xs ys : List A) → AllByRecursion P (xs ++ ys) → AllByRecursion P ys
+pub all_back : {A : Type 0} (P : A → Type 0) (xs ys : List A) → AllByRecursion P (xs ++ ys) → AllByRecursion P ys
 all_back P [] ys all = all
 all_back P (x ∷ xs) ys all = all_back P xs ys all.1
 
-all_joined : {A : Type 0} (P : A → Type 0) (xs ys : List A) → AllByRecursion P xs → AllByRecursion P ys → AllByRecursion P (xs ++ ys)
+pub all_joined : {A : Type 0} (P : A → Type 0) (xs ys : List A) → AllByRecursion P xs → AllByRecursion P ys → AllByRecursion P (xs ++ ys)
 all_joined P [] ys one other = other
 all_joined P (x ∷ xs) ys one other = (one.0, all_joined P xs ys one.1 other)
-
-filter_joined : {A : Type 0} (test : A → Bool) (xs ys : List A) → filter test (xs ++ ys) ≡ filter test xs ++ filter test ys
-filter_joined test [] ys = refl
-filter_joined {A} test (x ∷ xs) ys =
-    let rest = filter_joined test xs ys in
-    elim (test x) as (λ b. cond b (x ∷ filter test (xs ++ ys)) (filter test (xs ++ ys)) ≡ cond b (x ∷ filter test xs) (filter test xs) ++ filter test ys) [ true ↦ ap (λ (more : List A). x ∷ more) rest | false ↦ rest ]
 
 filter_all : {A : Type 0} (test : A → Bool) (xs : List A) → AllByRecursion (λ x. test x ≡ true) xs → filter test xs ≡ xs
 filter_all test [] all = refl
@@ -76,13 +68,16 @@ long_map f (x ∷ xs) = ap suc (long_map f xs)
 
 -- ---- rising lists
 
-abbrev AreBelow : ℕ → List Object → Type 0
+abbrev pub AreBelow : ℕ → List Object → Type 0
 AreBelow id objects = AllByRecursion (λ object. object.id < id) objects
 
-abbrev AreAbove : ℕ → List Object → Type 0
+abbrev pub AreUpTo : ℕ → List Object → Type 0
+AreUpTo id objects = AllByRecursion (λ object. object.id ≤ id) objects
+
+abbrev pub AreAbove : ℕ → List Object → Type 0
 AreAbove id objects = AllByRecursion (λ object. id < object.id) objects
 
-abbrev AreOthers : ℕ → List Object → Type 0
+abbrev pub AreOthers : ℕ → List Object → Type 0
 AreOthers id objects = AllByRecursion (λ object. object.id ≡ id → ⊥) objects
 
 pub rising_below : (before : List Object) (object : Object) (after : List Object) → IsRising (before ++ object ∷ after) → AreBelow object.id before
@@ -110,7 +105,7 @@ own_found (first ∷ objects) rise = (
       objects (own_found objects rise.1) rise.0,
 )
 
-others : (id : ℕ) (objects : List Object) → HasNoId id objects → AreOthers id objects
+pub others : (id : ℕ) (objects : List Object) → HasNoId id objects → AreOthers id objects
 others id [] absent = tt
 others id (object ∷ objects) absent =
     elim (cases_eq object.id id) [
@@ -175,31 +170,28 @@ both_are_all id (object ∷ objects) rise other =
           (λ i. none_lesser id (object ∷ objects) all i ++ all_greater id (object ∷ objects) all i)
     ]
 
-decaying_joined : (xs ys : List Object) → decaying (xs ++ ys) ≡ decaying xs ++ decaying ys
-decaying_joined xs ys = filter_joined (λ o. decays o.kind) xs ys
+module _ (test : Object → Bool) (pile : Object) (calm : test pile ≡ false) where
+  -- a new one that does not pass a test is none of those that do
+  pub filter_new : (objects : List Object) → IsRising objects → AreOthers pile.id objects → filter test (with_new pile objects) ≡ filter test objects
+  filter_new objects rise other =
+      filter-append test (lesser pile.id objects) (pile ∷ greater pile.id objects)
+      ∙ ap (λ (b : Bool). filter test (lesser pile.id objects) ++ cond b (pile ∷ filter test (greater pile.id objects)) (filter test (greater pile.id objects))) calm
+      ∙ sym (filter-append test (lesser pile.id objects) (greater pile.id objects))
+      ∙ ap (filter test) (both_are_all pile.id objects rise other)
 
-module _ (pile : Object) (calm : decays pile.kind ≡ false) where
-  -- a new one that does not decay is none of those that do
-  decaying_new : (objects : List Object) → IsRising objects → AreOthers pile.id objects → decaying (with_new pile objects) ≡ decaying objects
-  decaying_new objects rise other =
-      decaying_joined (lesser pile.id objects) (pile ∷ greater pile.id objects)
-      ∙ ap (λ (b : Bool). decaying (lesser pile.id objects) ++ cond b (pile ∷ decaying (greater pile.id objects)) (decaying (greater pile.id objects))) calm
-      ∙ sym (decaying_joined (lesser pile.id objects) (greater pile.id objects))
-      ∙ ap decaying (both_are_all pile.id objects rise other)
-
-  long_new : (objects : List Object) → IsRising objects → AreOthers pile.id objects → length (with_new pile objects) ≡ length objects + 1
-  long_new objects rise other =
-      let whole = ap length (both_are_all pile.id objects rise other) in
-      omega (arith, whole, length-append (lesser pile.id objects) (pile ∷ greater pile.id objects), length-append (lesser pile.id objects) (greater pile.id objects))
-
-  decaying_set : (objects : List Object) → AllByRecursion (λ o. o.id ≡ pile.id → decays o.kind ≡ false) objects → decaying (with_object pile objects) ≡ decaying objects
-  decaying_set [] all = refl
-  decaying_set (object ∷ objects) all =
-      let rest = decaying_set objects all.1 in
-      elim (cases_eq object.id pile.id) as (λ c. decaying (with_object pile (object ∷ objects)) ≡ decaying (object ∷ objects)) [
+  pub filter_set : (objects : List Object) → AllByRecursion (λ o. o.id ≡ pile.id → test o ≡ false) objects → filter test (with_object pile objects) ≡ filter test objects
+  filter_set [] all = refl
+  filter_set (object ∷ objects) all =
+      let rest = filter_set objects all.1 in
+      elim (cases_eq object.id pile.id) as (λ c. filter test (with_object pile (object ∷ objects)) ≡ filter test (object ∷ objects)) [
         | inl same ↦ rw (eq-eqb object.id pile.id same, calm, all.0 same) rest
-        | inr other ↦ rw (ne_eqb object.id pile.id other) (elim (decays object.kind) as (λ b. cond b (object ∷ decaying (with_object pile objects)) (decaying (with_object pile objects)) ≡ cond b (object ∷ decaying objects) (decaying objects)) [ true ↦ ap (λ (more : List Object). object ∷ more) rest | false ↦ rest ])
+        | inr other ↦ rw (ne_eqb object.id pile.id other) (elim (test object) as (λ b. cond b (object ∷ filter test (with_object pile objects)) (filter test (with_object pile objects)) ≡ cond b (object ∷ filter test objects) (filter test objects)) [ true ↦ ap (λ (more : List Object). object ∷ more) rest | false ↦ rest ])
       ]
+
+long_new : (pile : Object) (objects : List Object) → IsRising objects → AreOthers pile.id objects → length (with_new pile objects) ≡ length objects + 1
+long_new pile objects rise other =
+    let whole = ap length (both_are_all pile.id objects rise other) in
+    omega (arith, whole, length-append (lesser pile.id objects) (pile ∷ greater pile.id objects), length-append (lesser pile.id objects) (greater pile.id objects))
 
 ids_set : (Q : ℕ → Type 0) (pile : Object) (objects : List Object) → AllByRecursion (λ o. Q o.id) objects → AllByRecursion (λ o. Q o.id) (with_object pile objects)
 ids_set Q pile [] all = tt
@@ -224,47 +216,52 @@ rising_new pile objects rise =
 
 -- ---- before and behind an id
 
--- The objects of lesser ids stand up to a place or the next, and behind them decays what decayed of the rest.
-pub record IsSplit (id place : ℕ) (rest objects : List Object) : Type 0 where
+-- those that have the id of one that does not pass a test do not
+pub set_quiet : (test : Object → Bool) (pile : Object) (objects : List Object) → IsRising objects → (old : Object) → find_object pile.id objects ≡ Some old → test old ≡ false
+    → AllByRecursion (λ o. o.id ≡ pile.id → test o ≡ false) objects
+set_quiet test pile objects rise old found quiet =
+    all_weaker (λ o. find_object o.id objects ≡ Some o) (λ o. o.id ≡ pile.id → test o ≡ false) (λ o own same. let here : Some o ≡ Some old = sym own ∙ ap (λ (n : ℕ). find_object n objects) same ∙ found in let one : o ≡ old = cc in ap test one ∙ quiet) objects (own_found objects rise)
+
+-- The objects of no greater ids stand up to a place or the next, and behind them pass a test those of the rest that do.
+pub record IsSplit (test : Object → Bool) (id place : ℕ) (rest objects : List Object) : Type 0 where
   pub front : List Object
   pub back : List Object
   pub whole : objects ≡ front ++ back
-  pub below : AllByRecursion (λ object. object.id < id) front
+  pub below : AllByRecursion (λ object. object.id ≤ id) front
   pub above : AllByRecursion (λ object. id < object.id) back
-  pub same : decaying back ≡ decaying rest
+  pub same : filter test back ≡ filter test rest
   pub many : (length front ≡ place) ⊎ (length front ≡ place + 1)
   pub fewer : length back ≤ length rest + 1
 
 behind_back : (id place : ℕ) (back : List Object) → AreAbove id back → place_past id place (slice_get back 0) ≡ place
 behind_back id place [] above = refl
-behind_back id place (object ∷ back) above = ap (λ (b : Bool). if b then place + 1 else place) (le-ltb object.id id (omega (arith, above.0)))
+behind_back id place (object ∷ back) above = ap (λ (b : Bool). if b then place + 1 else place) (lt-leb object.id id (omega (arith, above.0)))
 
-last_below : (id place : ℕ) (front back : List Object) → length front ≡ place + 1 → AreBelow id front → place_past id place (slice_get (front ++ back) place) ≡ place + 1
-last_below id place front back long below = let found = read front place long below in ap (place_past id place) found.1 ∙ ap (λ (b : Bool). if b then place + 1 else place) (lt-ltb found.0.id id found.2)
+last_below : (id place : ℕ) (front back : List Object) → length front ≡ place + 1 → AreUpTo id front → place_past id place (slice_get (front ++ back) place) ≡ place + 1
+last_below id place front back long below = let found = read front place long below in ap (place_past id place) found.1 ∙ ap (λ (b : Bool). if b then place + 1 else place) (le-leb found.0.id id found.2)
   where
-    read : (xs : List Object) (i : ℕ) → length xs ≡ i + 1 → AreBelow id xs → (object : Object) × (slice_get (xs ++ back) i ≡ Some object) × (object.id < id)
+    read : (xs : List Object) (i : ℕ) → length xs ≡ i + 1 → AreUpTo id xs → (object : Object) × (slice_get (xs ++ back) i ≡ Some object) × (object.id ≤ id)
     read [] i long below = absurd (omega (arith, long))
     read (x ∷ xs) zero long below = (x, refl, below.0)
     read (x ∷ xs) (suc i) long below = read xs i (omega (arith, long)) below.1
 
-pub split_place : (id place : ℕ) (rest objects : List Object) (split : IsSplit id place rest objects) → place_behind id place objects ≡ length split.front
-split_place id place rest objects split =
-    ap (λ (xs : List Object). place_past id place (slice_get xs place)) split.whole
-    ∙ elim split.many as (λ m. place_past id place (slice_get (split.front ++ split.back) place) ≡ length split.front) [
-      | inl here ↦ ap (λ (n : ℕ). place_past id place (slice_get (split.front ++ split.back) n)) (sym here) ∙ ap (place_past id place) (at_end split.front split.back) ∙ behind_back id place split.back split.above ∙ sym here
-      | inr later ↦ last_below id place split.front split.back later split.below ∙ sym later
-    ]
+pub behind_here : (id : ℕ) (before after : List Object) → AreAbove id after → place_behind id (length before) (before ++ after) ≡ length before
+behind_here id before after above = ap (place_past id (length before)) (at_end before after) ∙ behind_back id (length before) after above
 
-pub split_ahead : (id place : ℕ) (rest objects : List Object) (split : IsSplit id place rest objects) → drop (place_behind id place objects) objects ≡ split.back
-split_ahead id place rest objects split =
-    ap (λ (n : ℕ). drop n objects) (split_place id place rest objects split) ∙ ap (drop (length split.front)) split.whole ∙ drop_front split.front split.back
+module _ (test : Object → Bool) (id place : ℕ) (rest objects : List Object) (split : IsSplit test id place rest objects) where
+  split_place : place_behind id place objects ≡ length split.front
+  split_place =
+      ap (λ (xs : List Object). place_past id place (slice_get xs place)) split.whole
+      ∙ elim split.many as (λ m. place_past id place (slice_get (split.front ++ split.back) place) ≡ length split.front) [
+        | inl here ↦ ap (λ (n : ℕ). place_past id place (slice_get (split.front ++ split.back) n)) (sym here) ∙ ap (place_past id place) (at_end split.front split.back) ∙ behind_back id place split.back split.above ∙ sym here
+        | inr later ↦ last_below id place split.front split.back later split.below ∙ sym later
+      ]
 
-module _ (id place : ℕ) (before after : List Object) (long : length before ≡ place) (below : AllByRecursion (λ o. o.id < id) before) (above : AllByRecursion (λ o. id < o.id) after) where
-  -- once an object is gone
-  pub split_gone : IsSplit id place after (before ++ after)
-  split_gone = record { front = before; back = after; whole = refl; below = below; above = above; same = refl; many = inl long; fewer = omega arith }
+  pub split_ahead : drop (place_behind id place objects) objects ≡ split.back
+  split_ahead = ap (λ (n : ℕ). drop n objects) split_place ∙ ap (drop (length split.front)) split.whole ∙ drop_front split.front split.back
 
-  module _ (rise : IsRising (before ++ after)) (pile : Object) (calm : decays pile.kind ≡ false) where
+module _ (test : Object → Bool) (id place : ℕ) (before after : List Object) (long : length before ≡ place) (below : AllByRecursion (λ o. o.id ≤ id) before) (above : AllByRecursion (λ o. id < o.id) after) where
+  module _ (rise : IsRising (before ++ after)) (pile : Object) (calm : test pile ≡ false) where
     module _ (absent : HasNoId pile.id (before ++ after)) where
       abbrev p : ℕ
       p = pile.id
@@ -273,11 +270,12 @@ module _ (id place : ℕ) (before after : List Object) (long : length before ≡
       other = others p (before ++ after) absent
 
       whole_new : with_new pile (before ++ after) ≡ (lesser p before ++ lesser p after) ++ pile ∷ (greater p before ++ greater p after)
-      whole_new = λ i. filter_joined (λ o. nat_lt o.id p) before after i ++ pile ∷ filter_joined (λ o. nat_lt p o.id) before after i
+      whole_new = λ i. filter-append (λ o. nat_lt o.id p) before after i ++ pile ∷ filter-append (λ o. nat_lt p o.id) before after i
 
-      split_low : p < id → IsSplit id place after (with_new pile (before ++ after))
+      split_low : p < id → IsSplit test id place after (with_new pile (before ++ after))
       split_low low =
           let past : AreAbove p after = all_weaker (λ o. id < o.id) (λ o. p < o.id) (λ o lt. omega (arith, low)) after above in
+          let least : p ≤ id = omega (arith, low) in
           record {
             front = with_new pile before;
             back = after;
@@ -286,19 +284,19 @@ module _ (id place : ℕ) (before after : List Object) (long : length before ≡
                 ∙ (λ i. (lesser p before ++ none_lesser p after past i) ++ pile ∷ (greater p before ++ all_greater p after past i))
                 ∙ ap (λ (front : List Object). front ++ pile ∷ (greater p before ++ after)) (append-nil (lesser p before))
                 ∙ sym (append_assoc (lesser p before) (pile ∷ greater p before) after);
-            below = all_joined (λ o. o.id < id) (lesser p before) (pile ∷ greater p before) (all_filter (λ o. o.id < id) (λ o. nat_lt o.id p) before below) (low, all_filter (λ o. o.id < id) (λ o. nat_lt p o.id) before below);
+            below = all_joined (λ o. o.id ≤ id) (lesser p before) (pile ∷ greater p before) (all_filter (λ o. o.id ≤ id) (λ o. nat_lt o.id p) before below) (least, all_filter (λ o. o.id ≤ id) (λ o. nat_lt p o.id) before below);
             above = above;
             same = refl;
-            many = inr (long_new pile calm before (rising_front before after rise) (all_front (λ o. o.id ≡ p → ⊥) before after other) ∙ ap (λ (n : ℕ). n + 1) long);
+            many = inr (long_new pile before (rising_front before after rise) (all_front (λ o. o.id ≡ p → ⊥) before after other) ∙ ap (λ (n : ℕ). n + 1) long);
             fewer = omega arith;
           }
 
-      split_high : id < p → IsSplit id place after (with_new pile (before ++ after))
+      split_high : id < p → IsSplit test id place after (with_new pile (before ++ after))
       split_high high =
-          let past : AreBelow p before = all_weaker (λ o. o.id < id) (λ o. o.id < p) (λ o lt. omega (arith, high)) before below in
+          let past : AreBelow p before = all_weaker (λ o. o.id ≤ id) (λ o. o.id < p) (λ o lt. omega (arith, high)) before below in
           let rest = rising_back before after rise in
           let apart = all_back (λ o. o.id ≡ p → ⊥) before after other in
-          let more = long_new pile calm after rest apart in
+          let more = long_new pile after rest apart in
           record {
             front = before;
             back = with_new pile after;
@@ -308,49 +306,27 @@ module _ (id place : ℕ) (before after : List Object) (long : length before ≡
                 ∙ append_assoc before (lesser p after) (pile ∷ greater p after);
             below = below;
             above = all_joined (λ o. id < o.id) (lesser p after) (pile ∷ greater p after) (all_filter (λ o. id < o.id) (λ o. nat_lt o.id p) after above) (high, all_filter (λ o. id < o.id) (λ o. nat_lt p o.id) after above);
-            same = decaying_new pile calm after rest apart;
+            same = filter_new test pile calm after rest apart;
             many = inl long;
             fewer = omega (arith, more);
           }
 
       -- once a pile is made
-      pub split_new : (p ≡ id → ⊥) → IsSplit id place after (with_new pile (before ++ after))
+      pub split_new : (p ≡ id → ⊥) → IsSplit test id place after (with_new pile (before ++ after))
       split_new apart = elim (around p id apart) [ inl low ↦ split_low low | inr high ↦ split_high high ]
 
     -- once a pile has grown
-    pub split_set : (old : Object) → find_object pile.id (before ++ after) ≡ Some old → decays old.kind ≡ false → IsSplit id place after (with_object pile (before ++ after))
+    pub split_set : (old : Object) → find_object pile.id (before ++ after) ≡ Some old → test old ≡ false → IsSplit test id place after (with_object pile (before ++ after))
     split_set old found quiet =
-        let all = all_weaker (λ o. find_object o.id (before ++ after) ≡ Some o) (λ o. o.id ≡ pile.id → decays o.kind ≡ false) (λ o own same. let here : Some o ≡ Some old = sym own ∙ ap (λ (n : ℕ). find_object n (before ++ after)) same ∙ found in let one : o ≡ old = cc in ap (λ (x : Object). decays x.kind) one ∙ quiet) (before ++ after) (own_found (before ++ after) rise) in
+        let all = set_quiet test pile (before ++ after) rise old found quiet in
         let long_back = long_map (λ (o : Object). if o.id == pile.id then pile else o) after in
         record {
           front = with_object pile before;
           back = with_object pile after;
           whole = map_joined (λ (o : Object). if o.id == pile.id then pile else o) before after;
-          below = ids_set (λ n. n < id) pile before below;
+          below = ids_set (λ n. n ≤ id) pile before below;
           above = ids_set (λ n. id < n) pile after above;
-          same = decaying_set pile calm after (all_back (λ o. o.id ≡ pile.id → decays o.kind ≡ false) before after all);
+          same = filter_set test pile calm after (all_back (λ o. o.id ≡ pile.id → test o ≡ false) before after all);
           many = inl (long_map (λ (o : Object). if o.id == pile.id then pile else o) before ∙ long);
           fewer = omega (arith, long_back);
         }
-
--- ---- what may fall
-
-abbrev holds : Object → Bool
-holds object = nat_lt 0 object.energy
-
-pub may_fall_of : (objects : List Object) → may_fall objects ≡ count_by (λ object. nat_lt 0 object.energy) (decaying objects)
-may_fall_of [] = refl
-may_fall_of (object ∷ objects) =
-    let rest = may_fall_of objects in
-    let more = sum_by-cons (λ (o : Object). cond {A = ℕ} (decays o.kind && holds o) 1 0) object objects in
-    more ∙ elim (decays object.kind) as (λ b. cond {A = ℕ} (b && holds object) 1 0 + may_fall objects ≡ count_by (λ o. nat_lt 0 o.energy) (cond b (object ∷ decaying objects) (decaying objects))) [
-      | true ↦ ap (λ (n : ℕ). cond {A = ℕ} (holds object) 1 0 + n) rest ∙ sym (sum_by-cons (λ (o : Object). cond {A = ℕ} (holds o) 1 0) object (decaying objects))
-      | false ↦ let plain : 0 + may_fall objects ≡ may_fall objects = omega arith in plain ∙ rest
-    ]
-
--- as many may fall where the same decay
-pub may_fall_same : (xs ys : List Object) → decaying xs ≡ decaying ys → may_fall xs ≡ may_fall ys
-may_fall_same xs ys same = may_fall_of xs ∙ ap (count_by (λ (object : Object). nat_lt 0 object.energy)) same ∙ sym (may_fall_of ys)
-
-pub may_fall_more : (object : Object) (objects : List Object) → may_fall (object ∷ objects) ≡ cond {A = ℕ} (decays object.kind && nat_lt 0 object.energy) 1 0 + may_fall objects
-may_fall_more object objects = sum_by-cons (λ (o : Object). cond {A = ℕ} (decays o.kind && holds o) 1 0) object objects

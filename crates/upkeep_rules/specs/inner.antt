@@ -1,2 +1,3 @@
 pub mod Passed
-pub mod Weathered
+pub mod Worn
+pub mod Filled

@@ -29,7 +29,7 @@ pub(crate) enum Step {
 /// The objects of a room after a step.
 pub(crate) fn pass(room: &mut RoomTable, step: Step)
     requires tiles { AllByRecursion IsOnTile room.old.objects }
-    ensures table { room.new ≡ passed step room.old }
+    ensures table { room.new ≡ passed step room.new.tallies room.old }
     ensures rule { (grounds : List Ground)
         → table_part grounds room.new ≡ each (left_by step) (table_part grounds room.old) }
     ensures tiles { AllByRecursion IsOnTile room.new.objects }
@@ -53,7 +53,10 @@ fn is_left(room: &mut RoomTable, place: u32, step: Step) -> bool
         → result ≡ is_some (left_by step object) }
     ensures table { (before after : List Object) (object : Object)
         → room.old.objects ≡ before ++ object ∷ after → length before ≡ place
-        → room.new ≡ record room.old { objects = before ++ cons_option (left_by step object) after } }
+        → room.new ≡ record room.old {
+          objects = before ++ cons_option (left_by step object) after;
+          tallies = room.new.tallies;
+        } }
 {
     let _rising = room.objects();
     let Some(object) = room.nth(place) else {

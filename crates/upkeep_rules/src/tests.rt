@@ -3,7 +3,7 @@ ghost use Rattle.std.specs.Prelude.{◌<◌, ◌≤◌, IsTrue};
 ghost use Rattle.std.specs.List.{AllByRecursion};
 ghost use Rattle.object_store.specs.Tables.{IsOnTile};
 ghost use Rattle.room_rules.specs.Calls.{IsReadyFor};
-ghost use Rattle.upkeep_rules.specs.Falling.{may_fall};
+ghost use Rattle.upkeep_rules.specs.Falling.{may_fall, may_leave};
 
 use crate::upkeep::{upkeep_first, upkeep_last};
 use game_tables::{Body, Kind, Part};
@@ -86,14 +86,18 @@ fn are_outside(objects: Objects<'_>, from: u64, to: u64) -> bool
 // How many ids belong to a room.
 const SERIALS: u64 = 1 << 32;
 
-// Whether the last steps may be done.
+// Whether the steps may be done.
 fn is_ready(room: &RoomTable) -> bool
-    ensures { IsTrue result → IsReadyFor (may_fall room.now.objects) room.now }
+    ensures first { IsTrue result → IsReadyFor (may_leave room.now.objects) room.now }
+    ensures last { IsTrue result → IsReadyFor (may_fall room.now.objects) room.now }
 {
     let index = room.index();
     let next = room.next();
     let many = room.len();
-    if index > 1_000 || next > 1_000 || many > 1_000 || many > room.spare() {
+    if index > 1_000 || next > 1_000 || many > 1_000 {
+        return false;
+    }
+    if 2 * many > room.spare() {
         return false;
     }
     if !are_on_tiles(room.objects()) {
@@ -123,11 +127,43 @@ fn upkept(alloc: Global, next: u32, objects: &[Object]) -> Result<RoomTable, Fai
     if many > 100 {
         return Err("too many objects".into());
     }
-    room.reserve(u64::from(many))?;
+    room.reserve(2 * u64::from(many))?;
     if !is_ready(&room) {
         return Err("not ready".into());
     }
     upkeep_last(&mut room);
+    Ok(room)
+}
+
+// Adds damage and healing to an object.
+fn harm(room: &mut RoomTable, id: u64, damage: u32, healing: u32) -> Result<(), Fail> {
+    let Some(_object) = room.get(id) else {
+        return Err("no such object".into());
+    };
+    room.add_damage(id, damage);
+    room.add_healing(id, healing);
+    Ok(())
+}
+
+// The room after the first steps, where this was done to the object 1.
+fn settled(
+    alloc: Global,
+    next: u32,
+    objects: &[Object],
+    damage: u32,
+    healing: u32,
+) -> Result<RoomTable, Fail> {
+    let mut room = room(alloc, next, objects)?;
+    let many = room.len();
+    if many > 100 {
+        return Err("too many objects".into());
+    }
+    room.reserve(2 * u64::from(many))?;
+    harm(&mut room, 1, damage, healing)?;
+    if !is_ready(&room) {
+        return Err("not ready".into());
+    }
+    upkeep_first(&mut room);
     Ok(room)
 }
 
@@ -138,19 +174,11 @@ fn fatigue_left(
     hits: u32,
     fatigue: u32,
 ) -> Result<Option<u32>, Fail> {
-    let mut body = Body::new();
-    body.push(parts[0]);
-    body.push(parts[1]);
     let creep = Object {
         extra: fatigue,
-        body,
-        ..object(1, Kind::Creep, hits, 0, 1_500)
+        ..creep(parts, hits, 0, 1_500)
     };
-    let mut room = room(alloc, 2, &[creep])?;
-    if !are_on_tiles(room.objects()) {
-        return Err("not on tiles".into());
-    }
-    upkeep_first(&mut room);
+    let room = settled(alloc, 2, &[creep], 0, 0)?;
     Ok(room.get(1).map(|creep| creep.extra))
 }
 
@@ -290,5 +318,184 @@ fn containers_roads_and_piles_decay(rt: HostRuntime) -> Result<(), Fail> {
         assert_eq!(rt; after, left, "at {id}");
     }
     assert_eq!(rt; (room.len(), room.next()), (4, 10));
+    Ok(())
+}
+
+// A creep of two parts.
+fn creep(parts: [Part; 2], hits: u32, energy: u64, timer: u32) -> Object {
+    let mut body = Body::new();
+    body.push(parts[0]);
+    body.push(parts[1]);
+    Object {
+        body,
+        ..object(1, Kind::Creep, hits, energy, timer)
+    }
+}
+
+// What is left of an object after the first steps: its hits, energy and timer, the energy of the pile that
+// lies there, and the next serial.
+fn struck_left(
+    alloc: Global,
+    object: Object,
+    damage: u32,
+    healing: u32,
+) -> Result<(Option<(u32, u64, u32)>, Option<u64>, u32), Fail> {
+    let room = settled(alloc, 3, &[object], damage, healing)?;
+    Ok((
+        room.get(1).map(|left| (left.hits, left.energy, left.timer)),
+        room.get(id_in(4, 3)).map(|pile| pile.energy),
+        room.next(),
+    ))
+}
+
+#[test]
+fn objects_are_struck_unload_and_age(rt: HostRuntime) -> Result<(), Fail> {
+    let mover = [Part::Move, Part::Carry];
+    let carrier = [Part::Carry, Part::Move];
+    for (struck, damage, healing, left) in [
+        (
+            creep(mover, 200, 0, 1_500),
+            199,
+            0,
+            (Some((1, 0, 1_499)), None, 3),
+        ),
+        (creep(mover, 200, 0, 1_500), 200, 0, (None, None, 3)),
+        (creep(mover, 200, 50, 1_500), 201, 0, (None, Some(50), 4)),
+        (
+            creep(mover, 200, 0, 1_500),
+            100,
+            100,
+            (Some((200, 0, 1_499)), None, 3),
+        ),
+        (creep(mover, 200, 0, 1_500), 300, 100, (None, None, 3)),
+        (
+            creep(mover, 200, 0, 1_500),
+            250,
+            51,
+            (Some((1, 0, 1_499)), None, 3),
+        ),
+        (
+            creep(mover, 150, 0, 1_500),
+            10,
+            100,
+            (Some((200, 0, 1_499)), None, 3),
+        ),
+        (
+            creep(mover, 200, 0, 1_500),
+            u32::MAX,
+            u32::MAX,
+            (Some((200, 0, 1_499)), None, 3),
+        ),
+        (creep(mover, 0, 20, 1_500), 0, 100, (None, Some(20), 4)),
+        (
+            creep(mover, 100, 50, 1_500),
+            0,
+            0,
+            (Some((100, 50, 1_499)), None, 3),
+        ),
+        (
+            creep(carrier, 200, 50, 1_500),
+            100,
+            0,
+            (Some((100, 0, 1_499)), Some(50), 4),
+        ),
+        (
+            creep(carrier, 200, 60, 1_500),
+            99,
+            0,
+            (Some((101, 50, 1_499)), Some(10), 4),
+        ),
+        (
+            creep(carrier, 200, 30, 2),
+            0,
+            0,
+            (Some((200, 30, 1)), None, 3),
+        ),
+        (creep(carrier, 200, 30, 1), 0, 0, (None, Some(30), 4)),
+        (creep(carrier, 200, 30, 1), 200, 0, (None, Some(30), 4)),
+        (creep(carrier, 200, 60, 1), 0, 0, (None, Some(60), 4)),
+        (creep(carrier, 200, 0, 0), 0, 0, (None, None, 3)),
+        (
+            object(1, Kind::Container, 10, 7, 1),
+            9,
+            0,
+            (Some((1, 7, 1)), None, 3),
+        ),
+        (
+            object(1, Kind::Container, 10, 7, 1),
+            10,
+            50,
+            (None, Some(7), 4),
+        ),
+        (
+            object(1, Kind::Storage, 10, 2_000_000_000, 0),
+            11,
+            0,
+            (None, Some(1_000_000_000), 4),
+        ),
+        (object(1, Kind::Road, 10, 0, 1), 10, 0, (None, None, 3)),
+        (
+            object(1, Kind::Pile, 0, 10, 0),
+            10,
+            0,
+            (Some((0, 10, 0)), None, 3),
+        ),
+    ] {
+        let after = struck_left(rt.alloc(), struck, damage, healing)?;
+        assert_eq!(rt; after, left, "at {damage}, {healing}");
+    }
+    Ok(())
+}
+
+// The energies of the objects 1 to 4 after the first steps, 0 for one that is gone.
+fn energies_left(alloc: Global, objects: [Object; 4]) -> Result<[u64; 4], Fail> {
+    let room = settled(alloc, 9, &objects, 0, 0)?;
+    let mut energies = [0; 4];
+    for place in 0..4 {
+        energies[place] = room.get(place as u64 + 1).map_or(0, |object| object.energy);
+    }
+    Ok(energies)
+}
+
+// What holds energy for the creeps of an owner.
+fn holder(id: u64, kind: Kind, owner: u32, energy: u64) -> Object {
+    Object {
+        owner,
+        ..object(id, kind, 1_000, energy, 0)
+    }
+}
+
+#[test]
+fn spawns_gain_and_loads_fall_on_piles(rt: HostRuntime) -> Result<(), Fail> {
+    for (energies, left) in [
+        ([100, 100, 99, 299], [101, 100, 99, 300]),
+        ([100, 100, 100, 0], [100, 100, 100, 1]),
+        ([100, 100, 98, 300], [101, 101, 98, 300]),
+        ([300, 0, 0, 301], [300, 0, 0, 301]),
+        ([0, 299, 0, 1], [1, 299, 0, 2]),
+    ] {
+        let objects = [
+            holder(1, Kind::Spawn, 7, energies[0]),
+            holder(2, Kind::Spawn, 7, energies[1]),
+            holder(3, Kind::Extension, 7, energies[2]),
+            holder(4, Kind::Spawn, 8, energies[3]),
+        ];
+        assert_eq!(rt; energies_left(rt.alloc(), objects)?, left);
+    }
+    // Two die on the tile of a pile that is almost full, one of them before a spawn of another tile.
+    let dying = creep([Part::Carry, Part::Move], 200, 50, 1);
+    let objects = [
+        dying,
+        object(2, Kind::Pile, 0, 999_999_970, 0),
+        Object { id: 3, ..dying },
+        Object {
+            x: 20,
+            ..holder(4, Kind::Spawn, 7, 5)
+        },
+    ];
+    assert_eq!(rt;
+        energies_left(rt.alloc(), objects)?,
+        [0, 1_000_000_000, 0, 6]
+    );
     Ok(())
 }

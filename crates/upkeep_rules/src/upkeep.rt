@@ -1,31 +1,39 @@
 // The steps of upkeep in their order.
 ghost use Rattle.std.specs.Prelude.{◌≡◌, List};
-ghost use Rattle.std.specs.List.{AllByRecursion};
 ghost use Rattle.room_terrain.specs.declared.terrain.Ground.{Ground};
-ghost use Rattle.object_store.specs.Tables.{IsOnTile};
+ghost use Rattle.object_store.specs.Tallies.{no_tallies};
 ghost use Rattle.world_rules.specs.RoomParts.{table_part};
 ghost use Rattle.world_rules.specs.RuleBook.{Sums};
 ghost use Rattle.world_rules.specs.RoomTick.{room_after_steps};
-ghost use Rattle.world_rules.specs.Upkeep.{first_steps, last_steps};
-ghost use Rattle.room_rules.specs.Calls.{IsReadyFor, KeepsUpTo};
-ghost use Rattle.upkeep_rules.specs.Falling.{may_fall};
+ghost use Rattle.world_rules.specs.Upkeep.{buildings_decayed, first_steps, last_steps};
+ghost use Rattle.room_rules.specs.Calls.{AreSumsOf, IsReadyFor, KeepsUpTo};
+ghost use Rattle.upkeep_rules.specs.Falling.{may_fall, may_leave};
 
-use crate::buildings::decay_buildings;
+use crate::filling::fill_spawns;
 use crate::pass::{Step, pass};
+use crate::wearing::{Wear, wear_all};
 use game_tables::source_capacity;
-use object_store::{RoomTable, is_taken};
+use object_store::{RoomTable, is_owned_room, is_taken};
 
-/// The steps up to the gain of spawns: creeps recover. It takes no memory.
+/// The steps up to the gain of spawns: creeps and buildings have the hits that the tick leaves them, or are
+/// gone; what creeps carry above what their live parts hold falls; creeps age; they recover; and spawns gain
+/// energy. What was done to objects is forgotten then. It takes no memory but the spare of the room, of which
+/// each creep or building may need two.
 pub fn upkeep_first(room: &mut RoomTable)
-    requires tiles { AllByRecursion IsOnTile room.old.objects }
-    ensures rule { (grounds : List Ground) (sums : Sums)
+    requires ready { IsReadyFor (may_leave room.old.objects) room.old }
+    ensures rule { (grounds : List Ground) (sums : Sums) → AreSumsOf sums room.old
         → table_part grounds room.new ≡ room_after_steps sums first_steps (table_part grounds room.old) }
-    ensures index { room.new.index ≡ room.old.index }
-    ensures next { room.new.next ≡ room.old.next }
-    ensures spare { room.new.spare ≡ room.old.spare }
-    ensures tiles { AllByRecursion IsOnTile room.new.objects }
+    ensures settled { room.new.tallies ≡ no_tallies }
+    ensures keeps { KeepsUpTo (may_leave room.old.objects) room.old room.new }
 {
+    // The objects rise by their ids.
+    let _rising = room.objects();
+    wear_all(room, Wear::Strike);
+    wear_all(room, Wear::Unload);
+    wear_all(room, Wear::Age);
     pass(room, Step::Recover);
+    fill_spawns(room);
+    room.clear_sums();
 }
 
 /// The steps from the renewal of sources on: sources are renewed, containers and roads decay, and piles do,
@@ -43,4 +51,17 @@ pub fn upkeep_last(room: &mut RoomTable)
     pass(room, Step::Renew(capacity));
     decay_buildings(room);
     pass(room, Step::Decay);
+}
+
+// Containers and roads decay, one after the other; containers slower in a room that somebody owns.
+fn decay_buildings(room: &mut RoomTable)
+    requires ready { IsReadyFor (may_fall room.old.objects) room.old }
+    ensures rule { (grounds : List Ground)
+        → table_part grounds room.new ≡ buildings_decayed (table_part grounds room.old) }
+    ensures keeps { KeepsUpTo (may_fall room.old.objects) room.old room.new }
+{
+    // The objects rise by their ids, so that the controller is that of the room's part.
+    let _rising = room.objects();
+    let in_owned = is_owned_room(room.controller());
+    wear_all(room, Wear::Weather(in_owned));
 }

@@ -3,9 +3,9 @@ use Rattle.std.proofs.Common.{◌≡◌, ℕ, suc, ◌<◌, ◌≤◌, ◌^◌, 
 use Rattle.std.specs.List.{AllByRecursion}
 use Rattle.byte_fields.specs.Front.{Begins, BeginsNone}
 use Rattle.byteorder.specs.Endian.{little_bytes}
-use Rattle.object_store.specs.Tables.{Table}
+use Rattle.object_store.specs.Tables.{Table, without_spare}
+use Rattle.object_store.specs.Tallies.{no_tallies}
 use Rattle.object_store.specs.declared.account.Account.{Account}
-use Rattle.object_store.specs.declared.object.Object.{Object}
 use Rattle.world_bytes.specs.Forms.{HasAccountForm, HasRoomForm, SpellsAccount, SpellsRoom, account_bytes, room_bytes}
 use Rattle.world_bytes.specs.inner.Rows.{Leads, AreObjects, objects_row, HasMemoryForm, memory_row}
 use Rattle.world_bytes.proofs.Words.{text_one, behind_word, word_short}
@@ -19,7 +19,7 @@ room_row table rest = little_bytes 4 table.index ++ (little_bytes 4 table.next +
 -- The bytes are those of a room, in front of the rest.
 pub record LeadsRoom (bytes : List ℕ) (table : Table) (rest : List ℕ) : Type 0 where
   pub form : HasRoomForm table
-  pub full : table.spare ≡ 0
+  pub full : table ≡ without_spare table
   pub whole : bytes ≡ room_row table rest
 
 room_parts : (table : Table) (rest : List ℕ) → room_bytes table ++ rest ≡ room_row table rest
@@ -30,7 +30,7 @@ pub leads_room : (bytes : List ℕ) (table : Table) (rest : List ℕ) → Begins
 leads_room bytes table rest (text, (form, full, spelled), e) =
     record { form = form; full = full; whole = e ∙ ap (λ (z : List ℕ). z ++ rest) spelled ∙ room_parts table rest }
 
-pub room_begins : (table : Table) (bytes a b rest : List ℕ) → HasRoomForm table → table.spare ≡ 0 → bytes ≡ little_bytes 4 table.index ++ a → a ≡ little_bytes 4 table.next ++ b → b ≡ little_bytes 4 (length table.objects) ++ objects_row table.objects rest → Begins SpellsRoom bytes table rest
+pub room_begins : (table : Table) (bytes a b rest : List ℕ) → HasRoomForm table → table ≡ without_spare table → bytes ≡ little_bytes 4 table.index ++ a → a ≡ little_bytes 4 table.next ++ b → b ≡ little_bytes 4 (length table.objects) ++ objects_row table.objects rest → Begins SpellsRoom bytes table rest
 unfolding room_row
 room_begins table bytes a b rest form full e f g =
     let whole : bytes ≡ room_row table rest = e ∙ ap (λ (z : List ℕ). little_bytes 4 table.index ++ z) (f ∙ ap (λ (z : List ℕ). little_bytes 4 table.next ++ z) g) in
@@ -72,14 +72,10 @@ behind_next table index next bytes a b rest p q e f leads =
 pub room_objects : (table : Table) (count : ℕ) → HasRoomForm table → count ≡ length table.objects → AreObjects count table.objects
 room_objects table count form e = record { rising = form.rising; forms = form.objects; counted = sym e }
 
-table_from : ℕ → ℕ → List Object → ℕ → Table
-table_from index next objects spare = record { index = index; next = next; objects = objects; spare = spare }
-
-table_same : (a b : Table) → a.index ≡ b.index → a.next ≡ b.next → a.objects ≡ b.objects → a.spare ≡ b.spare → a ≡ b
-unfolding table_from
-table_same a b e f g h =
-    let same : table_from a.index a.next a.objects a.spare ≡ table_from b.index b.next b.objects b.spare = cc in
-    same
+-- tables as they are read, which list the same
+table_same : (a b : Table) → a.index ≡ b.index → a.next ≡ b.next → a.objects ≡ b.objects → a ≡ without_spare a → b ≡ without_spare b → a ≡ b
+table_same a b e f g full other =
+    full ∙ (λ i. record { index = e i; next = f i; objects = g i; spare = 0; tallies = no_tallies }) ∙ sym other
 
 pub room_one : (bytes : List ℕ) (one other : Table) (rest more : List ℕ) → Begins SpellsRoom bytes one rest → Begins SpellsRoom bytes other more → (one ≡ other) × (rest ≡ more)
 unfolding room_row
@@ -90,7 +86,7 @@ room_one bytes one other rest more first second =
     let form' = b.form in
     let same = behind_count other one.index one.next (length one.objects) bytes _ _ (objects_row one.objects rest) more form.index form.next form.count a.whole refl refl b in
     let lists = objects_one one.objects other.objects (objects_row one.objects rest) rest more same.count_same form.objects form'.objects refl same.behind in
-    (table_same one other same.index_same same.next_same lists.0 (a.full ∙ sym b.full), lists.1)
+    (table_same one other same.index_same same.next_same lists.0 a.full b.full, lists.1)
 
 -- ---- a memory text
 
@@ -206,7 +202,7 @@ account_one bytes one other rest more first second =
     (account_same one other same.player_same same.limit_same same.bucket_same same.points_same texts.0, texts.1)
 
 -- what is written of a room is read as the room
-pub room_written : (table : Table) (rest : List ℕ) → HasRoomForm table → Begins SpellsRoom (room_bytes table ++ rest) (record table { spare = 0 }) rest
+pub room_written : (table : Table) (rest : List ℕ) → HasRoomForm table → Begins SpellsRoom (room_bytes table ++ rest) (without_spare table) rest
 unfolding room_bytes
 room_written table rest form =
     (room_bytes table, (record { some = form.some; rising = form.rising; objects = form.objects; index = form.index; next = form.next; count = form.count }, refl, refl), refl)

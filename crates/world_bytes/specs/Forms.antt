@@ -11,7 +11,7 @@ use Rattle.game_tables.specs.Numbers.{kind_number, part_number}
 use Rattle.intent_book.specs.declared.intent.Intent.{Intent}
 use Rattle.object_store.specs.declared.account.Account.{Account}
 use Rattle.object_store.specs.declared.object.Object.{Object}
-use Rattle.object_store.specs.Tables.{Table, IsOnTile, IsRising}
+use Rattle.object_store.specs.Tables.{IsOnTile, IsRising, Table, without_spare}
 
 -- ---- the bytes
 
@@ -105,7 +105,8 @@ pub record HasIntentForm (intent : Intent) : Type 0 where
 
 -- The bytes are the form of this table, as it is read: without room for more objects.
 abbrev pub SpellsRoom : List ℕ → Table → Type 0
-SpellsRoom bytes table = HasRoomForm table × (table.spare ≡ 0) × (bytes ≡ room_bytes table)
+SpellsRoom bytes table =
+    HasRoomForm table × (table ≡ without_spare table) × (bytes ≡ room_bytes table)
 
 -- The bytes are the form of this account.
 abbrev pub SpellsAccount : List ℕ → Account → Type 0

@@ -2,7 +2,7 @@
 ghost use Rattle.std.specs.Prelude.{◌≡◌, ℕ, List, ◌++◌};
 ghost use Rattle.byte_fields.specs.Front.{Begins};
 ghost use Rattle.intent_book.specs.declared.intent.Intent.{Intent};
-ghost use Rattle.object_store.specs.Tables.{Table};
+ghost use Rattle.object_store.specs.Tables.{Table, without_spare};
 ghost use Rattle.object_store.specs.declared.account.Account.{Account};
 ghost use Rattle.world_bytes.specs.Forms.{HasAccountForm, HasIntentForm, HasRoomForm, SpellsAccount, SpellsIntent, SpellsRoom, account_bytes, intent_bytes, room_bytes};
 
@@ -17,7 +17,7 @@ pub fn forms_are_one()
         → Begins SpellsAccount bytes one rest → Begins SpellsAccount bytes other more
         → (one ≡ other) × (rest ≡ more) }
     ensures written_rooms { (table : Table) (rest : List ℕ) → HasRoomForm table
-        → Begins SpellsRoom (room_bytes table ++ rest) (record table { spare = 0 }) rest }
+        → Begins SpellsRoom (room_bytes table ++ rest) (without_spare table) rest }
     ensures written_accounts { (account : Account) (rest : List ℕ) → HasAccountForm account
         → Begins SpellsAccount (account_bytes account ++ rest) account rest }
     ensures intents { (player : ℕ) (bytes : List ℕ) (one other : Intent) (rest more : List ℕ)

@@ -1,11 +1,13 @@
 -- The rules in force stay in their rooms.
-use Rattle.std.proofs.Common.{ℕ, ◌+◌, ◌-◌, ◌*◌, ◌==◌, min, nat_lt, Bool, List, Option, Some, None}
+use Rattle.std.proofs.Common.{ℕ, ◌+◌, ◌-◌, ◌*◌, ◌==◌, ◌&&◌, ◌||◌, min, nat_lt, Bool, List, Option, Some, None}
 use Rattle.std.specs.List.{filter, find}
 use Rattle.std.specs.FinMap.{get, values}
-use Rattle.game_tables.specs.Kinds.{source_capacity}
+use Rattle.game_tables.specs.Bodies.{load_room}
+use Rattle.game_tables.specs.Kinds.{is_building, is_creep, source_capacity}
 use Rattle.game_tables.specs.declared.kind.Kind.{Kind}
+use Rattle.game_tables.specs.declared.kind.Kind.TheVariants.{Creep, Spawn}
 use Rattle.game_tables.specs.declared.action.Action.{Action}
-use Rattle.game_tables.specs.declared.action.Action.TheVariants.{DropLoad, Transfer, Withdraw, Pickup, Harvest, Repair, Build}
+use Rattle.game_tables.specs.declared.action.Action.TheVariants.{DropLoad, Transfer, Withdraw, Pickup, Dismantle, Harvest, Repair, Build, Suicide}
 use Rattle.object_store.specs.Controllers.{is_taken, is_owned_room}
 use Rattle.object_store.specs.Stores.{building_of, free_room}
 use Rattle.object_store.specs.declared.object.Object.{Object}
@@ -13,14 +15,15 @@ use Rattle.intent_book.specs.declared.intent.Intent.{Intent}
 use Rattle.world_rules.specs.RoomParts.{RoomPart, controller_of}
 use Rattle.world_rules.specs.Changes.{with_object, without, with_new}
 use Rattle.world_rules.specs.RuleBook.{Sums, Follows, StaysInRoom, IsOrderly}
-use Rattle.world_rules.specs.Checks.{may_take_effect, parties, between, by_parties}
+use Rattle.world_rules.specs.Checks.{acting, may_take_effect, parties, between, by_parties}
 use Rattle.world_rules.specs.Drops.{pile_bound, pile_on, pile_of, fallen_on, fallen, wanted_of, dropped_by, dropped_of}
 use Rattle.world_rules.specs.Loads.{with_more, with_less, handed_over, transferred_by, withdrawn_by, taken_from, picked_up_by}
 use Rattle.world_rules.specs.Work.{live_work, harvested_by, hits_gained, repair_cost, repaired_by, total_of, work_put, building_on, advanced, built_as, built_by}
-use Rattle.world_rules.specs.Steps.{over_objects}
+use Rattle.world_rules.specs.Fights.{dismantled_by, salvage, without_hits}
+use Rattle.world_rules.specs.Steps.{by_object, over_objects}
 use Rattle.world_rules.specs.Movement.{Mover, movers, has_mover, stepped, worn_as, moved_by}
 use Rattle.world_rules.specs.Moves.{candidates, fatigue}
-use Rattle.world_rules.specs.Upkeep.{recovered_as, renewed_as, decays, weathered, standing_or_gone, weathered_as, buildings_decayed, decayed_as}
+use Rattle.world_rules.specs.Upkeep.{aged_as, decayed_as, decays, buildings_decayed, filled_as, gone, held_by, hits_left, recovered_as, renewed_as, spawn_capacity, standing_or_gone, struck_as, unloaded_as, weathered, weathered_as}
 use Rattle.world_rules.specs.Tick.{rule_of, book}
 use Rattle.world_rules.proofs.Follows.{follows_self, follows_trans, follows_if, follows_object, follows_without, follows_new, follows_over, follows_each}
 
@@ -89,6 +92,17 @@ build_follows creep site (Some kind) part =
     let less : RoomPart = with_object (with_less work creep) part in
     follows_trans part less (built_as (Some kind) creep site part) (follows_object (with_less work creep) part) (advance_follows kind (record site { progress = site.progress + work }) less)
 
+dismantle_follows : (creep building : Object) → StaysInRoom (dismantled_by creep building)
+dismantle_follows creep building part =
+    let amount : ℕ = salvage creep building in
+    let taken : ℕ = min amount (free_room (controller_of part) creep) in
+    let more : RoomPart = with_object (with_more taken creep) part in
+    follows_trans part more (dismantled_by creep building part) (follows_object (with_more taken creep) part) (follows_fallen creep.x creep.y (amount - taken) more)
+
+end_follows : (creep : Option Object) → StaysInRoom (λ part. by_object without_hits part creep)
+end_follows None part = follows_self part
+end_follows (Some creep) part = follows_object (record creep { hits = 0 }) part
+
 -- ---- all rules
 
 rule_follows : (action : Action) (entry : Intent) → StaysInRoom (λ part. (rule_of action entry part).part)
@@ -99,6 +113,8 @@ rule_follows Pickup entry part = follows_parties Pickup picked_up_by pick_follow
 rule_follows Harvest entry part = follows_parties Harvest harvested_by harvest_follows entry part
 rule_follows Repair entry part = follows_parties Repair repaired_by repair_follows entry part
 rule_follows Build entry part = follows_parties Build built_by (λ creep site. build_follows creep site (building_of site)) entry part
+rule_follows Dismantle entry part = follows_parties Dismantle dismantled_by dismantle_follows entry part
+rule_follows Suicide entry part = end_follows (acting Suicide entry part) part
 rule_follows _ entry part = follows_self part
 
 -- ---- movement
@@ -115,12 +131,34 @@ moved_follows fatigue list part =
 
 -- ---- upkeep
 
-left_follows : (building : Object) → StaysInRoom (standing_or_gone building)
-left_follows building part =
-    let gone : RoomPart = without building.id part in
-    follows_if (building.hits == 0) part (fallen building.x building.y building.energy gone) (with_object building part)
-    (follows_trans part gone (fallen building.x building.y building.energy gone) (follows_without building.id part) (follows_fallen building.x building.y building.energy gone))
-    (follows_object building part)
+gone_follows : (object : Object) → StaysInRoom (gone object)
+gone_follows object part =
+    let less : RoomPart = without object.id part in
+    follows_trans part less (gone object part) (follows_without object.id part) (follows_fallen object.x object.y object.energy less)
+
+left_follows : (object : Object) → StaysInRoom (standing_or_gone object)
+left_follows object part = follows_if (object.hits == 0) part (gone object part) (with_object object part) (gone_follows object part) (follows_object object part)
+
+struck_follows : (sums : Sums) (object : Object) → StaysInRoom (struck_as sums object)
+struck_follows sums object part =
+    let left : Object = record object { hits = hits_left object.kind sums object } in
+    follows_if (is_creep object.kind || is_building object.kind) part (standing_or_gone left part) part (left_follows left part) (follows_self part)
+
+unloaded_follows : (kind : Kind) (object : Object) → StaysInRoom (unloaded_as kind object)
+unloaded_follows Creep creep part = by_follows creep (creep.energy - load_room creep.hits creep.body) part
+unloaded_follows _ object part = follows_self part
+
+aged_follows : (kind : Kind) (object : Object) → StaysInRoom (aged_as kind object)
+aged_follows Creep creep part =
+    let older : Object = record creep { timer = creep.timer - 1 } in
+    follows_if (nat_lt 1 creep.timer) part (with_object older part) (gone creep part) (follows_object older part) (gone_follows creep part)
+aged_follows _ object part = follows_self part
+
+filled_follows : (kind : Kind) (object : Object) → StaysInRoom (filled_as kind object)
+filled_follows Spawn spawn part =
+    let more : Object = record spawn { energy = spawn.energy + 1 } in
+    follows_if (nat_lt spawn.energy spawn_capacity && nat_lt (held_by spawn.owner (values part.objects)) spawn_capacity) part (with_object more part) part (follows_object more part) (follows_self part)
+filled_follows _ object part = follows_self part
 
 weathered_follows : (in_owned : Bool) (object : Object) → StaysInRoom (weathered_as in_owned object)
 weathered_follows in_owned object part = follows_if (decays object.kind) part (standing_or_gone (weathered in_owned object) part) part (left_follows (weathered in_owned object) part) (follows_self part)
@@ -138,15 +176,15 @@ book_orderly = record {
   effect = λ entry. rule_follows entry.action entry;
   moved = λ list part. moved_follows (fatigue part) (candidates part list) part;
   steps = (
-    rests,
+    λ sums part. follows_over (struck_as sums) (struck_follows sums) part,
     (
-      rests,
+      λ sums part. follows_over (λ object. unloaded_as object.kind object) (λ object. unloaded_follows object.kind object) part,
       (
-        rests,
+        λ sums part. follows_over (λ object. aged_as object.kind object) (λ object. aged_follows object.kind object) part,
         (
           (λ sums. follows_each (λ object. Some (recovered_as object.kind object))),
           (
-            rests,
+            λ sums part. follows_over (λ object. filled_as object.kind object) (λ object. filled_follows object.kind object) part,
             (
               rests,
               (

@@ -200,7 +200,12 @@ may_take_effect action entry part =
     takes_effect action entry (values part.objects)
     (standing_at part entry.actor) (standing_at part entry.target)
 
--- ---- the creep and the target of an entry
+-- ---- the creep of an entry, and its target
+
+-- the creep of an entry, where the rule of the action does something with it
+abbrev pub acting : Action → Intent → RoomPart → Option Object
+acting action entry part =
+    if may_take_effect action entry part then get part.objects entry.actor else None
 
 -- two objects, where both are there
 abbrev pub both_of : Option Object → Option Object → Option (Object × Object)

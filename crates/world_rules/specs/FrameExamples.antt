@@ -1,5 +1,5 @@
 -- Worked examples of the frame of a tick, with toy rules but for crossings, which the check computes.
-use Rattle.std.specs.Prelude.{◌≡◌, ℕ, ◌+◌, ◌==◌, ◌&&◌, not, Bool, if◌then◌else◌, pos, List, [], ◌∷◌, length, map, replicate, Option, Some, None}
+use Rattle.std.specs.Prelude.{◌≡◌, ℕ, ◌+◌, not, Bool, pos, List, [], ◌∷◌, length, map, replicate, Option, Some, None}
 use Rattle.std.specs.List.{filter, list_any}
 use Rattle.std.specs.FinMap.{from_entries, get}
 use Rattle.room_terrain.specs.declared.name.RoomName.{RoomName}
@@ -14,6 +14,7 @@ use Rattle.world_rules.specs.World.{Placed, Frame, World}
 use Rattle.world_rules.specs.RoomParts.{RoomPart}
 use Rattle.world_rules.specs.RuleBook.{Effect, Harm, RuleBook, changes_to, no_harm}
 use Rattle.world_rules.specs.Changes.{with_object, without, with_new}
+use Rattle.world_rules.specs.Fights.{blow}
 use Rattle.world_rules.specs.Steps.{over_objects}
 use Rattle.world_rules.specs.Intents.{all_actions, same_entry, last_of_each, undropped}
 use Rattle.world_rules.specs.Tick.{Gain, Course, begun, after_kind, sums_of}
@@ -83,14 +84,6 @@ abbrev pub droppers : Action → List Action
 droppers action = filter (is_dropped_by action) all_actions
 
 -- ---- sums
-
--- so much damage to an object, in one entry
-abbrev pub blow : ℕ → ℕ → Harm
-blow id amount = record { damage = (id, amount) ∷ []; healing = [] }
-
--- so much healing
-abbrev pub cure : ℕ → ℕ → Harm
-cure id amount = record { damage = []; healing = (id, amount) ∷ [] }
 
 -- the damage to an object
 abbrev pub damage_to : ℕ → List Harm → ℕ

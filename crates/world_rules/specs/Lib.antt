@@ -7,6 +7,7 @@ pub mod Checks
 pub mod Drops
 pub mod Loads
 pub mod Work
+pub mod Fights
 pub mod Intents
 pub mod Upkeep
 pub mod Tick
@@ -19,3 +20,4 @@ pub mod Moves
 pub mod Crossings
 pub mod Examples
 pub mod FrameExamples
+pub mod FightExamples

@@ -1,9 +1,8 @@
 -- The moves of creeps: who would step and to which tile, and how tired a step makes a creep.
 use Rattle.std.specs.Prelude.{ℕ, ◌+◌, ◌*◌, ◌/◌, ◌==◌, ◌&&◌, not, Bool, true, false, nat_lt, if◌then◌else◌, ℤ, pos, negsuc, ◌+ℤ◌, List, [], ◌∷◌, length, Option, Some, None, option_map, option_and_then, slice_get}
-use Rattle.std.specs.List.{filter, filter_map, find, list_any}
+use Rattle.std.specs.List.{filter, filter_map, find}
 use Rattle.std.specs.FinMap.{get, values}
 use Rattle.game_tables.specs.declared.action.Action.TheVariants.{Move}
-use Rattle.game_tables.specs.declared.kind.Kind.{Kind}
 use Rattle.game_tables.specs.declared.kind.Kind.TheVariants.{Road}
 use Rattle.game_tables.specs.declared.kind.Part.{Part}
 use Rattle.game_tables.specs.declared.kind.Part.TheVariants as parts

@@ -2,7 +2,7 @@
 use Rattle.std.specs.Prelude.{◌≡◌, ◌≢◌, ℕ, ◌-◌, ◌^◌, ◌≤◌, All, List, map, Some, slice_get}
 use Rattle.std.specs.List.{AllByRecursion}
 use Rattle.object_store.specs.declared.world.Room.{Room}
-use Rattle.object_store.specs.Tables.{IsOnTile}
+use Rattle.object_store.specs.Tables.{IsOnTile, without_spare}
 use Rattle.object_store.specs.Stored.{Stored, HaveRisingTables, AreRising}
 use Rattle.world_rules.specs.declared.rule.Rule.{Rule}
 use Rattle.world_rules.specs.declared.rule.Rule.TheVariants.{Counts, Sites}
@@ -23,12 +23,12 @@ pub record IsSound (stored : Stored) : Type 0 where
   pub accounts : AreRising stored.accounts
   pub rules : (rule : Rule) (n : ℕ) → rule ≢ Counts → rule ≢ Sites → Broken rule n (listing_of stored) → ⊥
 
--- what is stored, but for the room that tables keep for new objects
-abbrev pub without_spare : Room → Room
-without_spare room = record room { table = record room.table { spare = 0 } }
+-- what is stored, but for the room that tables keep for new objects and for what was done to objects
+abbrev pub bare_room : Room → Room
+bare_room room = record room { table = without_spare room.table }
 
 abbrev pub bare : Stored → Stored
-bare stored = record stored { rooms = map without_spare stored.rooms }
+bare stored = record stored { rooms = map bare_room stored.rooms }
 
 -- the greatest serial that a room may have before a tick: enough are left for all that a tick can make
 abbrev pub serials_bound : ℕ

@@ -1,17 +1,19 @@
 -- The tick of the game, by a book of rules.
-use Rattle.std.specs.Prelude.{ℕ, ◌+◌, ◌-◌, ◌/◌, ◌^◌, ◌==◌, min, if◌then◌else◌, List, [], ◌∷◌, ◌++◌, map, Option, Some, None, option_map, option_and_then}
+use Rattle.std.specs.Prelude.{ℕ, ◌+◌, ◌-◌, ◌/◌, ◌==◌, min, if◌then◌else◌, List, [], ◌∷◌, ◌++◌, map, Option, Some, None, option_map, option_and_then}
 use Rattle.std.specs.List.{filter, find, filter_map, flat_map, sum_by}
 use Rattle.std.specs.FinMap.{from_entries, entries}
 use Rattle.std.specs.Option.{option_to_list}
 use Rattle.game_tables.specs.declared.action.Action.{Action}
-use Rattle.game_tables.specs.declared.action.Action.TheVariants.{DropLoad, Transfer, Withdraw, Pickup, Harvest, Repair, Build, Move}
+use Rattle.game_tables.specs.declared.action.Action.TheVariants.{DropLoad, Transfer, Withdraw, Pickup, Heal, RangedHeal, Dismantle, Attack, Harvest, Repair, Build, RangedMassAttack, RangedAttack, Suicide, Move}
 use Rattle.game_tables.specs.Limits.{most_bucket, most_points, unit_instructions}
 use Rattle.object_store.specs.declared.account.Account.{Account}
+use Rattle.object_store.specs.Tallies.{most_sum}
 use Rattle.intent_book.specs.declared.intent.Intent.{Intent}
 use Rattle.intent_book.specs.declared.player_run.PlayerRun.{PlayerRun}
 use Rattle.world_rules.specs.Drops.{dropped}
 use Rattle.world_rules.specs.Loads.{transferred, withdrawn, picked_up}
 use Rattle.world_rules.specs.Work.{harvested, repaired, built}
+use Rattle.world_rules.specs.Fights.{attacked_by, dismantled, ended, harm_by_parties, healed_by, mass_attacked, shot_by, torn_by}
 use Rattle.world_rules.specs.Moves.{moved}
 use Rattle.world_rules.specs.Crossings.{crossed}
 use Rattle.world_rules.specs.Upkeep.{steps}
@@ -82,10 +84,6 @@ module _ (book : RuleBook) (before : World) where
 
 -- ---- the sums
 
--- the most that damage or healing sums to
-abbrev pub sum_bound : ℕ
-sum_bound = 2 ^ 32 - 1
-
 -- what a list of ids and numbers has for an id
 abbrev pub total_for : List (ℕ × ℕ) → ℕ → ℕ
 total_for list id = sum_by (λ entry. if entry.0 == id then entry.1 else 0) list
@@ -96,8 +94,8 @@ harms_in room harms = filter (λ harm. harm.0 == room) harms
 
 abbrev pub sums_of : List Harm → Sums
 sums_of harms = record {
-  damage = λ id. min sum_bound (total_for (flat_map (λ harm. harm.damage) harms) id);
-  healing = λ id. min sum_bound (total_for (flat_map (λ harm. harm.healing) harms) id);
+  damage = λ id. min most_sum (total_for (flat_map (λ harm. harm.damage) harms) id);
+  healing = λ id. min most_sum (total_for (flat_map (λ harm. harm.healing) harms) id);
 }
 
 abbrev pub sums_in : Course → ℕ → Sums
@@ -154,12 +152,24 @@ rule_of Pickup entry part = changes_to (picked_up entry part)
 rule_of Harvest entry part = changes_to (harvested entry part)
 rule_of Repair entry part = changes_to (repaired entry part)
 rule_of Build entry part = changes_to (built entry part)
+rule_of Dismantle entry part = changes_to (dismantled entry part)
+rule_of Suicide entry part = changes_to (ended entry part)
 rule_of action entry part = changes_to part
+
+-- what each action does to objects
+abbrev pub harm_by : Action → Intent → RoomPart → Harm
+harm_by Heal entry part = harm_by_parties Heal (healed_by 12) entry part
+harm_by RangedHeal entry part = harm_by_parties RangedHeal (healed_by 4) entry part
+harm_by Dismantle entry part = harm_by_parties Dismantle torn_by entry part
+harm_by Attack entry part = harm_by_parties Attack attacked_by entry part
+harm_by RangedMassAttack entry part = mass_attacked entry part
+harm_by RangedAttack entry part = harm_by_parties RangedAttack shot_by entry part
+harm_by action entry part = no_harm
 
 abbrev pub book : RuleBook
 book =
     record {
-      harm = λ entry part. no_harm;
+      harm = λ entry. harm_by entry.action entry;
       effect = λ entry. rule_of entry.action entry;
       moved = moved;
       steps = steps;

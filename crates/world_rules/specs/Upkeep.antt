@@ -1,19 +1,66 @@
 -- The steps of upkeep at the end of a tick. Each is a change of a room's part, over its objects in rising id.
-use Rattle.std.specs.Prelude.{ℕ, ◌-◌, ◌*◌, ◌==◌, max, nat_lt, Bool, true, false, if◌then◌else◌, List, [], ◌∷◌, ◌++◌, Option, Some, None}
-use Rattle.game_tables.specs.Bodies.{live_count}
-use Rattle.game_tables.specs.Kinds.{full_timer, source_capacity, renewal_ticks, pile_decay}
+use Rattle.std.specs.Prelude.{ℕ, ◌+◌, ◌-◌, ◌*◌, ◌==◌, ◌&&◌, ◌||◌, min, max, nat_lt, Bool, true, false, if◌then◌else◌, List, [], ◌∷◌, ◌++◌, Option, Some, None}
+use Rattle.std.specs.List.{filter, sum_by}
+use Rattle.std.specs.FinMap.{values}
+use Rattle.game_tables.specs.Bodies.{live_count, load_room}
+use Rattle.game_tables.specs.Kinds.{full_timer, hits_max, is_building, is_creep, source_capacity, renewal_ticks, pile_decay}
 use Rattle.game_tables.specs.declared.kind.Kind.{Kind}
-use Rattle.game_tables.specs.declared.kind.Kind.TheVariants.{Source, Creep, Container, Road, Pile}
+use Rattle.game_tables.specs.declared.kind.Kind.TheVariants.{Source, Creep, Spawn, Extension, Container, Road, Pile}
 use Rattle.game_tables.specs.declared.kind.Part.TheVariants.{Move}
 use Rattle.object_store.specs.Controllers.{is_taken, is_owned_room}
 use Rattle.object_store.specs.declared.object.Object.{Object}
 use Rattle.world_rules.specs.RoomParts.{RoomPart, controller_of}
-use Rattle.world_rules.specs.RuleBook.{Step}
+use Rattle.world_rules.specs.RuleBook.{Step, Sums}
 use Rattle.world_rules.specs.Changes.{with_object, without}
-use Rattle.world_rules.specs.Drops.{fallen}
+use Rattle.world_rules.specs.Drops.{dropped_by, fallen}
 use Rattle.world_rules.specs.Steps.{over_objects, each}
 
+-- ---- hits
+
+-- What is gone leaves the energy that it held on its tile.
+abbrev pub gone : Object → RoomPart → RoomPart
+gone object part = fallen object.x object.y object.energy (without object.id part)
+
+-- What has no hits left is gone.
+abbrev pub standing_or_gone : Object → RoomPart → RoomPart
+standing_or_gone object part = if object.hits == 0 then gone object part else with_object object part
+
+-- The hits that a tick leaves: a creep is healed and damaged at once, up to its most, unless it had none; of
+-- a building the damage is taken.
+abbrev pub hits_left : Kind → Sums → Object → ℕ
+hits_left Creep sums creep =
+    if creep.hits == 0 then 0
+    else min (hits_max Creep creep.body) (creep.hits + sums.healing creep.id - sums.damage creep.id)
+hits_left kind sums building = building.hits - sums.damage building.id
+
+abbrev pub struck_as : Sums → Object → RoomPart → RoomPart
+struck_as sums object part =
+    if is_creep object.kind || is_building object.kind
+    then standing_or_gone (record object { hits = hits_left object.kind sums object }) part else part
+
+-- Creeps and buildings have the hits that the tick leaves them, or are gone.
+abbrev pub struck : Sums → RoomPart → RoomPart
+struck sums = over_objects (struck_as sums)
+
 -- ---- creeps
+
+-- What a creep carries above what its live parts hold falls on its tile.
+abbrev pub unloaded_as : Kind → Object → RoomPart → RoomPart
+unloaded_as Creep creep part = dropped_by creep (creep.energy - load_room creep.hits creep.body) part
+unloaded_as kind object part = part
+
+abbrev pub unloaded : RoomPart → RoomPart
+unloaded = over_objects (λ object. unloaded_as object.kind object)
+
+-- A creep's timer falls by 1, and at 0 it dies.
+abbrev pub aged_as : Kind → Object → RoomPart → RoomPart
+aged_as Creep creep part =
+    if nat_lt 1 creep.timer then with_object (record creep { timer = creep.timer - 1 }) part
+    else gone creep part
+aged_as kind object part = part
+
+abbrev pub aged : RoomPart → RoomPart
+aged = over_objects (λ object. aged_as object.kind object)
 
 -- Fatigue falls by 2 for each live MOVE part, down to 0.
 abbrev pub recovered_as : Kind → Object → Object
@@ -23,6 +70,35 @@ recovered_as _ object = object
 -- Creeps recover.
 abbrev pub recovered : RoomPart → RoomPart
 recovered part = each (λ object. Some (recovered_as object.kind object)) part
+
+-- ---- spawns
+
+-- the energy that a spawn holds
+abbrev pub spawn_capacity : ℕ
+spawn_capacity = 300
+
+-- What a spawn makes creeps of: spawns and extensions hold it.
+abbrev pub holds_for_creeps : Kind → Bool
+holds_for_creeps Spawn = true
+holds_for_creeps Extension = true
+holds_for_creeps kind = false
+
+-- what the spawns and extensions of an owner hold together
+abbrev pub held_by : ℕ → List Object → ℕ
+held_by owner objects =
+    let holds : Object → Bool = λ object. holds_for_creeps object.kind && (object.owner == owner) in
+    sum_by (λ object. object.energy) (filter holds objects)
+
+-- A spawn that has room gains 1, where its owner's spawns and extensions hold less than one spawn does.
+abbrev pub filled_as : Kind → Object → RoomPart → RoomPart
+filled_as Spawn spawn part =
+    if nat_lt spawn.energy spawn_capacity && nat_lt (held_by spawn.owner (values part.objects)) spawn_capacity
+    then with_object (record spawn { energy = spawn.energy + 1 }) part else part
+filled_as kind object part = part
+
+-- Spawns gain energy, one after the other.
+abbrev pub filled : RoomPart → RoomPart
+filled = over_objects (λ object. filled_as object.kind object)
 
 -- ---- sources
 
@@ -67,13 +143,6 @@ weathered in_owned building =
       timer = full_timer building.kind in_owned;
     }
 
--- What has no hits left is gone, and its energy falls on its tile.
-abbrev pub standing_or_gone : Object → RoomPart → RoomPart
-standing_or_gone building part =
-    if building.hits == 0
-    then fallen building.x building.y building.energy (without building.id part)
-    else with_object building part
-
 abbrev pub weathered_as : Bool → Object → RoomPart → RoomPart
 weathered_as in_owned object part =
     if decays object.kind then standing_or_gone (weathered in_owned object) part else part
@@ -107,13 +176,7 @@ unchanged sums part = part
 
 -- the steps up to the gain of spawns
 abbrev pub first_steps : List Step
-first_steps =
-    unchanged  -- hits change by healing and damage, and what has none left is gone
-    ∷ unchanged  -- loads above the capacity fall
-    ∷ unchanged  -- creeps age and die
-    ∷ (λ sums. recovered)
-    ∷ unchanged  -- spawns gain energy
-    ∷ []
+first_steps = struck ∷ (λ sums. unloaded) ∷ (λ sums. aged) ∷ (λ sums. recovered) ∷ (λ sums. filled) ∷ []
 
 -- what spawns and controllers do
 abbrev pub middle_steps : List Step

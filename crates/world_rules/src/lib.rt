@@ -3,11 +3,13 @@
 #![tactic(auto)]
 
 mod examples;
+mod fights;
 mod framed;
 mod rule;
 mod sound;
 
 pub use examples::{bucket_examples, drop_examples, entry_examples, upkeep_examples};
+pub use fights::{fight_examples, hits_examples};
 pub use framed::{
     change_examples, crossing_examples, dropping_examples, harm_examples, movement_examples,
     mover_examples, step_examples,

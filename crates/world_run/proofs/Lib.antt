@@ -7,3 +7,4 @@ pub mod WorldFaults
 pub mod Hosts
 pub mod Worldly
 pub mod Ended
+pub mod Serials

@@ -9,13 +9,14 @@ use Rattle.world_io.specs.Told.{AppendsPrefix}
 use Rattle.object_store.specs.declared.account.Account.{Account}
 use Rattle.object_store.specs.declared.object.Object.{Object}
 use Rattle.object_store.specs.declared.world.Room.{Room}
+use Rattle.object_store.specs.Tallies.{no_tallies}
 use Rattle.object_store.specs.Stored.{Stored}
 use Rattle.object_store.specs.Tables.{Table, IsRising}
 use Rattle.intent_book.specs.declared.player_run.PlayerRun.{PlayerRun}
 use Rattle.world_rules.specs.World.{World, Frame, Listing, ListedRoom, framed_from, listing_of, world_of}
 use Rattle.world_rules.specs.World as worlds
 use Rattle.world_rules.specs.RoomParts.{RoomPart, objects_in}
-use Rattle.world_rules.specs.Sound.{IsSound, HaveSerials, serials_bound, without_spare, bare}
+use Rattle.world_rules.specs.Sound.{IsSound, HaveSerials, serials_bound, bare_room, bare}
 use Rattle.world_rules.proofs.Keys.{table_sorted, accounts_sorted, values_of, entries_of_sorted}
 use Rattle.world_rules.proofs.Same.{once, tables_at}
 use Rattle.world_rules.proofs.Lifting.{frames_stored, frame_stored, part_of_stored, room_at}
@@ -46,13 +47,13 @@ module _ (tick : ℕ) (accounts : List Account) (before : List Room) (room : Roo
       ∙ ap (map (λ (e : ℕ × Object). e.1)) (entries_of_sorted (map (λ (object : Object). (object.id, object)) room.table.objects) (table_sorted room.table.objects rising))
       ∙ values_of (λ (object : Object). object.id) room.table.objects
 
-  room_is : listed_room (world_of stored) (length before, (worlds.listed_room room).frame) ≡ without_spare room
+  room_is : listed_room (world_of stored) (length before, (worlds.listed_room room).frame) ≡ bare_room room
   room_is =
       let place = s.places (length before) room (room_at before room after) in
       λ i. record {
         name = room.name;
         terrain = room.terrain;
-        table = record { index = sym place i; next = room.table.next; objects = objects_here i; spare = 0 };
+        table = record { index = sym place i; next = room.table.next; objects = objects_here i; spare = 0; tallies = no_tallies };
       }
 
 length_push : (before : List Room) (room : Room) → length (before ++ room ∷ []) ≡ suc (length before)
@@ -60,7 +61,7 @@ length_push [] room = refl
 length_push (first ∷ before) room = ap suc (length_push before room)
 
 rooms_from : (tick : ℕ) (accounts : List Account) (before rest : List Room) (s : IsSound (record { tick = tick; rooms = before ++ rest; accounts = accounts }))
-    → map (listed_room (world_of (record { tick = tick; rooms = before ++ rest; accounts = accounts }))) (framed_from (length before) (map worlds.listed_room rest)) ≡ map without_spare rest
+    → map (listed_room (world_of (record { tick = tick; rooms = before ++ rest; accounts = accounts }))) (framed_from (length before) (map worlds.listed_room rest)) ≡ map bare_room rest
 rooms_from tick accounts before [] s = refl
 rooms_from tick accounts before (room ∷ rest) s =
     let again : List Room = before ++ room ∷ [] in
@@ -69,7 +70,7 @@ rooms_from tick accounts before (room ∷ rest) s =
     let later = rooms_from tick accounts again rest (subst P (sym same) s) in
     let many : length again ≡ suc (length before) = length_push before room in
     let first = room_is tick accounts before room rest s in
-    let Q : List Room → ℕ → Type 0 = λ rooms n. map (listed_room (world_of (record { tick = tick; rooms = rooms; accounts = accounts }))) (framed_from n (map worlds.listed_room rest)) ≡ map without_spare rest in
+    let Q : List Room → ℕ → Type 0 = λ rooms n. map (listed_room (world_of (record { tick = tick; rooms = rooms; accounts = accounts }))) (framed_from n (map worlds.listed_room rest)) ≡ map bare_room rest in
     let others : Q (before ++ (room ∷ rest)) (suc (length before)) = subst (λ (n : ℕ). Q (before ++ (room ∷ rest)) n) many (subst (λ (rooms : List Room). Q rooms (length again)) same later) in
     λ i. first i ∷ others i
 
@@ -89,24 +90,24 @@ mapped_same : {A B : Type 0} (f : A → B) (g : A → A) → ((x : A) → f (g x
 mapped_same f g same [] = refl
 mapped_same f g same (x ∷ xs) = let rest = mapped_same f g same xs in λ i. same x i ∷ rest i
 
-room_same : (room : Room) → base_room (without_spare room) ≡ base_room room
+room_same : (room : Room) → base_room (bare_room room) ≡ base_room room
 unfolding base_room room_bytes
 room_same room = refl
 
-table_same : (room : Room) → room_bytes (without_spare room).table ≡ room_bytes room.table
+table_same : (room : Room) → room_bytes (bare_room room).table ≡ room_bytes room.table
 unfolding room_bytes
 table_same room = refl
 
 -- the bytes of the tables of rooms
-tables_same : (rooms : List Room) → flat_map room_bytes (map (λ (room : Room). room.table) (map without_spare rooms)) ≡ flat_map room_bytes (map (λ (room : Room). room.table) rooms)
+tables_same : (rooms : List Room) → flat_map room_bytes (map (λ (room : Room). room.table) (map bare_room rooms)) ≡ flat_map room_bytes (map (λ (room : Room). room.table) rooms)
 tables_same [] = refl
 tables_same (room ∷ rooms) = let rest = tables_same rooms in λ i. table_same room i ++ rest i
 
-many_tables : (rooms : List Room) → length (map (λ (room : Room). room.table) (map without_spare rooms)) ≡ length (map (λ (room : Room). room.table) rooms)
+many_tables : (rooms : List Room) → length (map (λ (room : Room). room.table) (map bare_room rooms)) ≡ length (map (λ (room : Room). room.table) rooms)
 many_tables [] = refl
 many_tables (room ∷ rooms) = ap suc (many_tables rooms)
 
-many_rooms : (rooms : List Room) → length (map without_spare rooms) ≡ length rooms
+many_rooms : (rooms : List Room) → length (map bare_room rooms) ≡ length rooms
 many_rooms [] = refl
 many_rooms (room ∷ rooms) = ap suc (many_rooms rooms)
 
@@ -114,7 +115,7 @@ base_same : (stored : Stored) → base_content (bare stored) ≡ base_content st
 unfolding base_content
 base_same stored =
     let many = many_rooms stored.rooms in
-    let flat = flat_same base_room without_spare room_same stored.rooms in
+    let flat = flat_same base_room bare_room room_same stored.rooms in
     rw (many, flat)
 
 tick_same : (uploads : List UploadEntry) (runs : List PlayerRun) (stored : Stored) → tick_content (whole_record uploads runs (bare stored)) ≡ tick_content (whole_record uploads runs stored)
@@ -126,7 +127,7 @@ tick_same uploads runs stored =
 
 listing_same : (stored : Stored) → listing_of (bare stored) ≡ listing_of stored
 listing_same stored =
-    let rooms = mapped_same worlds.listed_room without_spare (λ room. refl) stored.rooms in
+    let rooms = mapped_same worlds.listed_room bare_room (λ room. refl) stored.rooms in
     λ i. record { rules = 1; tick = stored.tick; rooms = rooms i; accounts = stored.accounts }
 
 count_same : (stored : Stored) → object_count (bare stored) ≡ object_count stored

@@ -4,6 +4,7 @@ use Rattle.std.specs.Prelude.{ℕ, map}
 use Rattle.std.specs.FinMap.{entries, values}
 use Rattle.object_store.specs.declared.world.Room.{Room}
 use Rattle.object_store.specs.Stored.{Stored}
+use Rattle.object_store.specs.Tallies.{no_tallies}
 use Rattle.world_rules.specs.World.{Frame, World}
 use Rattle.world_rules.specs.RoomParts.{objects_in}
 
@@ -16,6 +17,7 @@ listed_room world entry = record {
     next = entry.1.next;
     objects = values (objects_in world entry.0);
     spare = 0;
+    tallies = no_tallies;
   };
 }
 

@@ -216,11 +216,12 @@ fn exhausted_room(world: &World) -> Option<u32>
     ensures some { IfSome result (IsExhausted world.now) }
     ensures none { IfNone result (HaveSerials world.now.rooms) }
 {
-    let index = world
-        .room_list()
-        .iter()
-        .position(|room| room.table.next() > MOST_SERIALS)?;
-    Some(index as u32)
+    for (index, room) in world.room_list().iter().enumerate() {
+        if room.table.next() > MOST_SERIALS {
+            return Some(index as u32);
+        }
+    }
+    None
 }
 
 // Runs one tick: it is recorded, and then its lines are printed.

@@ -1,5 +1,5 @@
 -- What the objects of a room's table are, by the slots in which they stand. For private clauses.
-use Rattle.std.specs.Prelude.{◌≡◌, ℕ, ◌+◌, ◌*◌, ◌^◌, ◌<◌, ◌≤◌, ◌&&◌, nat_le, if◌then◌else◌, List, [], ◌∷◌, length, map, slice_index, slice_index_or, Option, Some, None, IfSome, ◌⊎◌, vec_capacity}
+use Rattle.std.specs.Prelude.{◌≡◌, ℕ, ◌+◌, ◌*◌, ◌^◌, ◌<◌, ◌≤◌, ◌&&◌, nat_le, if◌then◌else◌, List, [], ◌∷◌, length, map, slice_index, slice_index_or, Option, Some, None, IfSome, option_map, ◌⊎◌, vec_capacity}
 use Rattle.std.specs.declared.alloc.Global.{Global}
 use Rattle.std.specs.declared.vec.Vec.{Vec}
 use Rattle.std.specs.List.{AllByRecursion}
@@ -84,6 +84,23 @@ pub record IsLeastFrom (from tile : ℕ) (kind : Kind) (slots : List Object) (ti
       × (id ≡ (object_in slots slot).id))
   pub least : (slot : ℕ) → from ≤ slot → IsKindIn tile kind slots tiles slot
       → AtMost found (object_in slots slot).id
+
+-- In this slot an object stands on the tile under an id that is at least this one.
+pub record IsOfTile (id tile : ℕ) (slots : List Object) (tiles : List ℕ) (slot : ℕ) : Type 0 where
+  pub on : tile_at tiles slot ≡ tile
+  pub late : id ≤ (object_in slots slot).id
+
+-- the id of an object, where there is one
+abbrev pub id_found : Option Object → Option ℕ
+id_found found = option_map (λ object. object.id) found
+
+-- The object is the one of the least id of these that stand in this slot or a newer one.
+pub record IsNextOfTile (from id tile : ℕ) (slots : List Object) (tiles : List ℕ)
+    (found : Option Object) : Type 0 where
+  pub some : IfSome found (λ object. (slot : ℕ) × (IsOfTile id tile slots tiles slot)
+      × (object ≡ object_in slots slot))
+  pub least : (slot : ℕ) → from ≤ slot → IsOfTile id tile slots tiles slot
+      → AtMost (id_found found) (object_in slots slot).id
 
 -- There is room for some more objects.
 pub record HasRoom (slots : Vec Object Global) (order : Vec ℕ Global) (tiles : Chained)

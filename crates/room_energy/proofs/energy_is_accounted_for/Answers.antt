@@ -1,4 +1,4 @@
--- Each rule of an entry takes out of its room what is said of its action.
+-- Each rule of an entry puts into its room, and takes out of it, what is said of its action.
 use Rattle.room_energy.proofs.Taken.{rule_takes}
 use Rattle.room_energy.proofs.energy_is_accounted_for.Goals as goal
 

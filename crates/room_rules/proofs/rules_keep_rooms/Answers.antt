@@ -1,12 +1,14 @@
-use Rattle.room_rules.proofs.Rules.{rule_keeps, steps_keep}
+use Rattle.room_rules.proofs.Rules.{begun_leads, first_lead, later_keep, rule_keeps}
 use Rattle.room_rules.proofs.Moved.{keeps_moved}
 use Rattle.room_rules.proofs.Steps.{keeps_rest}
 use Rattle.room_rules.proofs.rules_keep_rooms.Goals as goal
 
 pub returns : goal.returns
 returns c = record {
-  entries = λ entry players stage part k. rule_keeps entry.action entry players stage part k;
-  movement = λ list players stage part once k. keeps_moved players stage list part once k;
-  steps = steps_keep;
+  begins = begun_leads;
+  entries = λ entry players part k. rule_keeps entry.action entry players part k;
+  movement = λ list once players part k. keeps_moved players list part once k;
+  first = first_lead;
+  later = later_keep;
   rest = keeps_rest;
 }

@@ -1,18 +1,24 @@
 -- What the entries of a tick make of what is stored.
-use Rattle.std.specs.Prelude.{◌≡◌, ℕ, ◌+◌, ◌*◌, ◌<◌, ◌≤◌, ◌==◌, max, List, [], ◌∷◌, length, map, Option, Some, None, slice_get, slice_set, slice_index}
+use Rattle.std.specs.Prelude.{◌≡◌, ℕ, ◌+◌, ◌*◌, ◌^◌, ◌<◌, ◌≤◌, ◌==◌, max, List, [], ◌∷◌, ◌++◌, length, map, Option, Some, None, option_map, slice_get, slice_set, slice_index}
 use Rattle.std.specs.List.{count_by}
+use Rattle.std.specs.Option.{option_to_list}
 use Rattle.room_terrain.specs.declared.terrain.Ground.{Ground}
 use Rattle.object_store.specs.declared.world.Room.{Room}
-use Rattle.object_store.specs.Tables.{Table, IsRising}
+use Rattle.object_store.specs.Tables.{Table, IsRising, AreTalliesOf}
+use Rattle.object_store.specs.Tallies.{no_tallies}
 use Rattle.object_store.specs.Stored.{Stored}
 use Rattle.intent_book.specs.declared.intent.Intent.{Intent}
 use Rattle.kept_entries.specs.declared.entries.Entry.{Entry}
 use Rattle.kept_entries.specs.Turns.{placed}
-use Rattle.room_rules.specs.Calls.{Keeps}
+use Rattle.room_rules.specs.Calls.{AreSumsOf, IsHarmedBy, Keeps}
+use Rattle.room_rules.specs.Followed.{FollowRooms}
+use Rattle.room_rules.specs.RoomRules.{is_player}
+use Rattle.room_rules.specs.Within.{within}
 use Rattle.world_rules.specs.World.{World, world_of}
-use Rattle.world_rules.specs.RoomParts.{table_part, in_room}
-use Rattle.world_rules.specs.Tick.{book}
-use Rattle.world_rules.specs.Sound.{IsSound, serials_bound}
+use Rattle.world_rules.specs.RoomParts.{table_part, in_room, part_at}
+use Rattle.world_rules.specs.RuleBook.{Harm}
+use Rattle.world_rules.specs.Tick.{book, harms_in, sums_of}
+use Rattle.world_rules.specs.Sound.{serials_bound}
 
 -- ---- worlds
 
@@ -26,6 +32,22 @@ abbrev pub entered_all : World → List (Option ℕ × Intent) → World
 entered_all world [] = world
 entered_all world (entry ∷ later) = entered_all (entered_in entry.1 world entry.0) later
 
+-- what an entry in a room does to objects, if it is in one, read in a world
+abbrev pub harm_entered : Intent → World → Option ℕ → List (ℕ × Harm)
+harm_entered intent world None = []
+harm_entered intent world (Some room) =
+    option_to_list (option_map (λ part. (room, book.harm intent part)) (part_at world room))
+
+-- what entries with their rooms do to objects, one after the other
+abbrev pub harms_entered : World → List (Option ℕ × Intent) → List (ℕ × Harm)
+harms_entered world [] = []
+harms_entered world (entry ∷ later) =
+    harm_entered entry.1 world entry.0 ++ harms_entered (entered_in entry.1 world entry.0) later
+
+-- what they do to the objects of a room
+abbrev pub harms_entered_in : ℕ → World → List (Option ℕ × Intent) → List Harm
+harms_entered_in room world list = map (λ harm. harm.1) (harms_in room (harms_entered world list))
+
 -- ---- memory
 
 -- how many entries a room has
@@ -37,19 +59,23 @@ pub record AreCounts (rooms : ℕ) (entries : List Entry) (counts : List ℕ) : 
   pub long : length counts ≡ rooms
   pub each : (room : ℕ) → room < rooms → slice_index counts room ≡ many_in room entries
 
--- a room with memory for what so many entries and a step of upkeep may make, or with what it has, where that
--- is more
+-- a room to which nothing was done yet, with memory for what so many entries and a step of upkeep may make, or
+-- with what it has, where that is more
 abbrev pub widened : ℕ → Room → Room
 widened count room =
     let wanted : ℕ = count + (4 * length room.table.objects + 196) in
-    record room { table = record room.table { spare = max room.table.spare wanted } }
+    record room {
+      table = record room.table { spare = max room.table.spare wanted; tallies = no_tallies };
+    }
 
 -- ---- rooms
 
--- The rule of an entry was called on a table, whose objects rise.
+-- The rule of an entry was called on a table, whose objects rise, and what it does to objects was added up.
 pub record IsRuled (entry : Intent) (old new : Table) : Type 0 where
   pub rule : (grounds : List Ground)
       → table_part grounds new ≡ (book.effect entry (table_part grounds old)).part
+  pub harm : (grounds : List Ground) → IsHarmedBy (book.harm entry (table_part grounds old)) old new
+  pub told : AreTalliesOf old.objects old.tallies
   pub keeps : Keeps old new
   pub rising : IsRising new.objects
 
@@ -65,10 +91,20 @@ pub record HasRoomFor (done later : ℕ) (table : Table) : Type 0 where
   pub serial : table.next ≤ serials_bound + done
   pub spare : later ≤ table.spare
 
--- These entries were ruled so far, and those are still to come.
+-- The sums of this harm are beside the table, and none of it is of an id that the room will still give.
+pub record HasSumsOf (harms : List Harm) (table : Table) : Type 0 where
+  pub sums : AreSumsOf (sums_of harms) table
+  pub fresh_damage : (serial : ℕ) → table.next ≤ serial → serial < 2 ^ 32
+      → (sums_of harms).damage (table.index * 2 ^ 32 + serial) ≡ 0
+  pub fresh_healing : (serial : ℕ) → table.next ≤ serial → serial < 2 ^ 32
+      → (sums_of harms).healing (table.index * 2 ^ 32 + serial) ≡ 0
+
+-- These entries of a tick of a sound world were ruled so far, and those are still to come.
 pub record IsActed (stored : Stored) (done later : List Entry) (rooms : List Room) : Type 0 where
   pub many : length rooms ≡ length stored.rooms
-  pub sound : IsSound (record stored { rooms = rooms })
+  pub follow : FollowRooms (is_player (world_of stored)) within stored (record stored { rooms = rooms })
   pub ready : (index : ℕ) (room : Room) → slice_get rooms index ≡ Some room
       → HasRoomFor (length done) (many_in index later) room.table
+  pub summed : (index : ℕ) (room : Room) → slice_get rooms index ≡ Some room
+      → HasSumsOf (harms_entered_in index (world_of stored) (map placed done)) room.table
   pub same : world_of (record stored { rooms = rooms }) ≡ entered_all (world_of stored) (map placed done)

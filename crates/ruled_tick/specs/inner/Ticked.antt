@@ -1,5 +1,5 @@
 -- What one tick makes of what is stored.
-use Rattle.std.specs.Prelude.{◌≡◌, ℕ, ◌+◌, ◌-◌, ◌*◌, ◌^◌, ◌<◌, ◌≤◌, ◌==◌, ◌&&◌, max, Bool, List, [], ◌++◌, length, map, Option, Some, None, slice_get, slice_index_or}
+use Rattle.std.specs.Prelude.{◌≡◌, ℕ, ◌+◌, ◌-◌, ◌*◌, ◌^◌, ◌<◌, ◌≤◌, ◌==◌, ◌&&◌, max, Bool, List, [], length, map, Option, Some, None, slice_get, slice_index_or}
 use Rattle.std.specs.List.{AllByRecursion, filter}
 use Rattle.game_tables.specs.Actions.{action_number}
 use Rattle.game_tables.specs.declared.action.Action.TheVariants.{Move}
@@ -20,7 +20,7 @@ use Rattle.world_rules.specs.Crossings.{crossed, crossed_over}
 use Rattle.world_rules.specs.Upkeep.{steps}
 use Rattle.world_rules.specs.Tick.{account_after, book, inner, run_of}
 use Rattle.world_rules.specs.Sound.{IsSound}
-use Rattle.room_rules.specs.Calls.{IsMovable}
+use Rattle.room_rules.specs.Calls.{AreSumsOf, IsMovable}
 use Rattle.room_rules.specs.Followed.{part_stored}
 use Rattle.exit_crossing.specs.declared.leaving.Crosser.{Crosser}
 use Rattle.exit_crossing.specs.Crossing.{AreCrossers, IsReadyToCross, most_arrivals}
@@ -52,17 +52,18 @@ pub record IsReadyToTick (table : Table) : Type 0 where
   pub fresh : (serial : ℕ) → table.next ≤ serial → serial < 2 ^ 32
       → HasNoId (table.index * 2 ^ 32 + serial) table.objects
 
--- It has serials and memory for as many objects as it has, and memory for those that may come beside.
-pub record HasMemory (old new : Table) : Type 0 where
-  pub serials : old.next + length old.objects ≤ 2 ^ 32 - 1
-  pub same : new ≡ record old { spare = max old.spare (length old.objects + most_arrivals) }
+-- It has serials and memory for so many objects.
+pub record HasMemory (many : ℕ) (old new : Table) : Type 0 where
+  pub serials : old.next + many ≤ 2 ^ 32 - 1
+  pub same : new ≡ record old { spare = max old.spare many }
 
 -- A room after movement and upkeep.
 pub record IsTicked (moves : List Intent) (room later : Room) : Type 0 where
   pub name : later.name ≡ room.name
   pub terrain : later.terrain ≡ room.terrain
   pub index : later.table.index ≡ room.table.index
-  pub part : (sums : Sums) → part_stored later ≡ ticked_part moves sums (part_stored room)
+  pub part : (sums : Sums) → AreSumsOf sums room.table
+      → part_stored later ≡ ticked_part moves sums (part_stored room)
   pub rising : IsRising later.table.objects
   pub tiles : AllByRecursion IsOnTile later.table.objects
   pub spare : most_arrivals ≤ later.table.spare

@@ -3,6 +3,7 @@ use Rattle.std.specs.Prelude.{◌≡◌, ℕ, List, ◌++◌, length, filter_map
 use Rattle.std.specs.List.{AllByRecursion}
 use Rattle.object_store.specs.declared.object.Object.{Object}
 use Rattle.object_store.specs.Tables.{Table, IsOnTile}
+use Rattle.object_store.specs.Tallies.{Tallies}
 use Rattle.world_rules.specs.Upkeep.{recovered_as, renewed_as, decayed_as}
 use Rattle.upkeep_rules.specs.declared.pass.Step.{Step}
 use Rattle.upkeep_rules.specs.declared.pass.Step.TheVariants.{Recover, Renew, Decay}
@@ -21,9 +22,10 @@ left_of object Stays = Some object
 left_of object (Changes left) = Some left
 left_of object Goes = None
 
--- the table with the objects that a step leaves, in their order
-abbrev pub passed : Step → Table → Table
-passed step table = record table { objects = filter_map (left_by step) table.objects }
+-- the table with the objects that a step leaves, in their order, and with what was done to them
+abbrev pub passed : Step → Tallies → Table → Table
+passed step tallies table =
+    record table { objects = filter_map (left_by step) table.objects; tallies = tallies }
 
 -- The objects before a place are as the step leaves them, and those from it on are still as they were.
 pub record IsPassedTo (step : Step) (start : Table) (place : ℕ) (now : Table) : Type 0 where
@@ -31,5 +33,6 @@ pub record IsPassedTo (step : Step) (start : Table) (place : ℕ) (now : Table) 
   pub later : List Object
   pub whole : start.objects ≡ done ++ later
   pub count : length (filter_map (left_by step) done) ≡ place
-  pub table : now ≡ record start { objects = filter_map (left_by step) done ++ later }
+  pub table : now
+      ≡ record start { objects = filter_map (left_by step) done ++ later; tallies = now.tallies }
   pub tiles : AllByRecursion IsOnTile now.objects

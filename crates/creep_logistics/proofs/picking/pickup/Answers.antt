@@ -1,6 +1,7 @@
 use Rattle.std.proofs.Common.{◌+◌, ◌==◌, [], min, sym, ap, subst, ◌∙◌}
 use Rattle.game_tables.specs.declared.action.Action.TheVariants.{Pickup}
-use Rattle.room_rules.specs.Calls.{Keeps}
+use Rattle.room_rules.specs.Calls.{Keeps, KeepsTallies}
+use Rattle.room_rules.proofs.Calls.{tallies_set}
 use Rattle.world_rules.specs.Changes.{with_object}
 use Rattle.world_rules.specs.Checks.{between}
 use Rattle.world_rules.specs.Loads.{picked_up_by, taken_from, with_more}
@@ -48,3 +49,7 @@ returns-clause-keeps c =
     let there = creep_stands Pickup c.args.intent.now c.args.room.now creep c.in-Some.pile (sym (c.parties.ensures []) ∙ c.in-Some.is) in
     let on = found_on_tile (λ o. o.id == creep.id) c.args.room.now.objects creep (creep.energy + c.min-amount.result) c.requires.ready.tiles there in
     subst (Keeps c.args.room.now) (sym c.set.ensures) (keeps_set c.args.room.now c.take_from.new.room (with_more c.min-amount.result creep) on c.take_from.ensures.keeps)
+
+pub returns-clause-tallies : goal.returns-clause-tallies
+returns-clause-tallies c =
+    subst (KeepsTallies c.args.room.now) (sym c.set.ensures) (tallies_set c.args.room.now c.take_from.new.room (with_more c.min-amount.result c.in-Some.creep) c.take_from.ensures.tallies)

@@ -1,7 +1,7 @@
 use Rattle.std.proofs.Common.{◌==◌, ◌-◌, ap, subst, sym, ◌∙◌}
-use Rattle.object_store.specs.Tables.{Table, HasId}
-use Rattle.room_rules.specs.Calls.{Keeps}
-use Rattle.room_rules.proofs.Calls.{keeps_itself, ready_without, taken_out}
+use Rattle.object_store.specs.Tables.{Table, HasId, removed}
+use Rattle.room_rules.specs.Calls.{Keeps, KeepsTallies}
+use Rattle.room_rules.proofs.Calls.{keeps_itself, ready_without, tallies_removed}
 use Rattle.world_rules.specs.RoomParts.{table_part}
 use Rattle.world_rules.specs.Loads.{with_less}
 use Rattle.world_rules.proofs.TableParts.{found_on_tile}
@@ -20,7 +20,7 @@ returns-then-amount-pile-clause-rule c =
 pub returns-then-amount-pile-clause-keeps : goal.returns-then-amount-pile-clause-keeps
 returns-then-amount-pile-clause-keeps c =
     let table = c.args.room.now in
-    let left = taken_out c.args.pile.id table in
+    let left = removed c.args.pile.id table in
     let keeps = keeps_itself left (ready_without table c.args.pile.id c.requires.ready) in
     subst (Keeps table) (sym c.remove-taken.ensures.table) (record { index = keeps.index; used = keeps.used; later = keeps.later; made = keeps.made; tiles = keeps.tiles })
 
@@ -41,3 +41,6 @@ returns-else-amount-pile-clause-keeps c =
 pub returns-else-amount-pile-clause-others : goal.returns-else-amount-pile-clause-others
 returns-else-amount-pile-clause-others c = λ id other has.
     subst (λ (table : Table). HasId id table.objects) (sym c.set.ensures) (still_set id (with_less c.args.amount c.args.pile) c.args.room.now.objects has)
+
+pub returns-then-amount-pile-clause-tallies : goal.returns-then-amount-pile-clause-tallies
+returns-then-amount-pile-clause-tallies c = subst (KeepsTallies c.args.room.now) (sym c.remove-taken.ensures.table) (tallies_removed c.args.room.now c.args.pile.id)

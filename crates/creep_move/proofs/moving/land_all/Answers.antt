@@ -16,6 +16,7 @@ loop-tile-init c =
       index = refl;
       next = refl;
       spare = refl;
+      tallies = refl;
       tiles = r.movable.tiles;
     }
 
@@ -42,6 +43,7 @@ loop-tile-preserved c =
             index = ap (λ (t : Table). t.index) w.room-is ∙ step.index ∙ s.invariant.index;
             next = ap (λ (t : Table). t.next) w.room-is ∙ step.next ∙ s.invariant.next;
             spare = ap (λ (t : Table). t.spare) w.room-is ∙ step.spare ∙ s.invariant.spare;
+            tallies = ap (λ (t : Table). t.tallies) w.room-is ∙ step.tallies ∙ s.invariant.tallies;
             tiles = subst (λ (t : Table). AllByRecursion IsOnTile t.objects) (sym w.room-is) step.tiles;
           }
       | else-from-lt-TILES w ↦
@@ -55,6 +57,7 @@ loop-tile-preserved c =
             index = ap (λ (t : Table). t.index) w.room-is ∙ s.invariant.index;
             next = ap (λ (t : Table). t.next) w.room-is ∙ s.invariant.next;
             spare = ap (λ (t : Table). t.spare) w.room-is ∙ s.invariant.spare;
+            tallies = ap (λ (t : Table). t.tallies) w.room-is ∙ s.invariant.tallies;
             tiles = subst (λ (t : Table). AllByRecursion IsOnTile t.objects) (sym w.room-is) s.invariant.tiles;
           }
     ]

@@ -11,5 +11,6 @@ invariant-loop-tile l = record {
   index : l.room.index ≡ l.fn.room.index;
   next : l.room.next ≡ l.fn.room.next;
   spare : l.room.spare ≡ l.fn.room.spare;
+  tallies : l.room.tallies ≡ l.fn.room.tallies;
   tiles : AllByRecursion IsOnTile l.room.objects;
 }

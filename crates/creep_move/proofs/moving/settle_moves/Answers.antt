@@ -1,6 +1,4 @@
-use Rattle.std.proofs.Common.{◌≡◌, ap, sym, subst, ◌∙◌}
-use Rattle.intent_book.specs.declared.intent.Intent.{Intent}
-use Rattle.object_store.specs.Tables.{IsRising}
+use Rattle.std.proofs.Common.{ap, sym, ◌∙◌}
 use Rattle.world_rules.specs.RoomParts.{RoomPart, table_part}
 use Rattle.world_rules.specs.Moves.{moved}
 use Rattle.creep_move.proofs.Eached.{no_moves, nobody_moves_in}

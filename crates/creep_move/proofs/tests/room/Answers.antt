@@ -1,5 +1,6 @@
 use Rattle.std.proofs.Common.{◌∷◌, [], List, arith, sym, subst}
 use Rattle.object_store.specs.declared.object.Object.{Object}
+use Rattle.object_store.specs.Tallies.{no_tallies}
 use Rattle.object_store.specs.Tables.{Table, IsRising}
 use Rattle.room_rules.specs.Calls.{IsMovable}
 use Rattle.creep_move.proofs.Examples.{Stands, five_movable, five_rise}
@@ -34,6 +35,6 @@ returns c =
     let e : Stands 4 10 21 source.result = record { id_is = source.ensures.id; column = source.ensures.column; row = source.ensures.row; load = omega (arith, source.ensures.load) } in
     let f : Stands 5 12 21 last = record { id_is = road.ensures.id; column = road.ensures.column; row = road.ensures.row; load = omega (arith, road.ensures.load) } in
     let all : List Object = first.result ∷ second.result ∷ third.result ∷ source.result ∷ last ∷ [] in
-    let table : List Object → Table = λ objects. record { index = 0; next = 9; objects = objects; spare = 0 } in
+    let table : List Object → Table = λ objects. record { index = 0; next = 9; objects = objects; spare = 0; tallies = no_tallies } in
     subst IsMovable (sym c.in_ok-room.ensures)
-    (subst (λ (objects : List Object). IsMovable (table objects)) (sym c.in_ok-from_array.ensures.items) (five_movable first.result second.result third.result source.result last a b d e f 0 9 0))
+    (subst (λ (objects : List Object). IsMovable (table objects)) (sym c.in_ok-from_array.ensures.items) (five_movable first.result second.result third.result source.result last a b d e f 0 9 0 no_tallies))

@@ -1,10 +1,11 @@
-use Rattle.std.proofs.Common.{ℕ, ◌+◌, ◌-◌, ◌*◌, ◌^◌, ◌<◌, ◌≤◌, ◌==◌, not, [], refl, sym, ap, subst, ◌∙◌, arith}
+use Rattle.std.proofs.Common.{ℕ, ◌+◌, ◌-◌, ◌*◌, ◌^◌, ◌<◌, ◌≤◌, ◌==◌, not, [], ◌≡◌, Option, Some, None, refl, sym, ap, subst, ◌∙◌, arith}
 use Rattle.object_store.specs.declared.object.Object.{Object}
-use Rattle.object_store.specs.Tables.{Table, IsOnTile, HasNoId, with_new}
+use Rattle.object_store.specs.Tables.{Table, IsOnTile, HasId, HasNoId, find_object, with_new, removed}
+use Rattle.object_store.specs.Tallies.{tally_of}
 use Rattle.world_rules.specs.RoomParts.{table_part}
 use Rattle.world_rules.proofs.TableParts.{tiles_filter, tiles_new}
 use Rattle.room_rules.specs.Calls.{Keeps}
-use Rattle.room_rules.proofs.Calls.{ready_set, ready_without, set_in, taken_out}
+use Rattle.room_rules.proofs.Calls.{ready_set, ready_without, set_in, tallies_renewed}
 use Rattle.creep_work.proofs.Parties.{keeps_ready}
 use Rattle.creep_work.proofs.Sites.{advanced_missing, advanced_whole}
 use Rattle.creep_work.proofs.building.advance.Goals as goal
@@ -54,7 +55,7 @@ returns-clause-keeps c =
     let new : Object = record c.building_on-building.result { id = c.insert_new-id.result } in
     let on : IsOnTile new = subst (λ (o : Object). IsOnTile (record o { id = c.insert_new-id.result })) (sym (c.building_on-building.ensures [])) (record { column = c.requires.tile.column; row = c.requires.tile.row }) in
     let tiles = tiles_filter (λ o. not (o.id == c.args.site.id)) table.objects c.requires.ready.tiles in
-    let left : Table = taken_out c.args.site.id table in
+    let left : Table = removed c.args.site.id table in
     subst (Keeps table) (sym (c.insert_new-id.ensures.table ∙ ap (λ (t : Table). record t { next = t.next + 1; objects = with_new new t.objects; spare = t.spare - 1 }) gone)) (record {
       index = refl;
       used = omega arith;
@@ -62,3 +63,16 @@ returns-clause-keeps c =
       made = omega arith;
       tiles = tiles_new new left.objects on tiles;
     })
+
+pub returns-clause-tallies : goal.returns-clause-tallies
+returns-clause-tallies c = λ id has.
+    let table = c.args.room.now in
+    let site = c.args.site in
+    let new : Object = record c.building_on-building.result { id = c.insert_new-id.result } in
+    let made = c.insert_new-id.ensures.table ∙ ap (λ (t : Table). record t { next = t.next + 1; objects = with_new new t.objects; spare = t.spare - 1 }) c.remove-site.ensures.table in
+    let fresh = c.requires.ready.fresh in
+    let own : c.insert_new-id.result ≡ table.index * 2 ^ 32 + table.next = c.insert_new-id.ensures.id ∙ ap (λ (t : Table). t.index * 2 ^ 32 + t.next) c.remove-site.ensures.table in
+    let other : c.insert_new-id.result ≡ site.id → ⊥ = λ same. (
+    let none : ◌≡◌ {A = Option Object} None (Some c.requires.there.0) = sym fresh ∙ ap (λ (n : ℕ). find_object n table.objects) (sym own ∙ same) ∙ c.requires.there.1 in
+    absurd cc) in
+    ap (λ (t : Table). tally_of id t.tallies) made ∙ tallies_renewed table site.id new other id (subst (λ (t : Table). HasId id t.objects) made has)

@@ -1,6 +1,7 @@
 use Rattle.std.proofs.Common.{◌≡◌, ℕ, ◌+◌, ◌-◌, ◌^◌, ◌<◌, ◌≤◌, min, refl, sym, ap, subst, ◌∙◌, arith}
 use Rattle.object_store.specs.declared.object.Object.{Object}
-use Rattle.object_store.specs.Tables.{IsOnTile, with_object, with_new}
+use Rattle.object_store.specs.Tables.{Table, IsOnTile, with_object, with_new}
+use Rattle.object_store.specs.Tallies.{tally_of}
 use Rattle.world_rules.specs.RoomParts.{table_part}
 use Rattle.world_rules.specs.Drops.{is_pile_on, pile_bound, pile_of}
 use Rattle.world_rules.proofs.TableParts.{found_by_id, found_on_tile, tiles_new, tiles_replaced}
@@ -62,3 +63,12 @@ returns-in-None-clause-keeps c =
       made = omega arith;
       tiles = tiles_new (record c.pile.result { id = c.insert_new-id.result }) table.objects on c.requires.ready.tiles;
     })
+
+pub returns-then-amount-eq0-clause-tallies : goal.returns-then-amount-eq0-clause-tallies
+returns-then-amount-eq0-clause-tallies c = λ id there. refl
+
+pub returns-in-Some-clause-tallies : goal.returns-in-Some-clause-tallies
+returns-in-Some-clause-tallies c = λ id there. ap (λ (t : Table). tally_of id t.tallies) c.set.ensures
+
+pub returns-in-None-clause-tallies : goal.returns-in-None-clause-tallies
+returns-in-None-clause-tallies c = λ id there. ap (λ (t : Table). tally_of id t.tallies) c.insert_new-id.ensures.table

@@ -5,6 +5,6 @@ use Rattle.room_commutes.proofs.harms.harms_as_they_run.Goals as goal
 
 pub returns : goal.returns
 returns c = record {
-  kind = λ book before list course orderly used leave. running_is book orderly before list course used leave;
-  all = λ book world list orderly used leave. running_all book orderly world all_actions (kept world list) (begun world) used leave;
+  kind = λ book before list course orderly keeps used keyed leave. running_is book orderly keeps before list course used keyed leave;
+  all = λ book world list orderly keeps used keyed leave. running_all book orderly keeps world all_actions (kept world list) (begun world) used keyed leave;
 }

@@ -1,8 +1,8 @@
-use Rattle.std.proofs.Common.{◌≡◌, ℕ, ◌<◌, ◌≤◌, List, [], Some, length, slice_get, slice_index_or, ap, sym, subst, ◌∙◌, arith}
+use Rattle.std.proofs.Common.{◌≡◌, ℕ, ◌<◌, ◌≤◌, List, [], Some, length, slice_get, slice_index_or, sym, subst, ◌∙◌, arith}
 use Rattle.std.proofs.lemmas.Option.{get_or_from_slice_get, slice_get-get_or}
 use Rattle.intent_book.specs.declared.intent.Intent.{Intent}
 use Rattle.object_store.specs.declared.world.Room.{Room}
-use Rattle.ruled_tick.specs.inner.Ticked.{moves_in, IsReadyToTick, IsTicked}
+use Rattle.ruled_tick.specs.inner.Ticked.{moves_in, IsTicked}
 use Rattle.ruled_tick.proofs.Ticking.{ticked_all, ticked_more}
 use Rattle.ruled_tick.proofs.rooms.tick_all.Goals as goal
 

@@ -1,25 +1,65 @@
-use Rattle.std.proofs.Common.{◌≡◌, ap, subst, ◌∙◌, refl}
+use Rattle.std.proofs.Common.{◌+◌, ◌*◌, ap, subst, ◌∙◌, refl}
 use Rattle.object_store.specs.Tables.{IsRising}
-use Rattle.ruled_tick.proofs.Stepped.{ready_last, ticked_room}
-use Rattle.world_rules.specs.RoomTick.{room_after_steps}
-use Rattle.world_rules.specs.Upkeep.{first_steps}
+use Rattle.exit_crossing.specs.Crossing.{most_arrivals}
+use Rattle.ruled_tick.specs.inner.Ticked.{HasMemory}
+use Rattle.ruled_tick.proofs.Stepped.{HasMoved, ready_first, ready_last, ticked_room}
 use Rattle.ruled_tick.proofs.rooms.tick_room.Goals as goal
+
+pub upkeep_first-requires : goal.upkeep_first-requires
+upkeep_first-requires c =
+    let room = c.args.room.now in
+    let one = c.settle_moves.new.room in
+    let two = c.take_memory.new.table in
+    let memory = subst (λ n. HasMemory n one two) (ap (λ n. 2 * n) (c.from-most_left.ensures ∙ c.len.ensures)) c.in_ok-take_memory.ensures in
+    let has : HasMoved c.args.moves.now room.terrain room.table one two = record {
+      ready = c.requires.ready;
+      rule = c.settle_moves.ensures.rule;
+      index = c.settle_moves.ensures.index;
+      next = c.settle_moves.ensures.next;
+      tallies = c.settle_moves.ensures.tallies;
+      tiles = c.settle_moves.ensures.tiles;
+      memory = memory;
+    } in
+    record { ready = ready_first c.args.moves.now room.terrain room.table one two has }
 
 pub upkeep_last-requires : goal.upkeep_last-requires
 upkeep_last-requires c =
     let room = c.args.room.now in
-    let first = c.upkeep_first.new.room in
-    record {
-      ready = ready_last c.args.moves.now room.terrain room.table first c.take_memory.new.table c.requires.ready
-          (λ sums. c.upkeep_first.ensures.rule room.terrain sums ∙ ap (room_after_steps sums first_steps) c.settle_moves.ensures.rule)
-          (c.upkeep_first.ensures.next ∙ c.settle_moves.ensures.next) (c.upkeep_first.ensures.index ∙ c.settle_moves.ensures.index) c.upkeep_first.ensures.tiles c.in_ok-take_memory.ensures;
-    }
+    let one = c.settle_moves.new.room in
+    let two = c.take_memory.new.table in
+    let three = c.upkeep_first.new.room in
+    let four = c.take_memory-2.new.table in
+    let memory = subst (λ n. HasMemory n one two) (ap (λ n. 2 * n) (c.from-most_left.ensures ∙ c.len.ensures)) c.in_ok-take_memory.ensures in
+    let more = subst (λ n. HasMemory n three four) (ap (λ n. n + most_arrivals) (c.from-most_made.ensures ∙ c.len-2.ensures)) c.in_ok-take_memory-2.ensures in
+    let has : HasMoved c.args.moves.now room.terrain room.table one two = record {
+      ready = c.requires.ready;
+      rule = c.settle_moves.ensures.rule;
+      index = c.settle_moves.ensures.index;
+      next = c.settle_moves.ensures.next;
+      tallies = c.settle_moves.ensures.tallies;
+      tiles = c.settle_moves.ensures.tiles;
+      memory = memory;
+    } in
+    record { ready = ready_last c.args.moves.now room.terrain room.table one two has three four (c.upkeep_first.ensures.rule room.terrain) c.upkeep_first.ensures.keeps more }
 
 pub returns : goal.returns
 returns c =
     let room = c.args.room.now in
-    let first = c.upkeep_first.new.room in
-    ticked_room c.args.moves.now room (record room { table = c.upkeep_last.new.room }) first c.take_memory.new.table refl refl
-    (λ sums. c.upkeep_first.ensures.rule room.terrain sums ∙ ap (room_after_steps sums first_steps) c.settle_moves.ensures.rule)
-    (c.upkeep_first.ensures.index ∙ c.settle_moves.ensures.index) c.in_ok-take_memory.ensures
+    let one = c.settle_moves.new.room in
+    let two = c.take_memory.new.table in
+    let three = c.upkeep_first.new.room in
+    let four = c.take_memory-2.new.table in
+    let memory = subst (λ n. HasMemory n one two) (ap (λ n. 2 * n) (c.from-most_left.ensures ∙ c.len.ensures)) c.in_ok-take_memory.ensures in
+    let more = subst (λ n. HasMemory n three four) (ap (λ n. n + most_arrivals) (c.from-most_made.ensures ∙ c.len-2.ensures)) c.in_ok-take_memory-2.ensures in
+    let has : HasMoved c.args.moves.now room.terrain room.table one two = record {
+      ready = c.requires.ready;
+      rule = c.settle_moves.ensures.rule;
+      index = c.settle_moves.ensures.index;
+      next = c.settle_moves.ensures.next;
+      tallies = c.settle_moves.ensures.tallies;
+      tiles = c.settle_moves.ensures.tiles;
+      memory = memory;
+    } in
+    ticked_room c.args.moves.now room (record room { table = c.upkeep_last.new.room }) one two three four refl refl has
+    (c.upkeep_first.ensures.rule room.terrain) c.upkeep_first.ensures.keeps more
     c.upkeep_last.ensures.rule c.upkeep_last.ensures.keeps (subst IsRising c.objects-rising.ensures.all c.objects-rising.ensures.rising)

@@ -1,15 +1,13 @@
 use Rattle.std.proofs.Common.{◌≡◌, ◌+◌, ◌^◌, ◌<◌, List, [], ◌++◌, map, length, take, drop, option_map, slice_get, sym, ap, subst, ◌∙◌, arith}
 use Rattle.std.specs.List.{AllByRecursion}
-use Rattle.std.proofs.lemmas.List.{length-map, length-take-le}
+use Rattle.std.proofs.lemmas.List.{length-take-le}
 use Rattle.object_store.specs.declared.world.Room.{Room}
-use Rattle.object_store.specs.Stored.{Stored}
 use Rattle.world_rules.specs.World.{world_of}
-use Rattle.world_rules.specs.Crossings.{crossers}
 use Rattle.object_store.specs.Tables.{IsOnTile}
 use Rattle.exit_crossing.specs.declared.leaving.Crosser.{Crosser}
 use Rattle.exit_crossing.specs.Crossing.{AreCrossers, AreIdsApart, rested_room}
 use Rattle.ruled_tick.specs.inner.Entered.{many_in, widened, IsActed, IsRuledIn}
-use Rattle.ruled_tick.specs.inner.Ticked.{moves_in, AreInPlace, AreTicked, IsReadyToTick}
+use Rattle.ruled_tick.specs.inner.Ticked.{AreInPlace, AreTicked}
 use Rattle.ruled_tick.proofs.Acted.{acted_first, acted_more, acted_next, acted_ready, acted_then}
 use Rattle.ruled_tick.proofs.Moves.{actors_once}
 use Rattle.ruled_tick.proofs.Places.{written_back}
@@ -40,7 +38,7 @@ enter-requires c =
     let few : length (take i entries) < 2 ^ 18 = omega (arith, length-take-le i entries, c.requires.few) in
     record {
       ready = λ room at.
-          acted_ready world (take i entries) entry (drop (i + 1) entries) items (acted_next world entries i entry items c.loop-entry-test.true c.entry-item.is c.loop-entry.invariant) few room
+          acted_ready world c.requires.sound (take i entries) entry (drop (i + 1) entries) items (acted_next world entries i entry items c.loop-entry-test.true c.entry-item.is c.loop-entry.invariant) few room
           (ap (λ (xs : List Room). slice_get xs entry.room) (sym c.deref_mut-in-loop-entry.ensures.value) ∙ at);
     }
 
@@ -58,12 +56,12 @@ loop-entry-preserved c =
     let ruled = subst (λ (xs : List Room). IsRuledIn (slice_get xs entry.room) entry.room entry.intent xs new) value c.enter.ensures in
     subst (IsActed world (take (i + 1) entries) (drop (i + 1) entries)) (sym (written_back items new c.loop-entry.rooms.len (long ∙ ap length value) full))
     (acted_then world entries i entry new c.loop-entry-test.true c.entry-item.is
-    (acted_more world (take i entries) entry (drop (i + 1) entries) items (acted_next world entries i entry items c.loop-entry-test.true c.entry-item.is c.loop-entry.invariant) new ruled))
+    (acted_more world c.requires.sound (take i entries) entry (drop (i + 1) entries) items (acted_next world entries i entry items c.loop-entry-test.true c.entry-item.is c.loop-entry.invariant) new ruled))
 
 pub tick_all-requires-clause-ready : goal.tick_all-requires-clause-ready
 tick_all-requires-clause-ready c = λ index room at.
     let acted = c.loop-entry.invariant in
-    ready_to_tick (record c.args.world { rooms = c.loop-entry.rooms.items }) acted.sound index room (ap (λ (xs : List Room). slice_get xs index) (sym c.deref_mut-2.ensures.value) ∙ at)
+    ready_to_tick c.args.world c.requires.sound c.loop-entry.rooms.items acted.follow index room (ap (λ (xs : List Room). slice_get xs index) (sym c.deref_mut-2.ensures.value) ∙ at)
 
 pub tick_all-requires-clause-once : goal.tick_all-requires-clause-once
 tick_all-requires-clause-once c = λ index. actors_once (world_of c.args.world) c.requires.kept.0 c.args.entries.now c.requires.kept.1 index
@@ -80,7 +78,7 @@ all_crossers-requires-clause-places c = λ index room at.
     let full : c.loop-entry.rooms.len ≡ length items = omega (arith, c.deref_mut-2.ensures.len, ap length value) in
     let third : c.deref_mut-3.result.now ≡ new = c.deref_mut-3.ensures.value ∙ written_back items new c.loop-entry.rooms.len (long ∙ ap length value) full in
     let ticked : AreTicked entries items new = subst (λ (xs : List Room). AreTicked entries xs new) value c.in_ok-tick_all.ensures in
-    ticked_places world entries c.requires.kept.0 c.requires.kept.1 i items c.loop-entry.invariant c.loop-entry-test.false new ticked index room (ap (λ (xs : List Room). slice_get xs index) (sym third) ∙ at)
+    ticked_places world c.requires.sound entries c.requires.kept.0 c.requires.kept.1 i items c.loop-entry.invariant c.loop-entry-test.false new ticked index room (ap (λ (xs : List Room). slice_get xs index) (sym third) ∙ at)
 
 pub all_crossers-requires-clause-tiles : goal.all_crossers-requires-clause-tiles
 all_crossers-requires-clause-tiles c =
@@ -95,7 +93,7 @@ all_crossers-requires-clause-tiles c =
     let third : c.deref_mut-3.result.now ≡ new = c.deref_mut-3.ensures.value ∙ written_back items new c.loop-entry.rooms.len (long ∙ ap length value) full in
     let ticked : AreTicked entries items new = subst (λ (xs : List Room). AreTicked entries xs new) value c.in_ok-tick_all.ensures in
     subst (λ (xs : List Room). AllByRecursion (λ (room : Room). AllByRecursion IsOnTile room.table.objects) xs) (sym third)
-    (ticked_tiles world entries c.requires.kept.0 c.requires.kept.1 i items c.loop-entry.invariant c.loop-entry-test.false new ticked)
+    (ticked_tiles world c.requires.sound entries c.requires.kept.0 c.requires.kept.1 i items c.loop-entry.invariant c.loop-entry-test.false new ticked)
 
 pub all_crossers-requires-clause-ids : goal.all_crossers-requires-clause-ids
 all_crossers-requires-clause-ids c =
@@ -109,7 +107,7 @@ all_crossers-requires-clause-ids c =
     let full : c.loop-entry.rooms.len ≡ length items = omega (arith, c.deref_mut-2.ensures.len, ap length value) in
     let third : c.deref_mut-3.result.now ≡ new = c.deref_mut-3.ensures.value ∙ written_back items new c.loop-entry.rooms.len (long ∙ ap length value) full in
     let ticked : AreTicked entries items new = subst (λ (xs : List Room). AreTicked entries xs new) value c.in_ok-tick_all.ensures in
-    subst AreIdsApart (sym third) (ticked_ids world entries c.requires.kept.0 c.requires.kept.1 i items c.loop-entry.invariant c.loop-entry-test.false new ticked)
+    subst AreIdsApart (sym third) (ticked_ids world c.requires.sound entries c.requires.kept.0 c.requires.kept.1 i items c.loop-entry.invariant c.loop-entry-test.false new ticked)
 
 pub world_of_rooms-requires-clause-places : goal.world_of_rooms-requires-clause-places
 world_of_rooms-requires-clause-places c =
@@ -130,7 +128,7 @@ world_of_rooms-requires-clause-places c =
     let same : second ≡ new = written_back items new c.loop-entry.rooms.len (long ∙ ap length value) full in
     let final : take c.loop-entry.rooms.len (last ++ drop (length last) second) ≡ last =
     written_back second last c.loop-entry.rooms.len (all_long ∙ ap length third ∙ sym (ap length same)) (full ∙ sym (ap length same ∙ long ∙ ap length value)) in
-    subst AreInPlace (sym (final ∙ rested)) (ready world entries c.requires.kept.0 c.requires.kept.1 i items c.loop-entry.invariant c.loop-entry-test.false new ticked).places
+    subst AreInPlace (sym (final ∙ rested)) (ready world c.requires.sound entries c.requires.kept.0 c.requires.kept.1 i items c.loop-entry.invariant c.loop-entry-test.false new ticked).places
 
 pub returns-clause-rooms : goal.returns-clause-rooms
 returns-clause-rooms c =
@@ -152,7 +150,7 @@ returns-clause-rooms c =
     let final : take c.loop-entry.rooms.len (last ++ drop (length last) second) ≡ last =
     written_back second last c.loop-entry.rooms.len (all_long ∙ ap length third ∙ sym (ap length same)) (full ∙ sym (ap length same ∙ long ∙ ap length value)) in
     let crossing : List Crosser = c.in_ok-crossers.crossers.items in
-    are_ruled world entries c.requires.kept.0 c.requires.kept.1 i items c.loop-entry.invariant c.loop-entry-test.false new ticked crossing
+    are_ruled world c.requires.sound entries c.requires.kept.0 c.requires.kept.1 i items c.loop-entry.invariant c.loop-entry-test.false new ticked crossing
     (λ s at. c.in_ok-crossers.ensures.list s (at ∙ sym third))
     (subst (λ (xs : List Room). AreCrossers xs crossing) rested c.in_ok-crossers.ensures.crossers)
     c.in_ok-next.next

@@ -5,7 +5,8 @@ use Rattle.object_store.proofs.Rising.{all_filter}
 use Rattle.world_rules.proofs.TableParts.{tiles_replaced}
 use Rattle.upkeep_rules.specs.inner.Passed.{left_of}
 use Rattle.upkeep_rules.proofs.Lefts.{left-id}
-use Rattle.upkeep_rules.proofs.Passing.{all_read, changes, found_there, goes, left_then, stays, left_on_tile}
+use Rattle.upkeep_rules.proofs.Passing.{all_read, changes, found_there, goes, its_own, left_then, stays, left_on_tile}
+use Rattle.std.specs.FinMap.{remove}
 use Rattle.upkeep_rules.proofs.pass.is_left.Goals as goal
 
 pub set-requires-clause-tile : goal.set-requires-clause-tile
@@ -58,7 +59,7 @@ returns-in-Changes-clause-table c before after object whole here =
     let at = sym c.nth.ensures ∙ ap option_copied c.in-Some.is in
     let left = sym c.keep_up.ensures ∙ ap (left_of read) c.in-Changes.is in
     let rising = subst IsRising c.objects-rising.ensures.all c.objects-rising.ensures.rising in
-    c.set.ensures ∙ changes c.args.step c.args.room.now c.args.place read at before after object whole here rising c.in-Changes.left left
+    its_own c.args.step c.args.room.now c.args.place read at before after object whole here c.set.new.self c.args.room.now.tallies _ (c.set.ensures ∙ changes c.args.step c.args.room.now c.args.place read at before after object whole here rising c.in-Changes.left left)
 
 pub returns-in-Goes-clause-tiles : goal.returns-in-Goes-clause-tiles
 returns-in-Goes-clause-tiles c =
@@ -78,4 +79,4 @@ returns-in-Goes-clause-table c before after object whole here =
     let at = sym c.nth.ensures ∙ ap option_copied c.in-Some.is in
     let left = sym c.keep_up.ensures ∙ ap (left_of read) c.in-Goes.is in
     let rising = subst IsRising c.objects-rising.ensures.all c.objects-rising.ensures.rising in
-    c.remove-gone.ensures.table ∙ goes c.args.step c.args.room.now c.args.place read at before after object whole here rising left
+    its_own c.args.step c.args.room.now c.args.place read at before after object whole here c.remove-gone.new.self (remove c.args.room.now.tallies read.id) _ (c.remove-gone.ensures.table ∙ goes c.args.step c.args.room.now c.args.place read at before after object whole here rising left)

@@ -33,4 +33,4 @@ returns-clause-rule c grounds =
     let rising = subst IsRising c.objects-rising.ensures.all c.objects-rising.ensures.rising in
     let past : length c.loop-place.room.objects ≤ c.loop-place.place = omega (arith, c.loop-place-test.false, c.len.ensures) in
     ap (table_part grounds) (pass_last c.args.step c.args.room.now c.loop-place.place c.loop-place.room c.loop-place.invariant past)
-    ∙ passed_part c.args.step grounds c.args.room.now rising
+    ∙ passed_part c.args.step c.loop-place.room.tallies grounds c.args.room.now rising

@@ -1,15 +1,14 @@
 -- Where creeps go that moved onto border tiles in worked examples.
-use Rattle.std.proofs.Common.{◌≡◌, ℕ, ◌==◌, ◌&&◌, not, if◌then◌else◌, Bool, true, false, T, List, [], ◌∷◌, map, Option, Some, None, option_map, option_and_then, refl, sym, ap, ◌∙◌}
+use Rattle.std.proofs.Common.{◌≡◌, ℕ, ◌==◌, ◌&&◌, not, if◌then◌else◌, Bool, true, false, T, List, [], ◌∷◌, map, Option, Some, None, option_map, option_and_then, refl, ap, ◌∙◌}
 use Rattle.std.specs.Ordering.{nat_cmp}
 use Rattle.std.specs.Cmp.{nat_cmp_total}
 use Rattle.std.specs.List.{filter, find as first_that, list_any}
-use Rattle.std.specs.FinMap.{find, put, from_entries, entries, get-from_entries, is_sorted}
-use Rattle.room_terrain.specs.declared.name.RoomName.{RoomName}
+use Rattle.std.specs.FinMap.{find, put, get-from_entries, is_sorted}
 use Rattle.room_terrain.specs.declared.terrain.Ground.TheVariants.{Plain, Swamp, Wall}
 use Rattle.object_store.specs.declared.object.Object.{Object}
-use Rattle.world_rules.specs.World.{Placed, Frame, World}
+use Rattle.world_rules.specs.World.{Placed, Frame}
 use Rattle.game_tables.specs.Kinds.{is_creep}
-use Rattle.world_rules.specs.Crossings.{Place, NamedTile, mirrored, same_name, place_of, beyond, is_open_in, may_enter, with_place, with_object_on, crossed_to, crossed_by, crossed_over, is_crosser, crossers, rested, all_rested, crossed}
+use Rattle.world_rules.specs.Crossings.{Place, NamedTile, mirrored, same_name, place_of, beyond, is_open_in, may_enter, with_place, with_object_on, crossed_to, crossed_by, crossed_over, is_crosser, rested, all_rested, crossed}
 use Rattle.world_rules.specs.FrameExamples.{west_room, both_rooms, world_with, moved_to, resting_at, container_at}
 use Rattle.world_rules.proofs.Keys.{entries_of_sorted}
 use Rattle.world_rules.proofs.Listed.{insert_listed}

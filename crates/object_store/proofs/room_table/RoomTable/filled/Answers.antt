@@ -7,6 +7,7 @@ use Rattle.object_store.specs.inner.Placed.{tile_of_object}
 use Rattle.object_store.proofs.Changed.{standing_equal, placed_equal}
 use Rattle.object_store.proofs.Kept.{kept_equal, known_equal}
 use Rattle.object_store.proofs.Placed.{all_slots, standing_all, placed_all}
+use Rattle.object_store.proofs.TallyChanges.{tallied_all, tallied_equal}
 use Rattle.object_store.proofs.room_table.RoomTable.filled.Goals as goal
 
 pub invariant_of-result : goal.invariant_of-result
@@ -27,6 +28,7 @@ invariant_of-result c =
         tiles_room = omega (arith, tiles_count, long, c.in_ok-tiles.ensures.room);
         heads = λ _. c.in_ok-tiles.ensures.heads;
       },
+      c.requires.beside,
       subst (Covers c.args.owners.remainders) (sym (standing_equal refl new_order ∙ standing_all slots)) c.requires.owners,
       kept_equal (sym c.deref-2.ensures.value) (sym c.deref-3.ensures.value) c.controller_slot-controller.ensures,
     )
@@ -36,7 +38,14 @@ returns c =
     let slots = c.args.slots.items in
     let count : c.len-2.result ≡ length slots = omega (arith, c.len-2.ensures, c.args.slots.ok.0) in
     let new_order : c.in_ok-order.order.items ≡ all_slots slots = c.in_ok-order.ensures.numbers ∙ ap (range_with_len 0) count in
-    rw (standing_equal refl new_order ∙ standing_all slots) refl
+    let tallies = c.args.tallies.items in
+    λ i. record {
+      index = c.args.index;
+      next = c.args.next;
+      objects = (standing_equal refl new_order ∙ standing_all slots) i;
+      spare = c.args.spare;
+      tallies = (tallied_equal {slots = slots} {tallies = tallies} refl refl new_order ∙ tallied_all slots tallies c.requires.beside.long) i;
+    }
 
 pub controller_slot-controller-requires : goal.controller_slot-controller-requires
 controller_slot-controller-requires c =

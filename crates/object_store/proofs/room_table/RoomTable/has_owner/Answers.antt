@@ -12,5 +12,5 @@ returns-else-may_have c =
     let player = c.args.player in
     let was = c.self.inside in
     let not : c.may_have.result ≡ false = c.if-may_have.false in
-    not ∙ sym (none_owned was.owners.remainders player (standing was.slots.items was.order.items) c.self.invariant.2 (λ may. both_ways c.may_have.result not (c.may_have.ensures may)))
+    not ∙ sym (none_owned was.owners.remainders player (standing was.slots.items was.order.items) c.self.invariant.3 (λ may. both_ways c.may_have.result not (c.may_have.ensures may)))
     ∙ ap (λ (t : Table). list_any (λ (o : Object). o.owner == player) t.objects) c.self.view_is

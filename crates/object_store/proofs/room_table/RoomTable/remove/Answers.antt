@@ -5,12 +5,15 @@ use Rattle.std.proofs.lemmas.List.Edits.{length-remove}
 use Rattle.object_store.specs.inner.Chains.{Chained}
 use Rattle.object_store.specs.inner.Owners.{Covers}
 use Rattle.object_store.specs.inner.Placed.{no_object, object_in, standing}
-use Rattle.object_store.specs.Tables.{Table, HasNoId, find_object}
+use Rattle.object_store.specs.Tables.{Table, HasNoId, find_object, removed}
+use Rattle.object_store.specs.declared.object.Object.{Object}
+use Rattle.std.specs.FinMap.{remove}
+use Rattle.object_store.proofs.TallyChanges.{tallied_absent, tallied_equal, tallied_remove}
 use Rattle.object_store.proofs.Changed.{standing_equal, placed_equal, taken}
 use Rattle.object_store.proofs.Keyed.{id_of}
 use Rattle.object_store.proofs.Kept.{is_it, kept_equal, kept_remove}
 use Rattle.object_store.proofs.Owned.{covers_filter}
-use Rattle.object_store.proofs.Placed.{known_at}
+use Rattle.object_store.proofs.Placed.{known_at, object_at}
 use Rattle.object_store.proofs.Rising.{is_other, others-absent}
 use Rattle.object_store.proofs.room_table.RoomTable.remove.Goals as goal
 
@@ -18,7 +21,16 @@ pub returns-in_err-place-clause-table : goal.returns-in_err-place-clause-table
 returns-in_err-place-clause-table c =
     let same = standing_equal c.deref.ensures.value c.deref-2.ensures.value ∙ ap (λ (t : Table). t.objects) c.self.view_is in
     let absent = subst (HasNoId c.args.id) same c.in_err-place.ensures.absent in
-    rw (others-absent id_of c.args.id c.args.self.now.objects absent) refl
+    let was = c.self.inside in
+    let gone = subst (HasNoId c.args.id) (standing_equal c.deref.ensures.value c.deref-2.ensures.value) c.in_err-place.ensures.absent in
+    let kept : c.args.self.now.tallies ≡ remove c.args.self.now.tallies c.args.id = subst (λ (t : Table). t.tallies ≡ remove t.tallies c.args.id) c.self.view_is (sym (tallied_absent was.slots.items was.tallies.items was.order.items c.args.id gone)) in
+    λ i. record {
+      index = c.args.self.now.index;
+      next = c.args.self.now.next;
+      objects = sym (others-absent id_of c.args.id c.args.self.now.objects absent) i;
+      spare = c.args.self.now.spare;
+      tallies = kept i;
+    }
 
 pub invariant_of-self : goal.invariant_of-self
 invariant_of-self c =
@@ -42,7 +54,8 @@ invariant_of-self c =
         tiles_room = omega (arith, room.tiles_room, tiles_count, ap (λ (t : Chained). t.room) c.take.ensures);
         heads = λ some. ap (λ (t : Chained). t.heads) c.take.ensures ∙ room.heads some;
       },
-      subst (Covers was.owners.remainders) (sym (standing_equal refl c.remove-slot.ensures.items ∙ done.objects)) (covers_filter was.owners.remainders (is_other id_of c.args.id) (standing slots order) c.self.invariant.2),
+      c.self.invariant.2,
+      subst (Covers was.owners.remainders) (sym (standing_equal refl c.remove-slot.ensures.items ∙ done.objects)) (covers_filter was.owners.remainders (is_other id_of c.args.id) (standing slots order) c.self.invariant.3),
       kept_equal (sym c.deref-3.ensures.value) (sym c.deref-4.ensures.value) c.kept_or_sought-self-inside.ensures,
     )
 
@@ -67,7 +80,14 @@ returns-clause-table c =
     let place = c.in_ok-place.place in
     let within : place < length order = subst (λ (xs : List ℕ). place < length xs) c.deref-2.ensures.value c.in_ok-place.ensures.found.0 in
     let done = taken was.slots.items order was.tiles.tiles place c.args.id _ (standing_equal c.deref.ensures.value c.deref-2.ensures.value) c.self.invariant.0 within c.in_ok-place.ensures.found.1 in
-    rw (standing_equal refl c.remove-slot.ensures.items ∙ done.objects, ← c.self.view_is) refl
+    let here = ap id_of (sym (object_at was.slots.items order place no_object within)) ∙ ap (λ (os : List Object). id_of (get_or os place no_object)) (sym (standing_equal c.deref.ensures.value c.deref-2.ensures.value)) ∙ c.in_ok-place.ensures.found.1 no_object in
+    (λ i. record {
+      index = was.index;
+      next = was.next;
+      objects = (standing_equal {slots = was.slots.items} refl c.remove-slot.ensures.items ∙ done.objects) i;
+      spare = was.spare;
+      tallies = (tallied_equal {slots = was.slots.items} {tallies = was.tallies.items} refl refl c.remove-slot.ensures.items ∙ tallied_remove was.slots.items was.tallies.items order place c.args.id done.objects here) i;
+    }) ∙ ap (removed c.args.id) c.self.view_is
 
 pub kept_or_sought-self-inside-requires-clause-kept : goal.kept_or_sought-self-inside-requires-clause-kept
 kept_or_sought-self-inside-requires-clause-kept c =
@@ -80,4 +100,4 @@ kept_or_sought-self-inside-requires-clause-kept c =
     let slot : c.remove-slot.result ≡ get_or order place 0 = get_or_read order place c.remove-slot.result within c.remove-slot.ensures.value 0 in
     let known : c.remove-slot.result < length slots = subst (λ n. n < length slots) (sym slot) (known_at slots order place placed.known within) in
     let read = get_or_read slots c.remove-slot.result c.index-removed.result.now known c.index-removed.ensures no_object ∙ ap (object_in slots) slot in
-    λ stays. kept_equal c.deref-3.ensures.value (c.deref-4.ensures.value ∙ c.remove-slot.ensures.items) (kept_remove slots order was.tiles.tiles place was.controller placed within c.self.invariant.3 (ap is_it (sym read) ∙ sym c.is_controller-stays.ensures ∙ not-true c.is_controller-stays.result stays))
+    λ stays. kept_equal c.deref-3.ensures.value (c.deref-4.ensures.value ∙ c.remove-slot.ensures.items) (kept_remove slots order was.tiles.tiles place was.controller placed within c.self.invariant.4 (ap is_it (sym read) ∙ sym c.is_controller-stays.ensures ∙ not-true c.is_controller-stays.result stays))

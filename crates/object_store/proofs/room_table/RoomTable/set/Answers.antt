@@ -8,6 +8,8 @@ use Rattle.object_store.specs.inner.Placed.{no_object, standing, tile_of_object,
 use Rattle.object_store.proofs.Changed.{placed_equal, replaced}
 use Rattle.object_store.proofs.Kept.{kept_equal, kept_set}
 use Rattle.object_store.proofs.Owned.{covers_set}
+use Rattle.object_store.specs.Tables.{Table, with_object}
+use Rattle.object_store.proofs.TallyChanges.{tallied_replace}
 use Rattle.object_store.proofs.room_table.RoomTable.set.Goals as goal
 
 pub invariant_of-self : goal.invariant_of-self
@@ -32,7 +34,8 @@ invariant_of-self c =
         tiles_room = omega (arith, room.tiles_room, tiles_count, ap (λ (t : Chained). t.room) c.shift.ensures);
         heads = λ some. ap (λ (t : Chained). t.heads) c.shift.ensures ∙ room.heads some;
       },
-      subst (Covers c.add.new.self.remainders) (sym done.stands) (covers_set _ _ object c.add.ensures.added c.add.ensures.kept (standing slots order) c.self.invariant.2 done.place),
+      record { long = c.self.invariant.2.long ∙ sym slots_count; room = omega (arith, c.self.invariant.2.room, slots_count); capped = c.self.invariant.2.capped },
+      subst (Covers c.add.new.self.remainders) (sym done.stands) (covers_set _ _ object c.add.ensures.added c.add.ensures.kept (standing slots order) c.self.invariant.3 done.place),
       kept_equal (sym c.deref-3.ensures.value) (sym c.deref-4.ensures.value) c.kept_or_sought-self-inside.ensures,
     )
 
@@ -45,7 +48,13 @@ returns c =
     let order = was.order.items in
     let stands = subst (λ os. StandsIn object.id slots os slot) c.deref-2.ensures.value (subst (λ ss. StandsIn object.id ss c.deref-2.result.now slot) c.deref.ensures.value c.slot_of-slot.ensures.stands) in
     let done = replaced slots order was.tiles.tiles slot object c.self.invariant.0 stands in
-    rw (done.stands ∙ done.objects, ← c.self.view_is) refl
+    (λ i. record {
+      index = was.index;
+      next = was.next;
+      objects = (done.stands ∙ done.objects) i;
+      spare = was.spare;
+      tallies = tallied_replace slots (set slots slot object) was.tallies.items order object (done.stands ∙ done.objects) i;
+    }) ∙ ap (λ (t : Table). record t { objects = with_object object t.objects }) c.self.view_is
 
 pub kept_or_sought-self-inside-requires-clause-kept : goal.kept_or_sought-self-inside-requires-clause-kept
 kept_or_sought-self-inside-requires-clause-kept c =
@@ -57,4 +66,4 @@ kept_or_sought-self-inside-requires-clause-kept c =
     let stands = subst (λ os. StandsIn object.id slots os slot) c.deref-2.ensures.value (subst (λ ss. StandsIn object.id ss c.deref-2.result.now slot) c.deref.ensures.value c.slot_of-slot.ensures.stands) in
     let known : slot < length slots = subst (λ (os : List Object). slot < length os) c.deref.ensures.value c.slot_of-slot.ensures.known in
     let kind = ap (λ (o : Object). o.kind) (get_or_read slots slot c.index.result.now known c.index.ensures no_object) in
-    λ stays. kept_equal c.deref-3.ensures.value c.deref-4.ensures.value (kept_set slots order was.tiles.tiles slot object c.self.invariant.0 stands was.controller c.self.invariant.3 (subst (λ k. Stays was.controller slot k object.kind) kind (c.stays-stays.ensures.0 stays)))
+    λ stays. kept_equal c.deref-3.ensures.value c.deref-4.ensures.value (kept_set slots order was.tiles.tiles slot object c.self.invariant.0 stands was.controller c.self.invariant.4 (subst (λ k. Stays was.controller slot k object.kind) kind (c.stays-stays.ensures.0 stays)))

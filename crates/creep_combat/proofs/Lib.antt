@@ -1,0 +1,3 @@
+pub mod Found
+pub mod Struck
+pub mod Tiles
