@@ -14,6 +14,7 @@ PARTS = ["move", "work", "carry", "attack", "ranged_attack", "tough", "heal", "c
 HITS = {"spawn": 5000, "extension": 1000, "storage": 10_000, "container": 250_000, "road": 5000}
 TOTALS = {"spawn": 15_000, "extension": 3000, "storage": 30_000, "container": 5000, "road": 300}
 MOST_PILE = 10**9
+MOST_SUM = 2**32 - 1
 
 NOT_OWNER, NOT_FOUND, NOT_ENOUGH, INVALID_TARGET, FULL = -1, -5, -6, -7, -8
 NOT_IN_RANGE, INVALID, TIRED, NO_BODYPART = -9, -10, -11, -12
@@ -87,10 +88,11 @@ def distance(one, other):
 
 
 class Action:
-    """An action of creeps: its number, the part that it needs, the kinds of its targets, and how far they may be."""
+    """An action of creeps: its number, the part that it needs, the kinds of its targets, how far they may be, and whether the creep itself may be
+    one."""
 
-    def __init__(self, number, part=None, targets=(), reach=0):
-        self.number, self.part, self.targets, self.reach = number, part, targets, reach
+    def __init__(self, number, part=None, targets=(), reach=0, itself=False):
+        self.number, self.part, self.targets, self.reach, self.itself = number, part, targets, reach, itself
 
 
 # Those that are in force, in the order in which a tick applies them.
@@ -99,22 +101,38 @@ ACTIONS = {
     "transfer": Action(2, None, ("creep", *STORES), 1),
     "withdraw": Action(3, None, STORES, 1),
     "pickup": Action(4, None, ("pile",), 1),
+    "heal": Action(5, "heal", ("creep",), 1, itself=True),
+    "ranged_heal": Action(6, "heal", ("creep",), 3, itself=True),
+    "dismantle": Action(7, "work", BUILDINGS, 1),
+    "attack": Action(8, "attack", ("creep", *BUILDINGS), 1),
     "harvest": Action(9, "work", ("source",), 1),
     "repair": Action(10, "work", BUILDINGS, 3),
     "build": Action(11, "work", ("site",), 3),
+    "ranged_mass_attack": Action(12, "ranged_attack"),
+    "ranged_attack": Action(13, "ranged_attack", ("creep", *BUILDINGS), 3),
+    "suicide": Action(14),
     "move": Action(22, "move"),
 }
 
 # What a step in a direction adds to x and to y, by its number: clockwise from the top.
 DIRECTIONS = {1: (0, -1), 2: (1, -1), 3: (1, 0), 4: (1, 1), 5: (0, 1), 6: (-1, 1), 7: (-1, 0), 8: (-1, -1)}
 
-# An entry doesn't count where the same creep has one of these actions too.
-DROPPED_BY = {"harvest": ("repair", "build"), "build": ("repair",)}
+# An entry doesn't count where the same creep has one of these actions too, whether that one counts or not.
+OVERRULED_BY = {
+    "ranged_heal": ("heal",),
+    "dismantle": ("heal", "ranged_heal"),
+    "repair": ("heal", "ranged_heal", "dismantle"),
+    "build": ("heal", "ranged_heal", "dismantle", "repair"),
+    "attack": ("heal", "ranged_heal", "dismantle", "repair", "build"),
+    "harvest": ("heal", "ranged_heal", "dismantle", "repair", "build", "attack"),
+    "ranged_mass_attack": ("ranged_heal", "repair", "build"),
+    "ranged_attack": ("ranged_heal", "repair", "build", "ranged_mass_attack"),
+}
 
 
 def counting(entries):
     """Those entries of a player that count, by action and creep."""
-    return {(name, id): it for (name, id), it in entries.items() if not any((other, id) in entries for other in DROPPED_BY.get(name, ()))}
+    return {(name, id): it for (name, id), it in entries.items() if not any((other, id) in entries for other in OVERRULED_BY.get(name, ()))}
 
 
 def refusal(name, player, actor, target, amount, least, objects):
@@ -132,11 +150,11 @@ def refusal(name, player, actor, target, amount, least, objects):
     if action.part and live(actor[1], action.part) == 0:
         return NO_BODYPART
     if action.targets:
-        if target is None or target[1]["kind"] not in action.targets or target[1] is actor[1]:
+        if target is None or target[1]["kind"] not in action.targets or target[1] is actor[1] and not action.itself:
             return INVALID_TARGET
         if target[0] != actor[0] or distance(target[1], actor[1]) > action.reach:
             return NOT_IN_RANGE
-    further = FURTHER[name](player, actor[1], target and target[1], least, objects)
+    further = FURTHER[name](player, actor[1], target and target[1], least, objects) if name in FURTHER else ()
     return next((code for holds, code in further if not holds), 0)
 
 
@@ -152,7 +170,7 @@ def of_build(player, creep, site, _, objects):
     return (site["owner"] == player, NOT_OWNER), (creep["energy"] > 0, NOT_ENOUGH), (not taken, INVALID_TARGET)
 
 
-# What each checks last, in order: whether it holds, and the code where it doesn't.
+# What some check last, in order: whether it holds, and the code where it doesn't.
 FURTHER = {
     "drop": lambda _, creep, __, least, ___: ((creep["energy"] >= least, NOT_ENOUGH),),
     "transfer": lambda _, creep, taker, least, objects: ((creep["energy"] >= least, NOT_ENOUGH), (free_room(taker, objects) >= least, FULL)),
@@ -168,12 +186,33 @@ FURTHER = {
 # ---- what they make of the world
 
 
+class Harm:
+    """The damage and the healing of a tick, summed by the ids of the objects that get it at its end."""
+
+    def __init__(self):
+        self.damage, self.healing = {}, {}
+
+    def hurt(self, one, amount):
+        self.damage[one["id"]] = min(MOST_SUM, self.damage.get(one["id"], 0) + amount)
+
+    def heal(self, one, amount):
+        self.healing[one["id"]] = min(MOST_SUM, self.healing.get(one["id"], 0) + amount)
+
+    def hits_left(self, one):
+        """The hits that a creep or a building has then."""
+        left = one["hits"] - self.damage.get(one["id"], 0)
+        if one["kind"] != "creep":
+            return max(0, left)
+        # (one that has ended itself isn't brought back)
+        return min(hits_max(one), max(0, left + self.healing.get(one["id"], 0))) if one["hits"] else 0
+
+
 class Course:
     """The rooms of a world in the course of a tick, in which objects are found by their ids, and piles by their tiles. New objects stand
     at the end of their room."""
 
-    def __init__(self, rooms):
-        self.rooms = rooms
+    def __init__(self, rooms, harm=None):
+        self.rooms, self.harm = rooms, harm or Harm()
         self.found = {one["id"]: (index, one) for index, place in enumerate(rooms) for one in place["objects"]}
         self.piles = {(index, one["x"], one["y"]): one for index, one in self.found.values() if one["kind"] == "pile"}
 
@@ -192,6 +231,11 @@ class Course:
         del self.found[one["id"]]
         if one["kind"] == "pile":
             del self.piles[index, one["x"], one["y"]]
+
+    def lose(self, index, one):
+        """An object is gone, and its energy falls on its tile."""
+        self.remove(index, one)
+        self.fall(index, one, one["energy"])
 
     def fall(self, index, one, amount):
         """An amount falls on the tile of an object."""
@@ -247,12 +291,32 @@ class Course:
         if pile["energy"] == 0:
             self.remove(index, pile)
 
-    def do_harvest(self, index, creep, source, _):
-        amount = min(2 * live(creep, "work"), source["energy"])
+    def gain(self, index, creep, amount):
+        """A creep gets an amount, and what it has no room for falls on its tile."""
         taken = min(amount, self.room_for(index, creep))
-        source["energy"] -= amount
         creep["energy"] += taken
         self.fall(index, creep, amount - taken)
+
+    def do_heal(self, _, creep, target, __):
+        self.harm.heal(target, 12 * live(creep, "heal"))
+
+    def do_ranged_heal(self, _, creep, target, __):
+        self.harm.heal(target, 4 * live(creep, "heal"))
+
+    def do_dismantle(self, index, creep, building, _):
+        torn = 50 * live(creep, "work")
+        self.harm.hurt(building, torn)
+        self.gain(index, creep, min(torn, building["hits"]) // 200)
+
+    def do_attack(self, _, creep, target, __):
+        self.harm.hurt(target, 30 * live(creep, "attack"))
+        if target["kind"] == "creep":
+            self.harm.hurt(creep, 30 * live(target, "attack"))
+
+    def do_harvest(self, index, creep, source, _):
+        amount = min(2 * live(creep, "work"), source["energy"])
+        source["energy"] -= amount
+        self.gain(index, creep, amount)
 
     def do_repair(self, _, creep, building, __):
         gain = min(100 * live(creep, "work"), hits_max(building) - building["hits"], 100 * creep["energy"])
@@ -270,3 +334,16 @@ class Course:
         timer = full_timer(kind, self.rooms[index]["objects"])
         owner = site["owner"] if kind in ("spawn", "extension", "storage") else 0
         self.make(index, kind, site["x"], site["y"], owner=owner, hits=HITS[kind], timer=timer)
+
+    def do_ranged_mass_attack(self, index, creep, _, __):
+        parts = live(creep, "ranged_attack")
+        for one in self.rooms[index]["objects"]:
+            is_foe = one["kind"] in ("creep", *BUILDINGS) and one["owner"] not in (0, creep["owner"])
+            if is_foe and distance(one, creep) <= 3:
+                self.harm.hurt(one, (10, 10, 4, 1)[distance(one, creep)] * parts)
+
+    def do_ranged_attack(self, _, creep, target, __):
+        self.harm.hurt(target, 10 * live(creep, "ranged_attack"))
+
+    def do_suicide(self, _, creep, __, ___):
+        creep["hits"] = 0

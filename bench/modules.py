@@ -56,9 +56,16 @@ HOST_CALLS = {
     "transfer": (I64 * 2 + I32, I32),
     "withdraw": (I64 * 2 + I32, I32),
     "pickup": (I64 * 2, I32),
+    "heal": (I64 * 2, I32),
+    "ranged_heal": (I64 * 2, I32),
+    "dismantle": (I64 * 2, I32),
+    "attack": (I64 * 2, I32),
     "harvest": (I64 * 2, I32),
     "repair": (I64 * 2, I32),
     "build": (I64 * 2, I32),
+    "ranged_mass_attack": (I64, I32),
+    "ranged_attack": (I64 * 2, I32),
+    "suicide": (I64, I32),
     "move": (I64 + I32, I32),
 }
 

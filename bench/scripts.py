@@ -139,6 +139,18 @@ class Desk:
     def answer_pickup(self, _, id, target):
         return self.acted("pickup", id, target)
 
+    def answer_heal(self, _, id, target):
+        return self.acted("heal", id, target)
+
+    def answer_ranged_heal(self, _, id, target):
+        return self.acted("ranged_heal", id, target)
+
+    def answer_dismantle(self, _, id, target):
+        return self.acted("dismantle", id, target)
+
+    def answer_attack(self, _, id, target):
+        return self.acted("attack", id, target)
+
     def answer_harvest(self, _, id, target):
         return self.acted("harvest", id, target)
 
@@ -147,6 +159,15 @@ class Desk:
 
     def answer_build(self, _, id, target):
         return self.acted("build", id, target)
+
+    def answer_ranged_mass_attack(self, _, id):
+        return self.acted("ranged_mass_attack", id)
+
+    def answer_ranged_attack(self, _, id, target):
+        return self.acted("ranged_attack", id, target)
+
+    def answer_suicide(self, _, id):
+        return self.acted("suicide", id)
 
     def answer_move(self, _, id, direction):
         return self.acted("move", id, amount=direction)

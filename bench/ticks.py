@@ -1,5 +1,5 @@
 #!/usr/bin/env python3
-"""Measures the rules of a tick in the built program: python3 bench/ticks.py PROGRAM [--quick] [--works] [--moves].
+"""Measures the rules of a tick in the built program: python3 bench/ticks.py PROGRAM [--quick] [--works] [--moves] [--fights].
 
 Run it in the repository's top folder once the program is built (README.md). A tick's time is that of bench/players.py: the difference of
 runs of several ticks and of one. Where players drop, the same players make the same calls in a second run, each for more than the creep
@@ -15,10 +15,15 @@ take together, less that of the empty `loop`; it should be at most a microsecond
 The third table has worlds whose creeps move (bench/moves.py), in the same columns: rooms that are full of them, in rings and chains, against walls
 and all onto few tiles, 20,000 creeps in 400 rooms, and a crosser at each exit. There the same calls are refused because the creeps are tired.
 
+The fourth table has worlds whose creeps fight (bench/fights.py), in the same columns: a room full of creeps that each attack all around, groups that
+shoot one and heal him, and 20,000 creeps that strike each other. A line says what a mass attack takes for each object in its range. Then come
+rooms of creeps with full loads that all die of age in one tick, beside the same that live on, and what each death takes; for one room alone, whose
+deaths are all in one tick that is measured once, that is hardly more than noise.
+
 Where crates/world_bench is built, a line says what a copy of the tables of 400 rooms takes, to hold the tick without entries against.
 Where valgrind is installed the last table has the allocations of a tick and their bytes, by the difference of runs of
 three ticks and of one. With --quick each row is run once, in fewer ticks, and there is no last table. With --works there is the second
-table alone, and with --moves the third.
+table alone, with --moves the third, and with --fights the fourth.
 """
 
 import os
@@ -29,12 +34,13 @@ import sys
 import tempfile
 import time
 
+from fights import SHAPES as FIGHT_SHAPES, Fight, dying, pairs_in_range
 from game import SECOND, thing
 from moves import SHAPES as MOVE_SHAPES, Movement
 from players import Bench, EMPTY, TILES, for_each, of_rooms, players_of, road, together
 from scripts import Script, unkept
 from works import SHAPES, Work
-from worlds import upload_entry
+from worlds import bytes_of, upload_entry
 
 TICKS = 20
 TOP = os.path.dirname(os.path.dirname(os.path.abspath(__file__)))
@@ -137,6 +143,32 @@ def moves(bench):
         entry_row(bench, shape.name, Movement(shape), Movement(shape, refused=True))
 
 
+def fights(bench):
+    """Creeps that all fight, and that can't; and those that die."""
+    entry_head("creeps that fight")
+    for shape in FIGHT_SHAPES:
+        it = Fight(shape)
+        each = entry_row(bench, shape.name, it, Fight(shape, refused=True))
+        if shape is FIGHT_SHAPES[0]:
+            around = pairs_in_range(it.rooms[0]) / it.entries()
+            print(f"    with {around:.1f} objects in its range on the average a mass attack takes {each / around:.1f} ns for each")
+    print(f"{'creeps that die with full loads':44}{'objects':>8}{'deaths':>8}{'tick ms':>9}{'none dies':>11}{'ns a death':>12}")
+    death_row(bench, "one room in one tick", [2])
+    death_row(bench, "one room, the piles in front of all ids", [2], [1])
+    death_row(bench, "eight rooms in one tick", [2] * 8)
+    death_row(bench, "eight rooms, one after the other", range(2, 10))
+
+
+def death_row(bench, name, timers, births=None):
+    """Rooms of creeps whose timers come to their end from the second tick on, beside those that live on."""
+    # (with --quick the tick after the first one and two more are played at most)
+    ticks, objects = min(max(timers) - 1, 3 if bench.quick else TICKS), len(timers) * len(TILES)
+    deaths = sum(it <= 1 + ticks for it in timers) * len(TILES) / ticks
+    dies, _ = bench.tick(bytes_of(dying(timers, births)), b"", ticks)
+    lives, _ = bench.tick(bytes_of(dying([1500] * len(timers), births)), b"", ticks)
+    print(f"{name:44}{objects:8,}{deaths:8,.0f}{dies * 1e3:9.2f}{lives * 1e3:11.2f}{(dies - lives) * 1e9 / deaths:12,.0f}", flush=True)
+
+
 def works(bench):
     """1,000 creeps that each do one thing, and whether no entry takes more than it should."""
     entry_head("1,000 creeps")
@@ -180,13 +212,13 @@ def copies(first):
 
 
 def main():
-    words = [word for word in sys.argv[1:] if word not in ("--quick", "--works", "--moves")]
+    words = [word for word in sys.argv[1:] if word not in ("--quick", "--works", "--moves", "--fights")]
     if len(words) != 1 or not os.path.isfile(words[0]):
-        sys.exit("no program: python3 bench/ticks.py PROGRAM [--quick] [--works] [--moves]")
+        sys.exit("no program: python3 bench/ticks.py PROGRAM [--quick] [--works] [--moves] [--fights]")
     place = "/dev/shm" if os.path.isdir("/dev/shm") else None
     with tempfile.TemporaryDirectory(dir=place) as folder:
         bench = Bench(os.path.abspath(words[0]), folder, "--quick" in sys.argv)
-        alone = [table for word, table in (("--works", works), ("--moves", moves)) if word in sys.argv]
+        alone = [table for word, table in (("--works", works), ("--moves", moves), ("--fights", fights)) if word in sys.argv]
         for table in alone:
             table(bench)
         if alone:
@@ -203,7 +235,7 @@ def main():
         seen, _ = bench.tick(together(64, 300), for_each(64, EMPTY), TICKS)
         copies(scattered(False)[0])
         print(f"64 players in each of 300 rooms, idle and with empty loops: {idle * 1e3:.2f} and {seen * 1e3:.2f} ms")
-        for table in (works, moves):
+        for table in (works, moves, fights):
             print()
             table(bench)
         if bench.quick or not shutil.which("valgrind"):

@@ -3,51 +3,95 @@
 It is a second writing of the rules in docs/formats.md, as bench/game.py is, which shares nothing with the program.
 """
 
-from game import Course, full_timer, live, source_room
+from game import BUILDINGS, Course, full_timer, live, source_room
 
 LOSSES = {"container": 5000, "road": 100}
+OF_A_SPAWN = 300
 
 
-def recovered(creep):
-    """Fatigue falls by 2 for each move part that has hits."""
-    creep["extra"] = max(0, creep["extra"] - 2 * live(creep, "move"))
+# ---- the steps: each of an object, which stands in the room of an index
 
 
-def renewed(source, most):
-    if source["timer"] > 0:
-        source["timer"] -= 1
-        if source["timer"] == 0:
-            source["energy"] = max(source["energy"], most)
-    elif source["energy"] < most:
-        source["timer"] = 300
-
-
-def weathered(course, index, building):
-    """The timer of a container or a road falls; at 0 it loses hits and is full again. Without hits the building is gone, and what it held
-    falls on its tile."""
-    building["timer"] -= 1
-    if building["timer"] > 0:
+def struck(course, index, one):
+    """Damage and healing come to a creep or a building; without hits it is gone."""
+    if one["kind"] not in ("creep", *BUILDINGS):
         return
-    building["hits"] = max(0, building["hits"] - LOSSES[building["kind"]])
-    building["timer"] = full_timer(building["kind"], course.rooms[index]["objects"])
-    if building["hits"] == 0:
-        course.remove(index, building)
-        course.fall(index, building, building["energy"])
+    one["hits"] = course.harm.hits_left(one)
+    if one["hits"] == 0:
+        course.lose(index, one)
 
 
-def settled(rooms):
+def unloaded(course, index, one):
+    """What a creep carries above what its live carry parts hold falls on its tile."""
+    if one["kind"] == "creep":
+        above = max(0, one["energy"] - 50 * live(one, "carry"))
+        one["energy"] -= above
+        course.fall(index, one, above)
+
+
+def aged(course, index, one):
+    """A creep's timer falls; at 0 it is gone."""
+    if one["kind"] == "creep":
+        one["timer"] -= 1
+        if one["timer"] == 0:
+            course.lose(index, one)
+
+
+def recovered(_, __, one):
+    """Fatigue falls by 2 for each move part that has hits."""
+    if one["kind"] == "creep":
+        one["extra"] = max(0, one["extra"] - 2 * live(one, "move"))
+
+
+def filled(course, index, one):
+    """A spawn gains 1 where the spawns and extensions of its owner hold less together than one spawn may."""
+    if one["kind"] != "spawn" or one["energy"] >= OF_A_SPAWN:
+        return
+    others = course.rooms[index]["objects"]
+    held = sum(it["energy"] for it in others if it["kind"] in ("spawn", "extension") and it["owner"] == one["owner"])
+    one["energy"] += held < OF_A_SPAWN
+
+
+def renewed(course, index, one):
+    if one["kind"] != "source":
+        return
+    most = source_room(course.rooms[index]["objects"])
+    if one["timer"] > 0:
+        one["timer"] -= 1
+        if one["timer"] == 0:
+            one["energy"] = max(one["energy"], most)
+    elif one["energy"] < most:
+        one["timer"] = 300
+
+
+def weathered(course, index, one):
+    """The timer of a container or a road falls; at 0 it loses hits and is full again. Without hits the building is gone."""
+    if one["kind"] not in LOSSES:
+        return
+    one["timer"] -= 1
+    if one["timer"] > 0:
+        return
+    one["hits"] = max(0, one["hits"] - LOSSES[one["kind"]])
+    one["timer"] = full_timer(one["kind"], course.rooms[index]["objects"])
+    if one["hits"] == 0:
+        course.lose(index, one)
+
+
+def dwindled(course, index, one):
+    """A pile loses a thousandth, rounded up; at 0 it is gone."""
+    if one["kind"] == "pile":
+        one["energy"] -= -(-one["energy"] // 1000)
+        if one["energy"] == 0:
+            course.remove(index, one)
+
+
+STEPS = (struck, unloaded, aged, recovered, filled, renewed, weathered, dwindled)
+
+
+def settled(rooms, harm):
     """The steps of upkeep in all rooms, one after the other, each over the objects in rising id."""
-    course = Course(rooms)
+    course = Course(rooms, harm)
     for index, place in enumerate(rooms):
-        for one in place["objects"]:
-            if one["kind"] == "creep":
-                recovered(one)
-            if one["kind"] == "source":
-                renewed(one, source_room(place["objects"]))
-        for one in sorted(place["objects"], key=lambda one: one["id"]):
-            if one["kind"] in LOSSES:
-                weathered(course, index, one)
-        for one in place["objects"]:
-            if one["kind"] == "pile":
-                one["energy"] -= -(-one["energy"] // 1000)
-        place["objects"] = [one for one in place["objects"] if one["kind"] != "pile" or one["energy"] > 0]
+        for step in STEPS:
+            for one in sorted(place["objects"], key=lambda one: one["id"]):
+                step(course, index, one)

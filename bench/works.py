@@ -8,11 +8,12 @@ recorded and do something, tick after tick, and one in which the same calls are 
 runs no program: it has bench/scripts.py and bench/worlds.py play some ticks of each world, and says where something else happens.
 """
 
+from called import CalledWorld
 from game import FULL, INVALID_TARGET, NOT_ENOUGH, SECOND, thing
 from players import TILES, of_rooms, players_of
 from rules import broken
-from scripts import Desk, Script, unkept
-from worlds import Run, acted, full, room, ticked, world, upload_entry
+from scripts import Desk
+from worlds import Run, acted, full, room, ticked, world
 
 COUNT = 1000
 PLENTY = 100_000_000
@@ -99,7 +100,7 @@ SHAPES = [
 ]
 
 
-class Work:
+class Work(CalledWorld):
     """The world of a shape in so many rooms, and the calls of each player in it."""
 
     def __init__(self, shape, rooms, refused=False):
@@ -107,29 +108,14 @@ class Work:
         for number in range(COUNT):
             home = pairs[number % rooms]
             home.append(Pair(shape, refused, number % rooms, len(home), 1 + number % shape.players))
-        self.rooms = [[one for pair in home for one in pair.objects()] for home in pairs]
+        super().__init__([[one for pair in home for one in pair.objects()] for home in pairs], {})
         self.players = players_of(shape.players)
-        self.calls = {}
         for home in pairs:
             for pair in home:
                 self.calls.setdefault(pair.owner, []).extend(shape.calls(pair, home))
 
     def world(self):
         return of_rooms(self.rooms, self.players)
-
-    def objects(self):
-        return sum(len(objects) for objects in self.rooms)
-
-    def entries(self):
-        return sum(len(calls) for calls in self.calls.values())
-
-    def uploads(self):
-        """The upload stream of players who make these calls in each tick."""
-        stream = b""
-        for number, calls in sorted(self.calls.items()):
-            code = [instruction for call in calls for instruction in unkept(*call)]
-            stream += upload_entry(0, number, Script(code, pages=None).content)
-        return stream
 
 
 # ---- what the shapes do, without the program

@@ -9,7 +9,7 @@ import copy
 import json
 import struct
 
-from game import ACTIONS, FIELDS, KINDS, PARTS, Course, counting, hits_max, place_of, thing
+from game import ACTIONS, FIELDS, KINDS, PARTS, Course, Harm, counting, hits_max, place_of, thing
 from movement import crossed, moved
 from upkeep import settled
 
@@ -273,10 +273,10 @@ def in_rising_id(it):
         place["objects"].sort(key=lambda one: one["id"])
 
 
-def acted(it, runs):
-    """What the entries of these runs make of a world: how often an action had an effect, and how often it had none. Creeps step when all
-    else is done."""
-    course, done, moves = Course(it["rooms"]), {}, []
+def acted(it, runs, harm=None):
+    """What the entries of these runs make of a world: how often an action had an effect, and how often it had none. Damage and healing are
+    summed beside it. Creeps step when all else is done."""
+    course, done, moves = Course(it["rooms"], harm), {}, []
     wanted = [(run.player, counting(run.entries)) for run in sorted(runs, key=lambda run: run.player)]
     for action in ACTIONS:
         for player, entries in wanted:
@@ -297,8 +297,9 @@ def ticked(it, runs=()):
     """The world after a tick with these runs."""
     it = full(it)
     it["tick"] += 1
-    acted(it, runs)
-    settled(it["rooms"])
+    harm = Harm()
+    acted(it, runs, harm)
+    settled(it["rooms"], harm)
     crossed(it["rooms"])
     in_rising_id(it)
     for account in it["players"]:

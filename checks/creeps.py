@@ -4,7 +4,8 @@
 It runs behind `rt ci`, which builds crates/world_server/out/world_server. First come rooms whose tick is worked out by hand, which both
 the program and bench/game.py have to meet; then all calls over all sorts of objects; then random ones, of which every object is compared
 after each tick. With --model no program is run, and bench/game.py alone is held against the rooms that are worked out. Who steps where is
-the subject of checks/moves.py; here creeps step and cross among all the other things that they do.
+the subject of checks/moves.py, and how creeps fight and die that of checks/fights.py; here creeps step and cross among all the other things
+that they do.
 """
 
 import os
@@ -19,11 +20,11 @@ from checked_program import Checks  # noqa: E402
 from compared_runs import world_faults  # noqa: E402
 from game import ACTIONS, DIRECTIONS, FULL, INVALID, INVALID_TARGET, NO_BODYPART, NOT_ENOUGH, NOT_FOUND, NOT_IN_RANGE, NOT_OWNER, SECOND, TIRED, distance, thing  # noqa: E402
 from scripts import MOST_ENTRIES, Table  # noqa: E402
+from worked_rooms import FIRST_NEW, Case, check_cases, with_ids  # noqa: E402
 from worlds import Step, Upload, account_of, acted, full, grounds, objects_of, room, ticked, world  # noqa: E402
 
 checks = Checks(__file__, "--model" not in sys.argv[1:])
 WORKER = ["work", "carry"]
-FIRST_NEW = 20
 
 
 def play(name, first, ticks, uploads, **others):
@@ -54,26 +55,15 @@ def pile(serial, x, y, energy):
 # ---- rooms that are worked out by hand
 
 
-class Case:
-    """A room whose tick is worked out by hand. Ids are the serials of the room.
-
-    A call is a player, its name, its arguments, and its answer. After the tick the named fields have these values, some objects are gone,
-    and new ones stand there, from serial 20 on. All else is as it was, but the timers of containers and roads are less by 1."""
-
-    def __init__(self, name, objects, calls, after=(), gone=(), new=()):
-        self.name, self.objects, self.calls = name, objects, calls
-        self.after, self.gone, self.new = dict(after), gone, list(new)
-
-
 def falls(number, one, energy):
     """A new pile on the tile of an object, the serial being counted from the first new one."""
     return pile(FIRST_NEW + number, one["x"], one["y"], energy)
 
 
 def built(number, kind, at, timer=0, owner=0):
-    """A building where a site was; of a container or a road the timer has run for a tick."""
+    """A building where a site was; of a container or a road the timer has run for a tick, and a spawn has gained its first energy."""
     x, y = at
-    fields = {"owner": owner} if owner else {}
+    fields = {"owner": owner, "energy": int(kind == "spawn")} if owner else {}
     return thing(kind, FIRST_NEW + number, x, y, timer=timer, **fields)
 
 
@@ -146,13 +136,14 @@ def of_handing():
         "a load that is handed on, the giver having the lesser id",
         [spawn, creep(2, 12, 10, 50), creep(3, *EAST, 1)],
         [(1, "transfer", 3, 1, 0, 0), (1, "transfer", 2, 3, 0, 0)],
-        {1: {"energy": 150}, 2: {"energy": 1}, 3: {"energy": 0}},
+        # (a spawn that holds less than 300 gains 1 at the end of a tick)
+        {1: {"energy": 151}, 2: {"energy": 1}, 3: {"energy": 0}},
     )
     yield Case(
         "a load that is handed on, the giver having the greater id",
         [spawn, creep(2, *EAST, 1), creep(3, 12, 10, 50)],
         [(1, "transfer", 3, 2, 0, 0), (1, "transfer", 2, 1, 0, 0)],
-        {1: {"energy": 101}, 2: {"energy": 50}, 3: {"energy": 0}},
+        {1: {"energy": 102}, 2: {"energy": 50}, 3: {"energy": 0}},
     )
     container = thing("container", 1, 10, 10, energy=30, timer=9)
     yield Case(
@@ -165,8 +156,8 @@ def of_handing():
         "another's spawn and storage, and a creep of his",
         [thing("spawn", 1, 10, 10, owner=2, energy=300), creep(2, *EAST, body=["carry"] * 3), creep(3, 12, 10, 7, owner=2), thing("storage", 4, 12, 11, owner=2, energy=9), creep(5, *SOUTH, 8)],
         [(1, "withdraw", 2, 1, 0, 0), (2, "transfer", 3, 2, 4, 0), (1, "transfer", 5, 3, 6, NOT_IN_RANGE), (1, "withdraw", 5, 4, 2, NOT_IN_RANGE), (1, "transfer", 2, 4, 1, NOT_ENOUGH)],
-        # (4 come before 146 of the spawn's 300)
-        {1: {"energy": 154}, 2: {"energy": 150}, 3: {"energy": 3}},
+        # (4 come before 146 of the spawn's 300, and then it gains 1)
+        {1: {"energy": 155}, 2: {"energy": 150}, 3: {"energy": 3}},
     )
     for level, energy, given, left in ((0, 45, 50, 45), (6, 45, 50, 45), (7, 45, 95, 0), (8, 190, 200, 40)):
         room_of = [controller(1, 1, level)] if level else []
@@ -282,7 +273,7 @@ def of_several():
             *((1, "transfer", 2, target, amount, answer) for target, amount, answer in ((3, 30, 0), (4, 7, 0), (3, 41, NOT_ENOUGH), (1, 1, INVALID_TARGET))),
             *((1, "harvest", 2, target, answer) for target, answer in ((1, 0), (5, 0), (4, INVALID_TARGET))),
         ],
-        {2: {"energy": 35}, 4: {"energy": 7}, 5: {"energy": 998, "timer": 300}},
+        {2: {"energy": 35}, 3: {"energy": 101}, 4: {"energy": 7}, 5: {"energy": 998, "timer": 300}},
     )
     # (by player, then by creep, and drops before harvests before works)
     first, second, third = creep(2, 8, 8, 9, owner=2), creep(3, 8, 12, 9), creep(4, *WEST, body=["work"])
@@ -393,61 +384,10 @@ def of_refusals():
     yield Case("another's room, and an empty source", taken, [(1, "harvest", 2, 1, NOT_OWNER)], {1: {"timer": 8}})
 
 
-def with_ids(index, one):
-    return {**one, "id": index * SECOND + one["id"]}
-
-
-def called(index, call):
-    """A call with ids in place of serials."""
-    name, *arguments = call
-    ids = 2 if ACTIONS[name].targets else 1
-    return (name, *[index * SECOND + it for it in arguments[:ids]], *arguments[ids:])
-
-
-def expected(index, case):
-    """The objects after the tick, by their ids."""
-    before = full(world(room("E0S0", FIRST_NEW, *case.objects)))["rooms"][0]["objects"]
-    for one in before:
-        one["timer"] -= one["kind"] in ("container", "road")
-    new = full(world(room("E0S0", FIRST_NEW, *case.new)))["rooms"][0]["objects"]
-    objects = [{**one, **case.after.get(one["id"], {})} for one in before if one["id"] not in case.gone]
-    return [with_ids(index, one) for one in objects + new]
-
-
-def case_faults(index, case, place):
-    """What differs in a room from what was worked out."""
-    found, faults = {one["id"]: one for one in place["objects"]}, []
-    for one in expected(index, case):
-        got = found.pop(one["id"], None)
-        if got is None:
-            faults.append(f"{one['kind']} {one['id'] % SECOND} is not there")
-        elif got != one:
-            faults += [f"{field} of {one['kind']} {one['id'] % SECOND} is {got[field]} and not {one[field]}" for field in one if got[field] != one[field]]
-    faults += [f"{one['kind']} {one['id'] % SECOND} is there" for one in found.values()]
-    if place["next"] != FIRST_NEW + len(case.new):
-        faults.append(f"next is {place['next']} and not {FIRST_NEW + len(case.new)}")
-    return faults
-
-
 def check_worked():
     """All rooms that are worked out by hand, in one run."""
     cases = [*of_harvest(), *of_handing(), *of_piles(), *of_work(), *of_several(), *of_decay(), *of_refusals()]
-    rooms = [room(f"E{index}S0", FIRST_NEW, *[with_ids(index, one) for one in case.objects]) for index, case in enumerate(cases)]
-    first = world(*rooms, players=[player(1), player(2)])
-    calls = {number: [(called(index, call[:-1]), call[-1], case) for index, case in enumerate(cases) for by, *call in case.calls if by == number] for number in (1, 2)}
-    uploads = [Upload(0, number, Table([call for call, _, _ in listed])) for number, listed in calls.items()]
-    failed = checks.failed
-    steps = play("rooms that are worked out by hand", first, 2, uploads)
-    if checks.failed > failed:
-        print("    where " + "; ".join(f"room {index} is: {case.name}" for index, case in enumerate(cases)))
-    after = steps[0].world
-    for number, listed in calls.items():
-        text = bytes.fromhex(account_of(after, number)["memory"])
-        answers = struct.unpack(f"<{len(listed)}q", text)
-        for (call, wanted, case), got in zip(listed, answers):
-            checks.note(f"{case.name}: a call of player {number}", [] if got == wanted else [f"{call} answered {got} and not {wanted}"])
-    for index, case in enumerate(cases):
-        checks.note(case.name, case_faults(index, case, after["rooms"][index]))
+    check_cases(checks, "rooms that are worked out by hand", cases, [player(1), player(2)])
 
 
 # ---- all calls over all sorts of objects
@@ -558,7 +498,7 @@ def check_full_record():
 
 # Where the crowd of a room is, by a letter of its name: along x and along y.
 CROWDED = {"E": range(12), "W": range(38, 50), "S": range(12), "N": range(38, 50)}
-WITHOUT_MOVE = [name for name in ACTIONS if name != "move"]
+WORKS = ["drop", "transfer", "withdraw", "pickup", "harvest", "repair", "build"]
 
 
 class Draw:
@@ -579,7 +519,7 @@ class Draw:
         hits = 100 * len(body) if self.chance(0.7) else self.random.randrange(1, 100 * len(body) + 1)
         live = [part for place, part in enumerate(body) if hits > 100 * (len(body) - 1 - place)]
         most = 50 * live.count("carry")
-        return thing("creep", serial, x, y, owner=self.random.choice((1, 2)), body=body, hits=hits, energy=self.random.choice((0, most, self.random.randint(0, most))), timer=9, extra=self.random.choice((0, 0, 0, self.random.randint(1, 40))))
+        return thing("creep", serial, x, y, owner=self.random.choice((1, 2)), body=body, hits=hits, energy=self.random.choice((0, most, self.random.randint(0, most))), timer=self.random.choice((self.random.randint(1, 70), 1500, 1500)), extra=self.random.choice((0, 0, 0, self.random.randint(1, 40))))
 
     def fixed(self, serial, x, y, kind):
         """A thing that obstructs or lies about."""
@@ -659,12 +599,12 @@ class Draw:
                 if one["kind"] != "creep" or one["owner"] != number:
                     continue
                 # (much of what a creep does is dropped by repairs and builds of its own)
-                names = ["harvest"] if self.chance(0.2) else self.random.sample(WITHOUT_MOVE, self.random.choice((1, 1, 2, 3, 7)))
+                names = ["harvest"] if self.chance(0.2) else self.random.sample(WORKS, self.random.choice((1, 1, 2, 3, 7)))
                 targets = [(name, self.near(name, one, place["objects"])) for name in names]
                 found += [self.call(name, one["id"], target) for name, target in targets if target or name == "drop"]
                 found += [("move", one["id"], self.heading(place, one))] if self.chance(0.6) else []
         for _ in range(5):
-            found.append(self.call(self.random.choice(list(ACTIONS)), self.random.choice(everything), self.random.choice(everything)))
+            found.append(self.call(self.random.choice([*WORKS, "move"]), self.random.choice(everything), self.random.choice(everything)))
         self.random.shuffle(found)
         return found
 
@@ -702,7 +642,7 @@ def check_randoms():
     for seed, ticks in ((1, 70), (2, 70), (3, 70)):
         count_into(done, check_random(seed, ticks))
     # (a drop that was recorded always does something, and a source is seldom emptied before its last creep)
-    least = {(name, effect): 20 for name in ACTIONS for effect in (True, False)} | {("drop", False): 0, ("harvest", False): 1}
+    least = {(name, effect): 20 for name in (*WORKS, "move") for effect in (True, False)} | {("drop", False): 0, ("harvest", False): 1}
     few = [f"{name} {'did something' if effect else 'did nothing'} {done.get((name, effect), 0)} times" for (name, effect), most in least.items() if done.get((name, effect), 0) < most]
     checks.note("random calls of each action do something, and nothing, often enough", few)
     crossings = done["crossings"]

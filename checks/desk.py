@@ -3,7 +3,7 @@
 
 It runs behind `rt ci`, which builds crates/world_server/out/world_server. What is compared with is worked out by
 bench/scripts.py, which has the table of the host's calls, and bench/worlds.py, which has the formats and the tick. A row
-is a call with its answer, or a run with all that it does. What creeps do to other objects is the subject of checks/creeps.py.
+is a call with its answer, or a run with all that it does. What creeps do to other objects is the subject of checks/creeps.py and checks/fights.py.
 With --model no program is run, and it is only seen that the worlds keep the rules.
 """
 
@@ -416,8 +416,7 @@ def function_of(kind=1):
     return b"\0" + leb(kind)
 
 
-LATER = "heal ranged_heal dismantle attack ranged_mass_attack ranged_attack suicide claim_controller"
-LATER += " upgrade reserve attack_controller create_site remove_site spawn_creep"
+LATER = "claim_controller upgrade reserve attack_controller create_site remove_site spawn_creep"
 
 
 def import_refusals():
@@ -667,20 +666,20 @@ def check_rows():
 
 
 def check_harvests():
-    """A creep between a source and a spawn."""
+    """A creep between a source and a spawn, which gains 1 by itself in each tick."""
     owned = thing("controller", 1, 5, 5, owner=1, extra=1, timer=20_000)
     creep = thing("creep", 4, 11, 10, owner=1, body=["work", "carry", "move"], timer=1500)
     place = room("E0S0", 5, owned, thing("source", 2, 10, 10, energy=3000), thing("spawn", 3, 12, 10, owner=1, energy=100), creep)
     begin, harvest = ["start tick 0 rooms 1 objects 4 players 1", "upload player 1 accepted"], unkept("harvest", 4, 2)
-    said = [*begin, "player 1 finished 9", "tick 1 objects 4 intents 1 energy 3100", "player 1 finished 9", "tick 2 objects 4 intents 2 energy 3100"]
+    said = [*begin, "player 1 finished 9", "tick 1 objects 4 intents 1 energy 3101", "player 1 finished 9", "tick 2 objects 4 intents 2 energy 3102"]
     hands = Script([*harvest, *unkept("transfer", 4, 3, 0)], pages=None)
     steps = play("a creep harvests and hands over", world(place, players=[player(1, 20)]), 2, [Upload(0, 1, hands)], said)
-    energies_are(steps, [0, 2996, 102, 2])
+    energies_are(steps, [0, 2996, 104, 2])
     bucket_is(steps, 38)
-    said = [*begin, "player 1 spent 10000", "tick 1 objects 4 intents 1 energy 3100"]
+    said = [*begin, "player 1 spent 10000", "tick 1 objects 4 intents 1 energy 3101"]
     spins = Script([*harvest, ("spin",)], pages=None)
     steps = play("a budget that ends after a harvest", world(place, players=[player(1, 1)]), 1, [Upload(0, 1, spins)], said)
-    energies_are(steps, [0, 2998, 100, 2])
+    energies_are(steps, [0, 2998, 101, 2])
 
 
 def energies_are(steps, wanted):

@@ -494,9 +494,10 @@ def stepped(place, wanted):
 
 
 def rested(place):
-    """Creeps recover and roads decay; nothing else of the boards changes."""
+    """Creeps recover and age, and roads decay; nothing else of the boards changes, and no creep comes to its end."""
     for one in place["objects"]:
         if one["kind"] == "creep":
+            one["timer"] -= 1
             hits = [part_hits(one, at) for at, part in enumerate(one["body"]) if part == "move"]
             one["extra"] = max(0, one["extra"] - 2 * sum(it > 0 for it in hits))
         if one["kind"] == "road":
@@ -590,7 +591,9 @@ class Draw:
 
     def obstacle(self, id, tile):
         kind = self.random.choice(["spawn", "extension", "storage", "source"])
-        return thing(kind, id, *tile, **({"energy": 1500} if kind == "source" else {"owner": 1}))
+        # (a spawn that is full gains nothing)
+        fields = {"source": {"energy": 1500}, "spawn": {"owner": 1, "energy": 300}}
+        return thing(kind, id, *tile, **fields.get(kind, {"owner": 1}))
 
     def lone(self, index):
         """A board in a room that has no neighbours."""

@@ -12,6 +12,7 @@ With --model in place of a build no program is run.
 
 import json
 import os
+import random
 import re
 import resource
 import shlex
@@ -24,8 +25,8 @@ import tempfile
 TOP = os.path.dirname(os.path.dirname(os.path.abspath(__file__)))
 sys.path.insert(0, os.path.join(TOP, "bench"))
 from compared_runs import ACTION_NAMES, journal_faults, world_faults  # noqa: E402
-from game import BUILDINGS, DIRECTIONS, FULL, NOT_ENOUGH, STORES, capacity, distance, hits_max, place_of, thing  # noqa: E402
-from movement import beyond, is_open, pace  # noqa: E402
+from game import ACTIONS, BUILDINGS, DIRECTIONS, FULL, NOT_ENOUGH, STORES, capacity, distance, hits_max, live, place_of, thing  # noqa: E402
+from movement import beyond, obstructed, pace  # noqa: E402
 from scripts import Desk, gives_sight  # noqa: E402
 from worlds import Run, Step, allowance, contents_of, full, grounds, journal_of, objects_of, output_of, read_tick, ticked  # noqa: E402
 
@@ -33,6 +34,7 @@ PLAYERS = os.path.join(TOP, "players")
 WORLD = os.path.join(TOP, "worlds/one_player.json")
 HARVEST = os.path.join(TOP, "worlds/harvest.json")
 WALK = os.path.join(TOP, "worlds/walk.json")
+FIGHT = os.path.join(TOP, "worlds/fight.json")
 MODEL = "--model" in sys.argv[1:]
 PROGRAM = os.path.abspath(sys.argv[1]) if len(sys.argv) > 1 else os.path.join(TOP, "crates/world_server/out/world_server")
 
@@ -341,6 +343,7 @@ def check_actions(text):
     rows = table_under(text, "| Site of | Number | Work | Hits |")
     note("the table of sites", differ("sites", [[name, *map(whole, numbers_)] for name, *numbers_ in rows], wanted))
     check_powers(text)
+    check_overruling(text)
     check_steps(text)
 
 
@@ -355,9 +358,55 @@ def check_powers(text):
         f"**build**: {worked} for each work part go into the site",
         f"its full timer: {timers['Road in_owned']:,} a road, a container {timers['Container true']} where somebody owns the room's controller and else {timers['Container false']}.",
     ]
-    plain = " ".join(text.split())
+    note_sentences(text, sentences + fight_sentences())
+
+
+def note_sentences(text, sentences):
+    """Each of these stands in the text, wherever its lines end."""
+    words = " ".join(text.split())
     for sentence in sentences:
-        note(f"docs/players.md says {sentence[:40]!r}", None if sentence in plain else f"{sentence!r} does not stand there")
+        note(f"docs/players.md says {sentence[:40]!r}", None if sentence in words else f"{sentence!r} does not stand there")
+
+
+def fight_sentences():
+    """What the text says of damage and healing, and of how spawns gain."""
+    fights, tick, upkeep = (text_of(f"crates/world_rules/specs/{it}.antt") for it in ("Fights", "Tick", "Upkeep"))
+    blow, torn, share = (re.search(it, fights)[1] for it in (r"strength creep = (\d+) \* live_count part_kinds\.Attack", r"tear creep = (\d+) \* live_work", r"building\.hits / (\d+)"))
+    shot = re.search(r"shot_strength (\d+) creep\)", fights)[1]
+    near, two, three = re.search(r"nat_le range 1 then (\d+) else if range == 2 then (\d+) else (\d+)", fights).groups()
+    heal, far = (re.search(rf"^harm_by {it} .*\(healed_by (\d+)\)", tick, re.M)[1] for it in ("Heal", "RangedHeal"))
+    most = re.search(r"^spawn_capacity = (\d+)$", upkeep, re.M)[1]
+    return [
+        f"**heal**: the target gains {heal} hits for each heal part",
+        f"**ranged_heal**: the same with {far} hits for each heal part",
+        f"**dismantle**: the building gets {torn} damage for each work part, and the creep 1 energy for each {share} of it",
+        f"**attack**: the target gets {blow} damage for each attack part.",
+        f"the attacker gets {blow} damage for each attack part of the target",
+        f"damage for each ranged attack part: {near} at one tile, {two} at two and {three} at three.",
+        f"**ranged_attack**: the target gets {shot} damage for each ranged attack part",
+        f"| attack | {blow} damage, and each attack part of a creep that is struck gives {blow} back | 1 |",
+        f"| ranged attack | {shot} damage | 3 |",
+        f"| ranged mass attack | {near} damage at one tile, {two} at two, {three} at three | 3 |",
+        f"| dismantle | {torn} damage to a building | 1 |",
+        f"| heal | {heal} healing | 1 |",
+        f"| ranged heal | {far} healing | 3 |",
+        f"as long as they have less than {most}, and the spawns and extensions of their owner in the room have less than {most} together.",
+    ]
+
+
+def check_overruling(text):
+    """The table of what overrules what says what the definitions do, as far as there are calls."""
+    specs = text_of("crates/game_tables/specs/Actions.antt")
+    lists = {}
+    for name, by, more in re.findall(r"^drops_(\w+) (\w+) = (true|drops_\w+ by)$", specs, re.M):
+        lists.setdefault(name, set()).update(lists[more[6:-3]] if by == "by" else {by})
+    wanted = {}
+    for by, name, said in re.findall(r"^dominates (\w+) (\w+) = (true|drops_\w+ by)$", specs, re.M):
+        wanted.setdefault(name, set()).update(lists[said[6:-3]] if by == "by" else {by})
+    actions = {action: name for action, (name, _, _) in defined_actions().items()}
+    wanted = {actions[name]: {actions[it] for it in found if it in actions} for name, found in wanted.items() if name in actions}
+    rows = table_under(text, "| Doesn't count | Where the creep has one of |")
+    note("the table of what doesn't count", differ("rows", {name: set(others.split(", ")) for name, others in rows}, wanted))
 
 
 def check_steps(text):
@@ -375,9 +424,7 @@ def check_steps(text):
         f"a container loses {lost:,} hits then, and its timer is {timers['Container true']} again where somebody owns the room's controller and else {timers['Container false']};",
         f"a road loses {road_lost} hits, and its timer is {timers['Road in_owned']:,} again",
     ]
-    words = " ".join(text.split())
-    for sentence in sentences:
-        note(f"docs/players.md says {sentence[:40]!r}", None if sentence in words else f"{sentence!r} does not stand there")
+    note_sentences(text, sentences)
     constants = header_constants(text_of("players/path.h"))
     found = {name: constants.get(f"PATH_{name}") for name in ("ROAD", "PLAIN", "SWAMP")}
     note("players/path.h has the cost of a step", differ("costs", found, {"ROAD": road, "PLAIN": plain, "SWAMP": swamp}))
@@ -471,9 +518,10 @@ def check_streams(folder):
     check_outputs(folder, stream((0, 1, one)))
     status, out, _ = streamed(["--help"], folder)
     note("the help of upload_stream.py", differ("status", status, 0), None if b"TICK:PLAYER:FILE" in out else f"said {out!r}")
-    for uploads, player in (("worlds/one_player.uploads", "dropper"), ("worlds/harvest.uploads", "harvester"), ("worlds/walk.uploads", "walker")):
-        wanted = stream((0, 1, bytes_of(f"players/{player}.wasm")))
-        note(f"{uploads} is the upload of players/{player}.wasm", differ("stream", bytes_of(uploads), wanted))
+    samples = {"one_player": ["dropper"], "harvest": ["harvester"], "walk": ["walker"], "fight": ["guard", "raider"]}
+    for name, players in samples.items():
+        wanted = stream(*[(0, number, bytes_of(f"players/{player}.wasm")) for number, player in enumerate(players, 1)])
+        note(f"worlds/{name}.uploads has players/{'.wasm and players/'.join(players)}.wasm", differ("stream", bytes_of(f"worlds/{name}.uploads"), wanted))
 
 
 def check_refused_streams(folder):
@@ -638,15 +686,15 @@ def served(words, folder):
     return done.returncode, done.stdout.decode(), done.stderr.decode()
 
 
-def ran(name, file, player, module, ticks):
-    """Uploads the module in the first tick: what the run printed, and its journal, or None where it went wrong."""
+def ran(name, file, modules, ticks):
+    """Uploads a module for each of some players in the first tick: what the run printed, and its journal, or None where it went wrong."""
     with tempfile.TemporaryDirectory() as folder:
         with open(os.path.join(folder, "world.json"), "w", encoding="utf-8") as it:
             json.dump(file, it)
         with open(os.path.join(folder, "uploads"), "wb") as it:
-            it.write(stream((file["tick"], player, module)))
+            it.write(stream(*[(file["tick"], player, module) for player, module in modules]))
         status, out, err = served(["run", "world.json", "uploads", "journal", "--ticks", str(ticks)], folder)
-        if (status, err) != (0, "") or len(used_by(out, player)) != ticks:
+        if (status, err) != (0, "") or any(len(used_by(out, player)) != ticks for player, _ in modules):
             note(name, f"status {status}, said {err!r}, printed {out[:500]!r}")
             return None
         with open(os.path.join(folder, "journal"), "rb") as it:
@@ -658,7 +706,7 @@ def check_run(name, file, player, module, ticks, acts):
     if MODEL:
         note(name, *world_faults(file, expected(file, player, module, acts, [0] * ticks)))
         return
-    found = ran(name, file, player, module, ticks)
+    found = ran(name, file, [(player, module)], ticks)
     if found:
         steps = expected(file, player, module, acts, used_by(found[0], player))
         faults = journal_faults(file, [])("journal.bin", found[1], journal_of(file, steps))
@@ -674,7 +722,7 @@ def plain_room(name, next, objects):
 
 def carrier(id, owner, energy, place):
     """A creep at a place of a room's inner tiles, of which there are 2,304."""
-    return {"id": id, "kind": "creep", "x": 1 + place % 48, "y": 1 + place // 48, "owner": owner, "body": ["carry"], "energy": energy, "timer": 9}
+    return {"id": id, "kind": "creep", "x": 1 + place % 48, "y": 1 + place // 48, "owner": owner, "body": ["carry"], "energy": energy, "timer": 1500}
 
 
 def two_players():
@@ -698,8 +746,8 @@ def two_workers():
     """Rooms in which creeps of two players stand among sources, stores, sites and what is worn, some out of reach, and some without parts for it."""
     worker, first, second = ["work", "carry", "move"], [], []
     for serial, (x, y, owner, body, energy) in enumerate([(9, 9, 1, worker, 0), (11, 11, 2, worker * 2, 30), (9, 11, 1, ["carry"], 20), (13, 10, 1, ["work"], 0), (8, 8, 2, worker, 50), (30, 30, 1, worker, 50)], 1):
-        first.append(thing("creep", serial, x, y, owner=owner, body=body, energy=energy, timer=9))
-        second.append(thing("creep", (1 << 32) + 20 - serial, 49 - x, y, owner=3 - owner, body=body, energy=energy, timer=9))
+        first.append(thing("creep", serial, x, y, owner=owner, body=body, energy=energy, timer=1500))
+        second.append(thing("creep", (1 << 32) + 20 - serial, 49 - x, y, owner=3 - owner, body=body, energy=energy, timer=1500))
     first += [thing("source", 20, 10, 10, energy=37, timer=40), thing("container", 21, 10, 11, energy=1990, timer=9, hits=249_000), thing("site", 22, 12, 12, owner=1, extra=8, progress=280)]
     first += [thing("site", 23, 11, 9, owner=2, extra=5, progress=2980), thing("road", 24, 9, 12, timer=9, hits=4800), thing("spawn", 25, 12, 10, owner=2, energy=250, hits=4000), thing("pile", 26, 9, 9, energy=8)]
     second += [thing("source", (1 << 32) + 20, 39, 10, energy=1500), thing("extension", (1 << 32) + 21, 38, 10, owner=1, energy=9), thing("storage", (1 << 32) + 22, 39, 9, owner=2, hits=9990)]
@@ -735,22 +783,27 @@ def check_harvester(name, module):
 # ---- ways, which are judged by what they cost: of several ways of one cost a player may go any
 
 
-def leads_to_wall(world, place, tile):
-    """The tile beyond a border tile is a wall of a room that player 1 sees."""
+def leads_to_wall(world, place, tile, player):
+    """The tile beyond a border tile is a wall of a room that the player sees."""
     name, (x, y) = beyond(place["name"], tile)
-    others = [it for it in world["rooms"] if place_of(it["name"]) == name and any(gives_sight(one, 1) for one in it["objects"])]
+    others = [it for it in world["rooms"] if place_of(it["name"]) == name and any(gives_sight(one, player) for one in it["objects"])]
     return any(it["terrain"][50 * y + x] == "1" for it in others)
+
+
+def side_exits(world, place, column, player):
+    """The border tiles of a column to which a player goes who leaves the room there."""
+    return {(column, y) for y in range(1, 49) if not leads_to_wall(world, place, (column, y), player)}
 
 
 def exits_of(world, place):
     """The border tiles to which players/walker.c goes in a room."""
-    column = 49 if place_of(place["name"])[0] % 2 == 0 else 0
-    return {(column, y) for y in range(1, 49) if not leads_to_wall(world, place, (column, y))}
+    return side_exits(world, place, 49 if place_of(place["name"])[0] % 2 == 0 else 0, 1)
 
 
-def around(one):
-    """The inner tiles within 1 of an object."""
-    return {(x, y) for x in range(one["x"] - 1, one["x"] + 2) for y in range(one["y"] - 1, one["y"] + 2) if 1 <= x <= 48 and 1 <= y <= 48}
+def around(one, most=1):
+    """The inner tiles within a range of an object."""
+    reach = range(-most, most + 1)
+    return {(one["x"] + right, one["y"] + down) for right in reach for down in reach if 1 <= one["x"] + right <= 48 and 1 <= one["y"] + down <= 48}
 
 
 def beside(x, y):
@@ -760,7 +813,9 @@ def beside(x, y):
 def least_costs(place, goals, creeps):
     """What the cheapest way from each tile of a room to one of the goals costs, where there is one, by a slow search over all tiles until
     none gets cheaper: no way goes over a border tile but at its ends, nor over the tiles of these creeps."""
-    steps = {(x, y): pace(place, (x, y)) for x in range(50) for y in range(50) if is_open(place, x, y) and (x, y) not in creeps}
+    closed, roads = obstructed(place) | creeps, {(one["x"], one["y"]) for one in place["objects"] if one["kind"] == "road"}
+    ground = {(x, y): place["terrain"][50 * y + x] for x in range(50) for y in range(50) if (x, y) not in closed}
+    steps = {tile: 1 if tile in roads else 10 if digit == "2" else 2 for tile, digit in ground.items() if digit != "1"}
     found = {tile: 0 for tile in goals if tile in steps}
     changed = set(found)
     while changed:
@@ -847,17 +902,18 @@ def walk_faults(file, steps, id, least):
 MOST_IDLE = 30
 
 
-def steps_in(file, player, module, journal):
-    """The steps of a run, with what the journal says that the player wanted and kept in his memory text: what becomes of it is worked out
+def steps_in(file, modules, journal):
+    """The steps of a run, with what the journal says that the players wanted and kept in their memory texts: what becomes of it is worked out
     here."""
     world, steps = full(file), []
     for content in contents_of(journal)[1:]:
-        tick = read_tick(content)
-        entries = {(ACTION_NAMES[action], actor): (target, amount) for run in tick["runs"] for action, actor, target, amount, _ in run[4]}
-        text = next(it[4] for it in tick["accounts"] if it[0] == player)
-        run = Run(player, "finished", tick["runs"][0][3], text, entries)
-        world = ticked(world, [run])
-        steps.append(Step([] if steps else [(player, "accepted", module)], [run], world))
+        tick, runs = read_tick(content), []
+        texts = {it[0]: it[4] for it in tick["accounts"]}
+        for player, _, _, used, listed in tick["runs"]:
+            entries = {(ACTION_NAMES[action], actor): (target, amount) for action, actor, target, amount, _ in listed}
+            runs.append(Run(player, "finished", used, texts[player], entries))
+        world = ticked(world, runs)
+        steps.append(Step([] if steps else [(player, "accepted", module) for player, module in modules], runs, world))
     return steps
 
 
@@ -866,11 +922,17 @@ def check_walk(name, file, module, ticks, id, least):
     if MODEL:
         note(name, *world_faults(file, []))
         return
-    found = ran(name, file, 1, module, ticks)
+    modules = [(1, module)]
+    found = ran(name, file, modules, ticks)
     if found:
-        steps = steps_in(file, 1, module, found[1])
-        faults = journal_faults(file, [])("journal.bin", found[1], journal_of(file, steps))
-        note(name, differ("lines", found[0], output_of(file, steps).decode()), *faults, *walk_faults(file, steps, id, least))
+        steps = steps_in(file, modules, found[1])
+        note(name, *journal_run_faults(file, steps, found), *walk_faults(file, steps, id, least))
+
+
+def journal_run_faults(file, steps, found):
+    """What is another than in these steps in the lines and the journal of a run."""
+    faults = journal_faults(file, [])("journal.bin", found[1], journal_of(file, steps))
+    return [differ("lines", found[0], output_of(file, steps).decode()), *faults]
 
 
 def with_objects(file, index, *objects):
@@ -884,7 +946,7 @@ def with_objects(file, index, *objects):
 
 
 def standing(x, y, owner):
-    return {"kind": "creep", "x": x, "y": y, "owner": owner, "body": ["carry"], "timer": 9}
+    return {"kind": "creep", "x": x, "y": y, "owner": owner, "body": ["carry"], "timer": 1500}
 
 
 def in_the_way():
@@ -909,7 +971,7 @@ def narrow_exit():
 def along_the_border():
     """A wall through the room, with a gap at the border, over which no way leads, and another one."""
     tiles = {50 * y + x: "1" for y in range(50) for x in (0, 20, 49) if (x, y) not in ((20, 0), (20, 10))}
-    objects = [thing("creep", 1, 18, 2, owner=1, body=["move"], timer=9), thing("source", 2, 22, 2, energy=9)]
+    objects = [thing("creep", 1, 18, 2, owner=1, body=["move"], timer=1500), thing("source", 2, 22, 2, energy=9)]
     return {"version": 1, "tick": 0, "rooms": [{"name": "E0S0", "terrain": grounds(tiles), "next": 3, "objects": objects}], "players": [{"player": 1, "limit": 30}]}
 
 
@@ -924,7 +986,7 @@ def maze():
     taken = [("extension", 3, 4), ("spawn", 46, 8), ("storage", 2, 12), ("controller", 47, 16), ("container", 2, 20), ("container", 3, 20)]
     owned = {"extension": {"owner": 1}, "spawn": {"owner": 1}, "storage": {"owner": 1}, "container": {"timer": 9}, "controller": {}}
     blocks = [thing(kind, 13 + at, x, y, **owned[kind]) for at, (kind, x, y) in enumerate(taken)]
-    creep = thing("creep", 1, 3, 2, owner=1, body=["work", "carry"] + ["move"] * 9, energy=50, timer=9)
+    creep = thing("creep", 1, 3, 2, owner=1, body=["work", "carry"] + ["move"] * 9, energy=50, timer=1500)
     first = {"name": "W1S5", "terrain": grounds(tiles), "next": 30, "objects": [creep, thing("source", 2, 30, 2, energy=9), *roads, *blocks]}
     other = {"name": "W0S5", "terrain": grounds(tiles), "next": 30, "objects": [thing("source", (1 << 32) + 1, 5, 14, energy=9)]}
     return {"version": 1, "tick": 9, "rooms": [first, other], "players": [{"player": 1, "limit": 25}]}
@@ -943,7 +1005,156 @@ def check_walker(name, module):
     check_walk(f"{name} in a maze", maze(), module, 960, 1, 3)
 
 
+# ---- players who fight: what they strike and heal is written anew here, and their ways are judged by what they cost
+
+
+def may_step(one):
+    return one["extra"] == 0 and live(one, "move") > 0
+
+
+def nearest(one, others, most):
+    """The first of those that are nearest to an object, and so far away at most."""
+    near = [it for it in others if distance(it, one) <= most]
+    return min(near, key=lambda it: (distance(it, one), it["id"]), default=None)
+
+
+class Guard:
+    """What players/guard.c wants in a tick: its calls but for moves are made at the desk, and of each guard that has to walk there is where to."""
+
+    def __init__(self, world, player):
+        self.world, self.player, self.desk, self.goals = world, player, Desk(world, player), {}
+        self.seen = self.desk.objects
+        guards = [(index, one) for index, one in self.seen if self.is_own(one, "creep") and any(live(one, it) for it in ("attack", "ranged_attack", "heal"))]
+        for index, one in guards:
+            self.fight(index, one)
+        spawn = next(((index, one) for index, one in self.seen if self.is_own(one, "spawn")), None)
+        if spawn:
+            foe = nearest(spawn[1], self.foes(spawn[0]), 12)
+            for index, one in guards:
+                if index == spawn[0] and may_step(one):
+                    self.walk(one, foe or spawn[1], 2 if foe is None or not live(one, "attack") else 1)
+
+    def is_own(self, one, kind):
+        return one["kind"] == kind and one["owner"] == self.player
+
+    def foes(self, index):
+        return [it for other, it in self.seen if other == index and it["kind"] == "creep" and it["owner"] != self.player]
+
+    def fight(self, index, one):
+        foe = nearest(one, self.foes(index), 3)
+        hurt = [it for other, it in self.seen if other == index and self.is_own(it, "creep") and distance(it, one) <= 3 and it["hits"] < hits_max(it)]
+        strikes = foe is not None and self.desk.acted("attack", one["id"], foe["id"]) == 0
+        if hurt and not strikes:
+            most = min(hurt, key=lambda it: (it["hits"] - hits_max(it), it["id"]))
+            self.desk.acted("heal" if distance(most, one) <= 1 else "ranged_heal", one["id"], most["id"])
+        if foe:
+            self.desk.acted("ranged_attack", one["id"], foe["id"])
+
+    def walk(self, one, goal, most):
+        if distance(one, goal) > most:
+            self.goals[one["id"]] = around(goal, most)
+
+
+class Raider:
+    """What players/raider.c wants in a tick, in the same way."""
+
+    def __init__(self, world, player):
+        self.world, self.player, self.desk, self.goals = world, player, Desk(world, player), {}
+        for index, one in self.desk.objects:
+            if one["kind"] == "creep" and one["owner"] == player:
+                self.raid(index, one)
+
+    def raid(self, index, one):
+        prey = [it for it in self.world["rooms"][index]["objects"] if it["kind"] in ("creep", "spawn", "extension", "storage") and it["owner"] != self.player]
+        found = nearest(one, prey, 49)
+        if found:
+            self.desk.acted("attack", one["id"], found["id"])
+            self.desk.acted("ranged_attack", one["id"], found["id"])
+        if may_step(one):
+            self.goals[one["id"]] = around(found) if found else side_exits(self.world, self.world["rooms"][index], 0, self.player)
+
+
+# On plain ground fewer than 1,000 tiles are nearer to a goal than one from which the way costs so much.
+FOUND_BY_ALL = 24
+
+
+def step_faults(world, index, creep, goals, direction, all_walk):
+    """What is wrong of a creep's step to goals: it has to lie on a cheapest way round the other creeps. Where the budget is enough for all, each that
+    has one which doesn't cost too much to be found takes it."""
+    place, tile = world["rooms"][index], (creep["x"], creep["y"])
+    others = {(one["x"], one["y"]) for one in place["objects"] if one["kind"] == "creep"} - {tile}
+    least = least_costs(place, goals, others)
+    if direction is None:
+        stays = all_walk and 0 < least.get(tile, 0) <= FOUND_BY_ALL
+        return [f"creep {creep['id']} stays at {tile}, from where a way costs {least[tile]}"] if stays else []
+    to = stepped(tile, direction)
+    if least.get(tile) and to in least and least[to] + pace(place, to) == least[tile]:
+        return []
+    return [f"creep {creep['id']} steps from {tile} to {to}, from where ways cost {least.get(tile)} and {least.get(to)}"]
+
+
+def tick_fight_faults(world, run, wanted, all_walk):
+    """What is another in a run than a sample player wants."""
+    faults, fights = [], {key: it for key, it in run.entries.items() if key[0] != "move"}
+    if fights != wanted.desk.entries:
+        faults.append(f"before tick {world['tick'] + 1} player {run.player} wants {fights} and not {wanted.desk.entries}")
+    moves = {id: direction for (name, id), (_, direction) in run.entries.items() if name == "move"}
+    faults += [f"creep {id} has no reason to walk" for id in moves if id not in wanted.goals]
+    for index, one in wanted.desk.objects:
+        if one["id"] in wanted.goals:
+            faults += step_faults(world, index, one, wanted.goals[one["id"]], moves.get(one["id"]), all_walk)
+    return faults
+
+
+def check_fight(name, file, players, ticks, least, all_walk=True):
+    """Players fight: each is a number, what it should want, and a module. So many strikes, shots, heals and steps there are at least."""
+    if MODEL:
+        note(name, *world_faults(file, []))
+        return
+    modules = [(number, module) for number, _, module in players]
+    found = ran(name, file, modules, ticks)
+    if not found:
+        return
+    steps = steps_in(file, modules, found[1])
+    faults, before, counts = [], full(file), dict.fromkeys(ACTIONS, 0)
+    for step in steps:
+        for run, (number, wants, _) in zip(step.runs, players):
+            faults += tick_fight_faults(before, run, wants(before, number), all_walk)
+            for action, _ in run.entries:
+                counts[action] += 1
+        before = step.world
+    few = [f"{action}: {counts[action]} times, and not {most}" for action, most in least.items() if counts[action] < most]
+    note(name, *journal_run_faults(file, steps, found), *faults[:20], *few)
+
+
+def brawl(limit=500):
+    """A room with walls and swamp in which fighters of two players stand about, some hurt and some with parts of all sorts, round a spawn of each."""
+    draw = random.Random(5)
+    tiles = [(x, y) for x in range(14, 34) for y in range(14, 34)]
+    draw.shuffle(tiles)
+    ground = {50 * y + x: draw.choice("0122") for x, y in tiles[60:160]}
+    bodies = ["tough attack move move", "tough tough attack attack heal move move move", "ranged_attack heal move move", "heal heal move", "ranged_attack ranged_attack move", "carry carry move"]
+    objects = [thing("spawn", 1, *tiles[0], owner=1, energy=100, hits=900), thing("spawn", 2, *tiles[1], owner=2, energy=250, hits=700), thing("extension", 3, *tiles[2], owner=1, energy=20, hits=90)]
+    for serial, tile in enumerate(tiles[3:19], 4):
+        body = bodies[serial % 12 // 2].split()
+        hits = draw.choice((100 * len(body), draw.randint(1, 100 * len(body))))
+        objects.append(thing("creep", serial, *tile, owner=1 + serial % 2, body=body, hits=hits, timer=draw.choice((9, 1500))))
+    room = {"name": "E4S4", "terrain": grounds(ground), "next": 60, "objects": objects}
+    return {"version": 1, "tick": 3, "rooms": [room], "players": [{"player": 1, "limit": limit, "bucket": limit}, {"player": 2, "limit": limit, "bucket": limit}]}
+
+
+def check_fights(guard, raider, which):
+    """What these modules do is what players/guard.c and players/raider.c say."""
+    sides = [(1, Guard, guard), (2, Raider, raider)]
+    check_fight(f"{which} in worlds/fight.json", sample(FIGHT), sides, 40, {"attack": 20, "heal": 15, "ranged_heal": 1, "ranged_attack": 8, "move": 40})
+    check_fight(f"{which} in a brawl", brawl(), sides, 12, {"attack": 10, "heal": 5, "ranged_heal": 5, "ranged_attack": 5, "move": 40})
+    others = [(1, Raider, raider), (2, Guard, guard)]
+    check_fight(f"{which} in a brawl, the other way round", brawl(), others, 12, {"attack": 5, "heal": 5, "ranged_heal": 5, "ranged_attack": 5, "move": 40})
+    check_fight(f"{which} in a brawl with a budget for some ways", brawl(60), sides, 8, {"attack": 5, "move": 10}, all_walk=False)
+
+
 CHECKS = {"dropper": check_dropper, "harvester": check_harvester, "walker": check_walker}
+FIGHTERS = ("guard", "raider")
 
 
 def check_accepted(name, path):
@@ -955,12 +1166,14 @@ def check_accepted(name, path):
 
 
 def check_samples():
-    for player, check in CHECKS.items():
+    for player in (*CHECKS, *FIGHTERS):
         path = os.path.join(PLAYERS, f"{player}.wasm")
         check_accepted(f"players/{player}.wasm is accepted", path)
         size = os.path.getsize(path)
         note(f"players/{player}.wasm is small", None if size < 6144 else f"{size} bytes")
-        check(f"players/{player}.wasm", bytes_of(path))
+    for player, check in CHECKS.items():
+        check(f"players/{player}.wasm", bytes_of(f"players/{player}.wasm"))
+    check_fights(*[bytes_of(f"players/{player}.wasm") for player in FIGHTERS], "players/guard.wasm and players/raider.wasm")
 
 
 # ---- the sample players, built anew
@@ -976,7 +1189,9 @@ void loop(void) {
     screeps_memory_write(text, sizeof text);
     screeps_drop(1, 0);
     sum += screeps_transfer(1, 2, 0) + screeps_withdraw(1, 2, 0) + screeps_pickup(1, 2);
-    sum += screeps_harvest(1, 2) + screeps_repair(1, 2) + screeps_build(1, 2) + screeps_move(1, DIRECTION_TOP_LEFT);
+    sum += screeps_heal(1, 2) + screeps_ranged_heal(1, 2) + screeps_dismantle(1, 2) + screeps_attack(1, 2);
+    sum += screeps_harvest(1, 2) + screeps_repair(1, 2) + screeps_build(1, 2);
+    sum += screeps_ranged_mass_attack(1) + screeps_ranged_attack(1, 2) + screeps_suicide(1) + screeps_move(1, DIRECTION_TOP_LEFT);
 }
 """
 
@@ -1100,6 +1315,18 @@ def imports_of(module):
     return imports
 
 
+def check_built_fighters(folder):
+    """The two who fight, built anew."""
+    modules = [os.path.join(folder, f"{player}.wasm") for player in FIGHTERS]
+    if not all(built(os.path.join(PLAYERS, f"{player}.c"), module) for player, module in zip(FIGHTERS, modules)):
+        return
+    found = [bytes_of(module) for module in modules]
+    if found != [bytes_of(f"players/{player}.wasm") for player in FIGHTERS]:
+        for module in modules:
+            check_accepted(f"{os.path.basename(module)}, built anew, is accepted", module)
+        check_fights(*found, "players/guard.c and players/raider.c, built anew,")
+
+
 def check_built(folder):
     for player, check in CHECKS.items():
         module = os.path.join(folder, f"{player}.wasm")
@@ -1110,6 +1337,7 @@ def check_built(folder):
                 check(f"players/{player}.c, built anew,", bytes_of(module))
             if player == "dropper":
                 check_documented(folder, module)
+    check_built_fighters(folder)
     called = set(re.findall(r"screeps_(\w+)\(", ALL_CALLS))
     note("each call of the header is called", differ("calls", called, {name for name, _, _ in defined_calls()}))
     module = built_text(folder, "all_calls", ALL_CALLS)

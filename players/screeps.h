@@ -153,8 +153,10 @@ SCREEPS_CALL(memory_write) int screeps_memory_write(const void *at, unsigned len
  * Each takes an own creep by its id, and most a target by its id. All answer CODE_NOT_FOUND where no such creep is in
  * sight, CODE_NOT_OWNER where it is another's, CODE_INVALID_TARGET where no such target is in sight or it is of another
  * kind, CODE_NOT_IN_RANGE where the target is too far away, and CODE_FULL where 4,096 intents are recorded. Called again
- * for the same creep, the last call counts. A creep may do several things in one tick, but of build, repair and harvest
- * only one: repair comes before build, and both before harvest.
+ * for the same creep, the last call counts.
+ *
+ * A creep may do several things in one tick, but of these only the first of the list that is recorded counts: heal, ranged_heal,
+ * dismantle, repair, build, attack, harvest; and of these: ranged_heal, repair or build, ranged_mass_attack, ranged_attack.
  *
  * An amount of 0 wants all there is; where it is above 0, so much has to be there, and room for it. What comes before it
  * in the tick may leave less: then less is taken. */
@@ -176,6 +178,21 @@ SCREEPS_CALL(withdraw) int screeps_withdraw(long long creep, long long target, i
 /* Picks up a pile within 1 tile, as far as the creep has room for it. Or CODE_FULL (it has none). */
 SCREEPS_CALL(pickup) int screeps_pickup(long long creep, long long target);
 
+/* Heals a creep within 1 tile by 12 for each HEAL part, whoever owns it; it may be the creep itself. What heals and what
+ * hurts is added up in a tick, and comes to all at its end. Or CODE_NO_BODYPART. */
+SCREEPS_CALL(heal) int screeps_heal(long long creep, long long target);
+
+/* Heals a creep within 3 tiles by 4 for each HEAL part. Or CODE_NO_BODYPART. */
+SCREEPS_CALL(ranged_heal) int screeps_ranged_heal(long long creep, long long target);
+
+/* Tears 50 hits for each WORK part from a spawn, an extension, a storage, a container or a road within 1 tile, whoever owns it, and
+ * gets 1 energy for each 200 of them; what it has no room for falls on its tile. Or CODE_NO_BODYPART. */
+SCREEPS_CALL(dismantle) int screeps_dismantle(long long creep, long long target);
+
+/* Strikes another creep or a building within 1 tile, whoever owns it: 30 damage for each ATTACK part. A creep strikes back with its
+ * own ATTACK parts. Or CODE_NO_BODYPART. */
+SCREEPS_CALL(attack) int screeps_attack(long long creep, long long target);
+
 /* Takes 2 energy for each WORK part from a source within 1 tile; what the creep has no room for falls on its tile. Or
  * CODE_NO_BODYPART, CODE_NOT_OWNER (another player owns or reserves the room's controller too),
  * CODE_NOT_ENOUGH_RESOURCES (the source is empty). */
@@ -191,6 +208,17 @@ SCREEPS_CALL(repair) int screeps_repair(long long creep, long long target);
  * CODE_NOT_ENOUGH_RESOURCES (it carries nothing), CODE_INVALID_TARGET (a creep stands where a spawn, an extension or a
  * storage would, too). */
 SCREEPS_CALL(build) int screeps_build(long long creep, long long target);
+
+/* Shoots at all creeps and buildings of other players within 3 tiles: 10 damage for each RANGED_ATTACK part at 1 tile, 4 at 2 and 1 at
+ * 3. What is nobody's, as containers and roads are, is spared. Or CODE_NO_BODYPART. */
+SCREEPS_CALL(ranged_mass_attack) int screeps_ranged_mass_attack(long long creep);
+
+/* Shoots at another creep or a building within 3 tiles, whoever owns it: 10 damage for each RANGED_ATTACK part. Nobody shoots back.
+ * Or CODE_NO_BODYPART. */
+SCREEPS_CALL(ranged_attack) int screeps_ranged_attack(long long creep, long long target);
+
+/* The creep dies at the end of the tick, and what it carries falls on its tile. */
+SCREEPS_CALL(suicide) int screeps_suicide(long long creep);
 
 /* Steps onto the tile that lies in a direction, after all that creeps do besides. What is no tile of the room, a wall, or one
  * with a source, a controller, a spawn, an extension or a storage is not refused here, and then the creep stays; so it does

@@ -1,0 +1,81 @@
+"""Rooms whose tick is worked out by hand, for the checks: many of them in one world, which both the program and bench/game.py have to meet."""
+
+import struct
+
+import compared_runs
+from game import ACTIONS, SECOND
+from scripts import Table
+from worlds import Upload, account_of, full, room, world
+
+FIRST_NEW = 20
+
+
+class Case:
+    """A room whose tick is worked out by hand. Ids are the serials of the room.
+
+    A call is a player, its name, its arguments, and its answer. After the tick the named fields have these values, some objects are gone,
+    and new ones stand there, from serial 20 on. All else is as it was, but the timers of creeps, containers and roads are less by 1. Where some
+    new ones are gone again, `made` is how many there were."""
+
+    def __init__(self, name, objects, calls, after=(), gone=(), new=(), made=None):
+        self.name, self.objects, self.calls = name, objects, calls
+        self.after, self.gone, self.new = dict(after), gone, list(new)
+        self.made = len(self.new) if made is None else made
+
+
+def with_ids(index, one):
+    return {**one, "id": index * SECOND + one["id"]}
+
+
+def called(index, call):
+    """A call with ids in place of serials."""
+    name, *arguments = call
+    ids = 2 if ACTIONS[name].targets else 1
+    return (name, *[index * SECOND + it for it in arguments[:ids]], *arguments[ids:])
+
+
+def expected(index, case):
+    """The objects after the tick, by their ids."""
+    before = full(world(room("E0S0", FIRST_NEW, *case.objects)))["rooms"][0]["objects"]
+    for one in before:
+        one["timer"] -= one["kind"] in ("creep", "container", "road")
+    new = full(world(room("E0S0", FIRST_NEW, *case.new)))["rooms"][0]["objects"]
+    objects = [{**one, **case.after.get(one["id"], {})} for one in before if one["id"] not in case.gone]
+    return [with_ids(index, one) for one in objects + new]
+
+
+def case_faults(index, case, place):
+    """What differs in a room from what was worked out."""
+    found, faults = {one["id"]: one for one in place["objects"]}, []
+    for one in expected(index, case):
+        got = found.pop(one["id"], None)
+        if got is None:
+            faults.append(f"{one['kind']} {one['id'] % SECOND} is not there")
+        elif got != one:
+            faults += [f"{field} of {one['kind']} {one['id'] % SECOND} is {got[field]} and not {one[field]}" for field in one if got[field] != one[field]]
+    faults += [f"{one['kind']} {one['id'] % SECOND} is there" for one in found.values()]
+    if place["next"] != FIRST_NEW + case.made:
+        faults.append(f"next is {place['next']} and not {FIRST_NEW + case.made}")
+    return faults
+
+
+def check_cases(checks, name, cases, players):
+    """All rooms in one run, in rows of 100 that don't touch each other."""
+    rooms = [room(f"E{index % 100}S{2 * (index // 100)}", FIRST_NEW, *[with_ids(index, one) for one in case.objects]) for index, case in enumerate(cases)]
+    first = world(*rooms, players=players)
+    calls = {one["player"]: [] for one in players}
+    for index, case in enumerate(cases):
+        for by, *call, answer in case.calls:
+            calls[by].append((called(index, call), answer, case))
+    uploads = [Upload(0, number, Table([call for call, _, _ in listed])) for number, listed in calls.items()]
+    failed = checks.failed
+    steps = compared_runs.play(checks, name, first, 2, uploads)
+    if checks.failed > failed:
+        print("    where " + "; ".join(f"room {index} is: {case.name}" for index, case in enumerate(cases)))
+    after = steps[0].world
+    for number, listed in calls.items():
+        answers = struct.unpack(f"<{len(listed)}q", bytes.fromhex(account_of(after, number)["memory"]))
+        for (call, wanted, case), got in zip(listed, answers):
+            checks.note(f"{case.name}: a call of player {number}", [] if got == wanted else [f"{call} answered {got} and not {wanted}"])
+    for index, case in enumerate(cases):
+        checks.note(case.name, case_faults(index, case, after["rooms"][index]))
