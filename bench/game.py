@@ -15,6 +15,14 @@ HITS = {"spawn": 5000, "extension": 1000, "storage": 10_000, "container": 250_00
 TOTALS = {"spawn": 15_000, "extension": 3000, "storage": 30_000, "container": 5000, "road": 300}
 MOST_PILE = 10**9
 MOST_SUM = 2**32 - 1
+MOST_POINTS = 2**53
+
+# Of each level of a controller the progress at which the next one is reached, and the ticks for which it is kept.
+LEVELS = [0, 200, 45_000, 135_000, 405_000, 1_215_000, 3_645_000, 10_935_000, 0]
+DOWNGRADES = [0, 20_000, 10_000, 20_000, 40_000, 80_000, 120_000, 150_000, 200_000]
+LAST_LEVEL = 8
+MOST_AT_LAST = 15
+MOST_RESERVED = 5000
 
 NOT_OWNER, NOT_FOUND, NOT_ENOUGH, INVALID_TARGET, FULL = -1, -5, -6, -7, -8
 NOT_IN_RANGE, INVALID, TIRED, NO_BODYPART = -9, -10, -11, -12
@@ -95,7 +103,7 @@ class Action:
         self.number, self.part, self.targets, self.reach, self.itself = number, part, targets, reach, itself
 
 
-# Those that are in force, in the order in which a tick applies them.
+# Those that are in force, in the order in which a tick applies them. No call makes an entry of claim_controller yet.
 ACTIONS = {
     "drop": Action(1),
     "transfer": Action(2, None, ("creep", *STORES), 1),
@@ -111,6 +119,10 @@ ACTIONS = {
     "ranged_mass_attack": Action(12, "ranged_attack"),
     "ranged_attack": Action(13, "ranged_attack", ("creep", *BUILDINGS), 3),
     "suicide": Action(14),
+    "claim_controller": Action(15, "claim", ("controller",), 1),
+    "upgrade": Action(16, "work", ("controller",), 3),
+    "reserve": Action(17, "claim", ("controller",), 1),
+    "attack_controller": Action(18, "claim", ("controller",), 1),
     "move": Action(22, "move"),
 }
 
@@ -120,11 +132,12 @@ DIRECTIONS = {1: (0, -1), 2: (1, -1), 3: (1, 0), 4: (1, 1), 5: (0, 1), 6: (-1, 1
 # An entry doesn't count where the same creep has one of these actions too, whether that one counts or not.
 OVERRULED_BY = {
     "ranged_heal": ("heal",),
-    "dismantle": ("heal", "ranged_heal"),
-    "repair": ("heal", "ranged_heal", "dismantle"),
-    "build": ("heal", "ranged_heal", "dismantle", "repair"),
-    "attack": ("heal", "ranged_heal", "dismantle", "repair", "build"),
-    "harvest": ("heal", "ranged_heal", "dismantle", "repair", "build", "attack"),
+    "attack_controller": ("heal", "ranged_heal"),
+    "dismantle": ("heal", "ranged_heal", "attack_controller"),
+    "repair": ("heal", "ranged_heal", "attack_controller", "dismantle"),
+    "build": ("heal", "ranged_heal", "attack_controller", "dismantle", "repair"),
+    "attack": ("heal", "ranged_heal", "attack_controller", "dismantle", "repair", "build"),
+    "harvest": ("heal", "ranged_heal", "attack_controller", "dismantle", "repair", "build", "attack"),
     "ranged_mass_attack": ("ranged_heal", "repair", "build"),
     "ranged_attack": ("ranged_heal", "repair", "build", "ranged_mass_attack"),
 }
@@ -158,10 +171,24 @@ def refusal(name, player, actor, target, amount, least, objects):
     return next((code for holds, code in further if not holds), 0)
 
 
+def others_of(controller, player):
+    """The players but this one who own or reserve a controller."""
+    return {controller["owner"], controller["other"]} - {0, player}
+
+
 def of_harvest(player, _, source, __, objects):
     controller = controller_of(objects)
-    others = {controller["owner"], controller["other"]} - {0, player} if controller else ()
+    others = others_of(controller, player) if controller else ()
     return (not others, NOT_OWNER), (source["energy"] > 0, NOT_ENOUGH)
+
+
+def of_free(player, _, controller, *__):
+    """Nobody owns the controller, and no other player reserves it."""
+    return ((controller["owner"] == 0 and controller["other"] in (0, player), INVALID_TARGET),)
+
+
+def of_upgrade(player, creep, controller, *_):
+    return (controller["owner"] == player, NOT_OWNER), (creep["energy"] > 0, NOT_ENOUGH)
 
 
 def of_build(player, creep, site, _, objects):
@@ -179,6 +206,10 @@ FURTHER = {
     "harvest": of_harvest,
     "repair": lambda _, creep, *__: ((creep["energy"] > 0, NOT_ENOUGH),),
     "build": of_build,
+    "claim_controller": of_free,
+    "upgrade": of_upgrade,
+    "reserve": of_free,
+    "attack_controller": lambda player, _, controller, *__: ((others_of(controller, player), INVALID_TARGET),),
     "move": lambda _, creep, *__: ((creep["extra"] == 0, TIRED),),
 }
 
@@ -209,10 +240,10 @@ class Harm:
 
 class Course:
     """The rooms of a world in the course of a tick, in which objects are found by their ids, and piles by their tiles. New objects stand
-    at the end of their room."""
+    at the end of their room. The points that players gain are summed by their numbers."""
 
     def __init__(self, rooms, harm=None):
-        self.rooms, self.harm = rooms, harm or Harm()
+        self.rooms, self.harm, self.gains = rooms, harm or Harm(), {}
         self.found = {one["id"]: (index, one) for index, place in enumerate(rooms) for one in place["objects"]}
         self.piles = {(index, one["x"], one["y"]): one for index, one in self.found.values() if one["kind"] == "pile"}
 
@@ -347,3 +378,41 @@ class Course:
 
     def do_suicide(self, _, creep, __, ___):
         creep["hits"] = 0
+
+    def do_claim_controller(self, _, creep, controller, __):
+        controller.update(owner=creep["owner"], extra=1, progress=0, timer=DOWNGRADES[1], other=0, other_ticks=0)
+
+    def do_upgrade(self, _, creep, controller, __):
+        put = min(live(creep, "work"), creep["energy"])
+        if controller["extra"] == LAST_LEVEL:
+            # (what was put into it in this tick stands where a reservation has its ticks)
+            put = min(put, max(0, MOST_AT_LAST - controller["other_ticks"]))
+        creep["energy"] -= put
+        controller["other_ticks"] = min(MOST_SUM, controller["other_ticks"] + put)
+        self.gains[creep["owner"]] = self.gains.get(creep["owner"], 0) + put
+        if controller["extra"] != LAST_LEVEL:
+            controller["progress"] += put
+        if controller["extra"] != LAST_LEVEL and controller["progress"] >= LEVELS[controller["extra"]]:
+            rise(controller)
+        elif put > 0:
+            controller["timer"] = min(DOWNGRADES[controller["extra"]], controller["timer"] + 100)
+
+    def do_reserve(self, _, creep, controller, __):
+        before = controller["other_ticks"] if controller["other"] else 1
+        controller.update(other=creep["owner"], other_ticks=min(MOST_RESERVED, before + live(creep, "claim")))
+
+    def do_attack_controller(self, _, creep, controller, __):
+        parts = live(creep, "claim")
+        if controller["owner"]:
+            controller["timer"] = max(1, controller["timer"] - 300 * parts)
+        else:
+            controller["other_ticks"] = max(1, controller["other_ticks"] - parts)
+
+
+def rise(controller):
+    """A controller comes to its next level, with what it has above the total, and half of that level's time."""
+    controller["progress"] -= LEVELS[controller["extra"]]
+    controller["extra"] += 1
+    controller["timer"] = DOWNGRADES[controller["extra"]] // 2
+    if controller["extra"] == LAST_LEVEL:
+        controller["progress"] = 0

@@ -66,6 +66,9 @@ HOST_CALLS = {
     "ranged_mass_attack": (I64, I32),
     "ranged_attack": (I64 * 2, I32),
     "suicide": (I64, I32),
+    "upgrade": (I64 * 2, I32),
+    "reserve": (I64 * 2, I32),
+    "attack_controller": (I64 * 2, I32),
     "move": (I64 + I32, I32),
 }
 

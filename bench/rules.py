@@ -1,10 +1,8 @@
 """Which rules of docs/formats.md a world breaks: for the worlds that checks and measures make, and for those that a tick leaves."""
 
-from game import BUILDINGS, HITS, KINDS, MOST_PILE, OBSTRUCTING, SECOND, TOTALS, capacity, hits_max
+from game import BUILDINGS, DOWNGRADES, HITS, KINDS, LEVELS, MOST_PILE, MOST_POINTS, MOST_RESERVED, OBSTRUCTING, SECOND, TOTALS, capacity, hits_max
 from worlds import CORNERS, account_of, full, objects_of
 
-LEVELS = [0, 200, 45_000, 135_000, 405_000, 1_215_000, 3_645_000, 10_935_000, 0]
-DOWNGRADES = [0, 20_000, 10_000, 20_000, 40_000, 80_000, 120_000, 150_000, 200_000]
 OWNED = ("creep", "spawn", "extension", "storage", "site")
 FIXED = ("source", "controller", *BUILDINGS, "site")
 
@@ -36,6 +34,8 @@ def of_counts(it):
     for place, account in enumerate(it["players"]):
         if account["player"] in [other["player"] for other in it["players"][:place]]:
             yield f"PlayerTwice {account['player']}"
+        if account["points"] > MOST_POINTS:
+            yield f"Points {account['player']}"
         if sum(one["kind"] == "site" and one["owner"] == account["player"] for one in objects_of(it)) > 100:
             yield f"Sites {account['player']}"
 
@@ -80,7 +80,7 @@ def is_controller(one, _):
         return False
     timer = 1 <= one["timer"] <= DOWNGRADES[level] if level else one["timer"] == 0
     progress = one["progress"] < LEVELS[level] if LEVELS[level] else one["progress"] == 0
-    reserved = 1 <= one["other_ticks"] <= 5000 and level == 0 if one["other"] else one["other_ticks"] == 0
+    reserved = 1 <= one["other_ticks"] <= MOST_RESERVED and level == 0 if one["other"] else one["other_ticks"] == 0
     return (one["owner"] > 0) == (level > 0) and timer and progress and reserved
 
 

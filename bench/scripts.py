@@ -169,6 +169,15 @@ class Desk:
     def answer_suicide(self, _, id):
         return self.acted("suicide", id)
 
+    def answer_upgrade(self, _, id, target):
+        return self.acted("upgrade", id, target)
+
+    def answer_reserve(self, _, id, target):
+        return self.acted("reserve", id, target)
+
+    def answer_attack_controller(self, _, id, target):
+        return self.acted("attack_controller", id, target)
+
     def answer_move(self, _, id, direction):
         return self.acted("move", id, amount=direction)
 

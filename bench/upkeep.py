@@ -3,7 +3,7 @@
 It is a second writing of the rules in docs/formats.md, as bench/game.py is, which shares nothing with the program.
 """
 
-from game import BUILDINGS, Course, full_timer, live, source_room
+from game import BUILDINGS, DOWNGRADES, Course, full_timer, live, source_room
 
 LOSSES = {"container": 5000, "road": 100}
 OF_A_SPAWN = 300
@@ -52,6 +52,21 @@ def filled(course, index, one):
     one["energy"] += held < OF_A_SPAWN
 
 
+def lapsed(_, __, one):
+    """A controller loses time or, where nobody owns it, its reservation. What was put into it in the tick is forgotten."""
+    if one["kind"] != "controller":
+        return
+    if one["extra"] == 0:
+        one["other_ticks"] -= one["other"] > 0
+        one["other"] = one["other"] if one["other_ticks"] else 0
+        return
+    one["other_ticks"] = 0
+    one["timer"] -= 1
+    if one["timer"] == 0:
+        one.update(extra=one["extra"] - 1, progress=0, timer=DOWNGRADES[one["extra"] - 1] // 2)
+        one["owner"] = one["owner"] if one["extra"] else 0
+
+
 def renewed(course, index, one):
     if one["kind"] != "source":
         return
@@ -85,7 +100,7 @@ def dwindled(course, index, one):
             course.remove(index, one)
 
 
-STEPS = (struck, unloaded, aged, recovered, filled, renewed, weathered, dwindled)
+STEPS = (struck, unloaded, aged, recovered, filled, lapsed, renewed, weathered, dwindled)
 
 
 def settled(rooms, harm):

@@ -3,22 +3,48 @@
 import struct
 
 import compared_runs
-from game import ACTIONS, SECOND
+from game import ACTIONS, SECOND, thing
 from scripts import Table
 from worlds import Upload, account_of, full, room, world
 
 FIRST_NEW = 20
 
 
+# ---- objects, by their serials
+
+
+def parts(text):
+    """The parts of a body, as `work*3 carry`."""
+    found = []
+    for word in text.split():
+        part, _, count = word.partition("*")
+        found += [part] * int(count or 1)
+    return found
+
+
+def creep(serial, x, y, body, owner=1, **fields):
+    """A creep that was just made."""
+    body = parts(body)
+    return thing("creep", serial, x, y, **{"owner": owner, "body": body, "timer": 600 if "claim" in body else 1500, "energy": 0, **fields})
+
+
+def container(serial, x, y, **fields):
+    return thing("container", serial, x, y, **{"timer": 9, "energy": 0, **fields})
+
+
+# ---- a room and its tick
+
+
 class Case:
     """A room whose tick is worked out by hand. Ids are the serials of the room.
 
     A call is a player, its name, its arguments, and its answer. After the tick the named fields have these values, some objects are gone,
-    and new ones stand there, from serial 20 on. All else is as it was, but the timers of creeps, containers and roads are less by 1. Where some
-    new ones are gone again, `made` is how many there were."""
+    and new ones stand there, from serial 20 on. All else is as it was, but the timers of creeps, containers, roads and owned controllers are less
+    by 1, and so are the ticks of reservations. Where some new ones are gone again, `made` is how many there were. `gains` has the points that
+    players get in it."""
 
-    def __init__(self, name, objects, calls, after=(), gone=(), new=(), made=None):
-        self.name, self.objects, self.calls = name, objects, calls
+    def __init__(self, name, objects, calls, after=(), gone=(), new=(), made=None, gains=()):
+        self.name, self.objects, self.calls, self.gains = name, objects, calls, dict(gains)
         self.after, self.gone, self.new = dict(after), gone, list(new)
         self.made = len(self.new) if made is None else made
 
@@ -38,7 +64,9 @@ def expected(index, case):
     """The objects after the tick, by their ids."""
     before = full(world(room("E0S0", FIRST_NEW, *case.objects)))["rooms"][0]["objects"]
     for one in before:
-        one["timer"] -= one["kind"] in ("creep", "container", "road")
+        is_owned = one["kind"] == "controller" and one["owner"] > 0
+        one["timer"] -= is_owned or one["kind"] in ("creep", "container", "road")
+        one["other_ticks"] -= one["other"] > 0
     new = full(world(room("E0S0", FIRST_NEW, *case.new)))["rooms"][0]["objects"]
     objects = [{**one, **case.after.get(one["id"], {})} for one in before if one["id"] not in case.gone]
     return [with_ids(index, one) for one in objects + new]
@@ -57,6 +85,11 @@ def case_faults(index, case, place):
     if place["next"] != FIRST_NEW + case.made:
         faults.append(f"next is {place['next']} and not {FIRST_NEW + case.made}")
     return faults
+
+
+def points_after(first, cases, number):
+    """The points of a player after the tick."""
+    return account_of(full(first), number)["points"] + sum(case.gains.get(number, 0) for case in cases)
 
 
 def check_cases(checks, name, cases, players):
@@ -79,3 +112,6 @@ def check_cases(checks, name, cases, players):
             checks.note(f"{case.name}: a call of player {number}", [] if got == wanted else [f"{call} answered {got} and not {wanted}"])
     for index, case in enumerate(cases):
         checks.note(case.name, case_faults(index, case, after["rooms"][index]))
+    for number in calls:
+        got, wanted = account_of(after, number)["points"], points_after(first, cases, number)
+        checks.note(f"{name}: the points of player {number}", [] if got == wanted else [f"{got} and not {wanted}"])

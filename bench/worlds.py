@@ -9,7 +9,7 @@ import copy
 import json
 import struct
 
-from game import ACTIONS, FIELDS, KINDS, PARTS, Course, Harm, counting, hits_max, place_of, thing
+from game import ACTIONS, FIELDS, KINDS, MOST_POINTS, PARTS, Course, Harm, counting, hits_max, place_of, thing
 from movement import crossed, moved
 from upkeep import settled
 
@@ -275,7 +275,7 @@ def in_rising_id(it):
 
 def acted(it, runs, harm=None):
     """What the entries of these runs make of a world: how often an action had an effect, and how often it had none. Damage and healing are
-    summed beside it. Creeps step when all else is done."""
+    summed beside it, and accounts gain the points. Creeps step when all else is done."""
     course, done, moves = Course(it["rooms"], harm), {}, []
     wanted = [(run.player, counting(run.entries)) for run in sorted(runs, key=lambda run: run.player)]
     for action in ACTIONS:
@@ -290,6 +290,8 @@ def acted(it, runs, harm=None):
     stepping = len(moved(course, moves))
     done |= {("move", effect): count for effect, count in ((True, stepping), (False, len(moves) - stepping)) if count}
     in_rising_id(it)
+    for account in it["players"]:
+        account["points"] = min(MOST_POINTS, account["points"] + course.gains.get(account["player"], 0))
     return done
 
 

@@ -4,8 +4,8 @@
 It runs behind `rt ci`, which builds crates/world_server/out/world_server. First come rooms whose tick is worked out by hand, which both
 the program and bench/game.py have to meet; then all calls over all sorts of objects; then random ones, of which every object is compared
 after each tick. With --model no program is run, and bench/game.py alone is held against the rooms that are worked out. Who steps where is
-the subject of checks/moves.py, and how creeps fight and die that of checks/fights.py; here creeps step and cross among all the other things
-that they do.
+the subject of checks/moves.py, how creeps fight and die that of checks/fights.py, and what they do to controllers that of checks/controllers.py;
+here creeps step and cross among all the other things that they do.
 """
 
 import os
@@ -17,11 +17,11 @@ TOP = os.path.dirname(os.path.dirname(os.path.abspath(__file__)))
 sys.path.insert(0, os.path.join(TOP, "bench"))
 import compared_runs  # noqa: E402
 from checked_program import Checks  # noqa: E402
-from compared_runs import world_faults  # noqa: E402
+from drawn_runs import count_into, note_counts, play_drawn  # noqa: E402
 from game import ACTIONS, DIRECTIONS, FULL, INVALID, INVALID_TARGET, NO_BODYPART, NOT_ENOUGH, NOT_FOUND, NOT_IN_RANGE, NOT_OWNER, SECOND, TIRED, distance, thing  # noqa: E402
 from scripts import MOST_ENTRIES, Table  # noqa: E402
 from worked_rooms import FIRST_NEW, Case, check_cases, with_ids  # noqa: E402
-from worlds import Step, Upload, account_of, acted, full, grounds, objects_of, room, ticked, world  # noqa: E402
+from worlds import Upload, account_of, grounds, objects_of, room, world  # noqa: E402
 
 checks = Checks(__file__, "--model" not in sys.argv[1:])
 WORKER = ["work", "carry"]
@@ -609,44 +609,20 @@ class Draw:
         return found
 
 
-def count_into(done, counts):
-    for key, count in counts.items():
-        done[key] = done.get(key, 0) + count
-
-
-def homes_of(it):
-    """The rooms of all objects, by their ids."""
-    return {one["id"]: index for index, place in enumerate(it["rooms"]) for one in place["objects"]}
-
-
-def check_random(seed, ticks):
-    """Random calls of two players, made tick by tick for the world as it then stands."""
-    draw = Draw(seed)
-    first = draw.world()
-    it, uploads, steps, done = full(first), [], [], {}
-    for tick in range(ticks):
-        tables = [(number, Table(draw.calls(it, number))) for number in (1, 2)]
-        uploads += [Upload(tick, number, table) for number, table in tables]
-        runs = [table.run(it, number) for number, table in tables]
-        count_into(done, acted(full(it), runs))
-        homes, it = homes_of(it), ticked(it, runs)
-        count_into(done, {"crossings": sum(homes.get(id, home) != home for id, home in homes_of(it).items())})
-        steps.append(Step([(number, "accepted", table.content) for number, table in tables], runs, it))
-    checks.note(f"the worlds of seed {seed} keep the rules", world_faults(first, steps))
-    play(f"random calls of seed {seed}", first, ticks, uploads, steps=steps)
-    return done
+def crossings_between(before, after, _):
+    """How many creeps crossed in a tick."""
+    homes = [{one["id"]: index for index, place in enumerate(it["rooms"]) for one in place["objects"]} for it in (before, after)]
+    return {"crossings": sum(homes[0].get(id, home) != home for id, home in homes[1].items())}
 
 
 def check_randoms():
     done = {}
-    for seed, ticks in ((1, 70), (2, 70), (3, 70)):
-        count_into(done, check_random(seed, ticks))
+    for seed in (1, 2, 3):
+        draw = Draw(seed)
+        count_into(done, play_drawn(checks, f"random calls of seed {seed}", draw.world(), 70, (1, 2), draw.calls, crossings_between))
     # (a drop that was recorded always does something, and a source is seldom emptied before its last creep)
-    least = {(name, effect): 20 for name in (*WORKS, "move") for effect in (True, False)} | {("drop", False): 0, ("harvest", False): 1}
-    few = [f"{name} {'did something' if effect else 'did nothing'} {done.get((name, effect), 0)} times" for (name, effect), most in least.items() if done.get((name, effect), 0) < most]
-    checks.note("random calls of each action do something, and nothing, often enough", few)
-    crossings = done["crossings"]
-    checks.note("creeps cross often enough", [] if crossings >= 100 else [f"{crossings} times"])
+    least = {(name, effect): 20 for name in (*WORKS, "move") for effect in (True, False)} | {("drop", False): 0, ("harvest", False): 1, "crossings": 100}
+    note_counts(checks, "random calls of each action do something, and nothing, often enough, and creeps cross", done, least)
 
 
 def main():

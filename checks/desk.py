@@ -3,7 +3,8 @@
 
 It runs behind `rt ci`, which builds crates/world_server/out/world_server. What is compared with is worked out by
 bench/scripts.py, which has the table of the host's calls, and bench/worlds.py, which has the formats and the tick. A row
-is a call with its answer, or a run with all that it does. What creeps do to other objects is the subject of checks/creeps.py and checks/fights.py.
+is a call with its answer, or a run with all that it does. What creeps do to other objects is the subject of checks/creeps.py,
+checks/fights.py and checks/controllers.py.
 With --model no program is run, and it is only seen that the worlds keep the rules.
 """
 
@@ -416,7 +417,7 @@ def function_of(kind=1):
     return b"\0" + leb(kind)
 
 
-LATER = "claim_controller upgrade reserve attack_controller create_site remove_site spawn_creep"
+LATER = "claim_controller create_site remove_site spawn_creep"
 
 
 def import_refusals():

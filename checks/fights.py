@@ -18,12 +18,12 @@ TOP = os.path.dirname(os.path.dirname(os.path.abspath(__file__)))
 sys.path.insert(0, os.path.join(TOP, "bench"))
 import compared_runs  # noqa: E402
 from checked_program import Checks  # noqa: E402
-from compared_runs import world_faults  # noqa: E402
+from drawn_runs import count_into, note_counts, play_drawn  # noqa: E402
 from fights import SHAPES, Fight, dying  # noqa: E402
 from game import ACTIONS, BUILDINGS, DIRECTIONS, FULL, INVALID_TARGET, NO_BODYPART, NOT_FOUND, NOT_IN_RANGE, NOT_OWNER, SECOND, counting, distance, live, thing  # noqa: E402
 from scripts import MOST_ENTRIES, Table  # noqa: E402
-from worked_rooms import FIRST_NEW, Case, check_cases, with_ids  # noqa: E402
-from worlds import Step, Upload, account_of, acted, full, objects_of, room, ticked, world  # noqa: E402
+from worked_rooms import FIRST_NEW, Case, check_cases, container, creep, with_ids  # noqa: E402
+from worlds import Upload, account_of, objects_of, room, world  # noqa: E402
 
 checks = Checks(__file__, "--model" not in sys.argv[1:])
 FIGHTS = ["heal", "ranged_heal", "dismantle", "attack", "ranged_mass_attack", "ranged_attack", "suicide"]
@@ -35,29 +35,12 @@ def play(name, first, ticks, uploads, said=None, **others):
     return compared_runs.play(checks, name, first, ticks, uploads, said, **others)
 
 
-def parts(text):
-    """The parts of a body, as `work*3 carry`."""
-    found = []
-    for word in text.split():
-        part, _, count = word.partition("*")
-        found += [part] * int(count or 1)
-    return found
-
-
-def creep(serial, x, y, body, owner=1, **fields):
-    return thing("creep", serial, x, y, **{"owner": owner, "body": parts(body), "timer": 1500, "energy": 0, **fields})
-
-
 def spawn(serial, x, y, energy, owner=1, **fields):
     return thing("spawn", serial, x, y, owner=owner, energy=energy, **fields)
 
 
 def extension(serial, x, y, owner=1, **fields):
     return thing("extension", serial, x, y, **{"owner": owner, "energy": 0, **fields})
-
-
-def container(serial, x, y, **fields):
-    return thing("container", serial, x, y, **{"timer": 9, "energy": 0, **fields})
 
 
 def road(serial, x, y, **fields):
@@ -622,7 +605,8 @@ class Draw:
 
     def names(self, one):
         """What a creep does: mostly what it has parts for."""
-        able = [name for name in ACTIONS if name not in ("suicide", "move") and (not ACTIONS[name].part or live(one, ACTIONS[name].part))]
+        others = [name for name, action in ACTIONS.items() if name not in ("suicide", "move") and "controller" not in action.targets]
+        able = [name for name in others if not ACTIONS[name].part or live(one, ACTIONS[name].part)]
         names = self.random.sample(able, min(len(able), self.random.choice((1, 2, 2, 3))))
         return names + ["move"] * self.chance(0.5) + ["suicide"] * self.chance(0.015)
 
@@ -653,37 +637,14 @@ def ends_between(before, after, runs):
     return done
 
 
-def count_into(done, counts):
-    for key, count in counts.items():
-        done[key] = done.get(key, 0) + count
-
-
-def check_random(seed, fours, ticks):
-    """Random calls of three players, made tick by tick for the world as it then stands."""
-    draw = Draw(seed)
-    first = draw.world(fours)
-    it, uploads, steps, done = full(first), [], [], {}
-    for tick in range(ticks):
-        tables = [(number, Table(draw.calls(it, number))) for number in (1, 2, 3)]
-        uploads += [Upload(tick, number, table) for number, table in tables]
-        runs = [table.run(it, number) for number, table in tables]
-        count_into(done, acted(full(it), runs))
-        before, it = it, ticked(it, runs)
-        count_into(done, ends_between(before, it, runs))
-        steps.append(Step([(number, "accepted", table.content) for number, table in tables], runs, it))
-    checks.note(f"the worlds of seed {seed} keep the rules", world_faults(first, steps))
-    play(f"random fights of seed {seed}", first, ticks, uploads, steps=steps)
-    return done
-
-
 def check_randoms():
     done = {}
     for seed in range(1, 7):
-        count_into(done, check_random(seed, 8, 8))
+        draw = Draw(seed)
+        count_into(done, play_drawn(checks, f"random fights of seed {seed}", draw.world(8), 8, (1, 2, 3), draw.calls, ends_between))
     least = {(name, True): 100 for name in FIGHTS} | {"ended themselves": 50, "came of age": 200, "were killed": 500, "lost carry parts with a load": 50}
     least |= {f"{kind}s fell": 20 for kind in BUILDINGS} | {"storages fell": 10}
-    few = [f"{what}: {done.get(what, 0)} times" for what, most in least.items() if done.get(what, 0) < most]
-    checks.note("of all that fights come to there is enough", few)
+    note_counts(checks, "of all that fights come to there is enough", done, least)
 
 
 def main():

@@ -343,6 +343,7 @@ def check_actions(text):
     rows = table_under(text, "| Site of | Number | Work | Hits |")
     note("the table of sites", differ("sites", [[name, *map(whole, numbers_)] for name, *numbers_ in rows], wanted))
     check_powers(text)
+    check_levels(text)
     check_overruling(text)
     check_steps(text)
 
@@ -358,7 +359,7 @@ def check_powers(text):
         f"**build**: {worked} for each work part go into the site",
         f"its full timer: {timers['Road in_owned']:,} a road, a container {timers['Container true']} where somebody owns the room's controller and else {timers['Container false']}.",
     ]
-    note_sentences(text, sentences + fight_sentences())
+    note_sentences(text, sentences + fight_sentences() + controller_sentences())
 
 
 def note_sentences(text, sentences):
@@ -392,6 +393,31 @@ def fight_sentences():
         f"| ranged heal | {far} healing | 3 |",
         f"as long as they have less than {most}, and the spawns and extensions of their owner in the room have less than {most} together.",
     ]
+
+
+def controller_sentences():
+    """What the text says of upgrades, of reservations and of attacks on controllers."""
+    claims = text_of("crates/world_rules/specs/Claims.antt")
+    last, first = (re.search(it, claims, re.M)[1] for it in (r"^most_at_last = (\d+)$", r"if controller\.other == 0 then (\d+) else"))
+    longer, cut = (re.search(it, claims)[1] for it in (r"controller\.timer \+ (\d+)\)", r"controller\.timer - (\d+) \* live_claim creep"))
+    most = defined_number("game_tables/specs/Fields.antt", "most_other_ticks Controller")
+    points = 2 ** int(re.search(r"^most_points = 2 \^ (\d+)$", text_of("crates/game_tables/specs/Limits.antt"), re.M)[1])
+    return [
+        f"together put {last} at most into a controller of level 8 in a tick.",
+        f"for each claim part, up to {most:,}. A new reservation begins with {first}.",
+        f"the time of another player's controller falls by {cut} ticks for each claim part",
+        f"makes the time longer by {longer} ticks",
+        f"No player has more than {points:,}",
+    ]
+
+
+def check_levels(text):
+    """The table of levels says what the next one wants, and how long each is kept."""
+    levels = text_of("crates/game_tables/specs/Levels.antt")
+    totals, times = ([int(it) for it in re.findall(r"Some (\d+)", block_of(levels, name))] for name in ("totals", "downgrades"))
+    wanted = [[level, total, time] for level, (total, time) in enumerate(zip([*totals, None], times, strict=True), 1)]
+    rows = table_under(text, "| Level | The next wants | Time |")
+    note("the table of levels", differ("levels", [[whole(level), whole(total) if total else None, whole(time)] for level, total, time in rows], wanted))
 
 
 def check_overruling(text):
@@ -1191,7 +1217,8 @@ void loop(void) {
     sum += screeps_transfer(1, 2, 0) + screeps_withdraw(1, 2, 0) + screeps_pickup(1, 2);
     sum += screeps_heal(1, 2) + screeps_ranged_heal(1, 2) + screeps_dismantle(1, 2) + screeps_attack(1, 2);
     sum += screeps_harvest(1, 2) + screeps_repair(1, 2) + screeps_build(1, 2);
-    sum += screeps_ranged_mass_attack(1) + screeps_ranged_attack(1, 2) + screeps_suicide(1) + screeps_move(1, DIRECTION_TOP_LEFT);
+    sum += screeps_ranged_mass_attack(1) + screeps_ranged_attack(1, 2) + screeps_suicide(1) + screeps_upgrade(1, 2);
+    sum += screeps_reserve(1, 2) + screeps_attack_controller(1, 2) + screeps_move(1, DIRECTION_TOP_LEFT);
 }
 """
 

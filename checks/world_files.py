@@ -6,7 +6,6 @@ from docs/formats.md, not from the program.
 It runs behind `rt ci`, which builds crates/world_server/out/world_server.
 """
 
-import copy
 import json
 import os
 import subprocess

@@ -19,7 +19,7 @@
  * something answers CODE_OK where it was recorded. Any other code says that nothing was recorded or changed. */
 enum {
     CODE_OK = 0,
-    CODE_NOT_OWNER = -1,            /* it belongs to another player */
+    CODE_NOT_OWNER = -1,            /* it isn't the player's */
     CODE_NOT_FOUND = -5,            /* no such object is in sight */
     CODE_NOT_ENOUGH_RESOURCES = -6, /* there isn't so much energy */
     CODE_INVALID_TARGET = -7,       /* no such target is in sight, or it is none for this */
@@ -156,7 +156,8 @@ SCREEPS_CALL(memory_write) int screeps_memory_write(const void *at, unsigned len
  * for the same creep, the last call counts.
  *
  * A creep may do several things in one tick, but of these only the first of the list that is recorded counts: heal, ranged_heal,
- * dismantle, repair, build, attack, harvest; and of these: ranged_heal, repair or build, ranged_mass_attack, ranged_attack.
+ * attack_controller, dismantle, repair, build, attack, harvest; and of these: ranged_heal, repair or build, ranged_mass_attack,
+ * ranged_attack.
  *
  * An amount of 0 wants all there is; where it is above 0, so much has to be there, and room for it. What comes before it
  * in the tick may leave less: then less is taken. */
@@ -217,8 +218,21 @@ SCREEPS_CALL(ranged_mass_attack) int screeps_ranged_mass_attack(long long creep)
  * Or CODE_NO_BODYPART. */
 SCREEPS_CALL(ranged_attack) int screeps_ranged_attack(long long creep, long long target);
 
-/* The creep dies at the end of the tick, and what it carries falls on its tile. */
+/* The creep dies at the end of the tick, and what it carries falls on its tile. What comes below it does no more. */
 SCREEPS_CALL(suicide) int screeps_suicide(long long creep);
+
+/* Puts energy into an own controller within 3 tiles: 1 for each WORK part, as far as it carries that; one of level 8 takes 15 in a tick.
+ * Each is a point, and one of what the next level wants; and the controller's time gets longer by 100 ticks. Or CODE_NO_BODYPART,
+ * CODE_NOT_OWNER (the controller isn't the player's too), CODE_NOT_ENOUGH_RESOURCES (it carries nothing). */
+SCREEPS_CALL(upgrade) int screeps_upgrade(long long creep, long long target);
+
+/* Reserves a controller within 1 tile for a tick more for each CLAIM part, up to 5,000; a new reservation begins with 1. Or
+ * CODE_NO_BODYPART, CODE_INVALID_TARGET (somebody owns it, or another reserves it, too). */
+SCREEPS_CALL(reserve) int screeps_reserve(long long creep, long long target);
+
+/* Takes from another player's controller within 1 tile 300 ticks of its time for each CLAIM part, or from his reservation 1 tick; 1 tick
+ * is left. Or CODE_NO_BODYPART, CODE_INVALID_TARGET (no other player owns or reserves it, too). */
+SCREEPS_CALL(attack_controller) int screeps_attack_controller(long long creep, long long target);
 
 /* Steps onto the tile that lies in a direction, after all that creeps do besides. What is no tile of the room, a wall, or one
  * with a source, a controller, a spawn, an extension or a storage is not refused here, and then the creep stays; so it does

@@ -7,7 +7,7 @@ use Rattle.game_tables.specs.declared.code.Code.TheVariants.{Done}
 use Rattle.game_tables.specs.Actions.{max_range, needed_part}
 use Rattle.game_tables.specs.declared.action.Action.{Action}
 use Rattle.game_tables.specs.declared.kind.Part.{Part}
-use Rattle.game_tables.specs.declared.action.Action.TheVariants.{DropLoad, Transfer, Withdraw, Pickup, Harvest, Repair, Build, Move}
+use Rattle.game_tables.specs.declared.action.Action.TheVariants.{DropLoad, Transfer, Withdraw, Pickup, Harvest, Repair, Build, ClaimController, Upgrade, Reserve, AttackController, Move}
 use Rattle.action_checks.specs.inner.Passing.{Passes}
 use Rattle.world_rules.specs.Checks.{Check, Scene, all_hold, amount_checks, checks, creep_checks, first_failing, further_checks, part_checks, target_checks}
 
@@ -74,6 +74,10 @@ further_codes Pickup scene = (λ e. cc, tt)
 further_codes Harvest scene = (λ e. cc, (λ e. cc, tt))
 further_codes Repair scene = (λ e. cc, tt)
 further_codes Build scene = (λ e. cc, (λ e. cc, (λ e. cc, tt)))
+further_codes ClaimController scene = (λ e. cc, tt)
+further_codes Upgrade scene = (λ e. cc, (λ e. cc, tt))
+further_codes Reserve scene = (λ e. cc, tt)
+further_codes AttackController scene = (λ e. cc, tt)
 further_codes Move scene = (λ e. cc, tt)
 further_codes _ scene = tt
 

@@ -3,7 +3,7 @@ ghost use Rattle.std.specs.Prelude.{◌≡◌, ◌==◌, [], ◌∷◌, option_m
 ghost use Rattle.std.specs.Option.{unwrap_or};
 ghost use Rattle.object_store.specs.Controllers.{is_anothers as is_anothers_room};
 ghost use Rattle.world_rules.specs.World.{shown};
-ghost use Rattle.world_rules.specs.Checks.{all_hold, amount_checks, is_amount_of as amount_of, are_near as near, checks, controller_around as around_controller, creep_checks, first_failing, further_checks, holds_least, holds_of, is_in_the_way, is_reachable, may_be_target as target_of, part_checks, reaches_itself as itself, takes_least, target_checks};
+ghost use Rattle.world_rules.specs.Checks.{all_hold, amount_checks, is_amount_of as amount_of, are_near as near, checks, controller_around as around_controller, creep_checks, first_failing, further_checks, holds_least, holds_of, is_free_for as free_for, is_in_the_way, is_reachable, may_be_target as target_of, part_checks, reaches_itself as itself, takes_least, target_checks};
 ghost use Rattle.action_checks.specs.Scenes.{scene_view};
 ghost use Rattle.action_checks.specs.inner.Passing.{Passes};
 
@@ -135,6 +135,9 @@ fn check_further(action: Action, scene: &Scene) -> Result<(), Code>
         Action::Harvest => check_harvest(scene),
         Action::Repair => check_holds(1, scene.actor),
         Action::Build => check_build(scene),
+        Action::ClaimController | Action::Reserve => check_free(scene),
+        Action::Upgrade => check_upgrade(scene),
+        Action::AttackController => check_anothers(scene),
         Action::Move => check_rested(scene),
         _ => Ok(()),
     }
@@ -172,6 +175,38 @@ fn check_build(scene: &Scene) -> Result<(), Code>
     check_owned(scene)?;
     check_holds(1, scene.actor)?;
     check_way(scene)
+}
+
+// The controller is the player's, and the creep carries something.
+fn check_upgrade(scene: &Scene) -> Result<(), Code>
+    ensures { Passes result (further_checks Action.Upgrade (scene_view scene.now)) }
+{
+    check_owned(scene)?;
+    check_holds(1, scene.actor)
+}
+
+// Nobody owns the controller, and no other player reserves it.
+fn check_free(scene: &Scene) -> Result<(), Code>
+    ensures { Passes result ((
+      holds_of (scene_view scene.now).target
+          (free_for (scene_view scene.now).player),
+      Code.InvalidTarget,
+    ) ∷ []) }
+{
+    match scene.target {
+        Some(target) if is_free_for(scene.player, target.object) => Ok(()),
+        _ => Err(Code::InvalidTarget),
+    }
+}
+
+// Another player owns or reserves the controller.
+fn check_anothers(scene: &Scene) -> Result<(), Code>
+    ensures { Passes result (further_checks Action.AttackController (scene_view scene.now)) }
+{
+    match scene.target {
+        Some(target) if is_anothers(Some(target.object), scene.player) => Ok(()),
+        _ => Err(Code::InvalidTarget),
+    }
 }
 
 // The creep is not tired.
@@ -281,6 +316,13 @@ fn is_in_the_way(around: Option<&RoomTable>, site: &Object) -> bool
         Some(table) => obstructs(kind) && table.at(site.x, site.y, Kind::Creep).is_some(),
         None => false,
     }
+}
+
+// Whether nobody owns a controller, and no other player reserves it.
+fn is_free_for(player: u32, controller: &Object) -> bool
+    ensures { result ≡ free_for player controller.now }
+{
+    controller.owner == 0 && (controller.other == 0 || controller.other == player)
 }
 
 // The controller of the room of the actor.

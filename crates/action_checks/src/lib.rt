@@ -3,8 +3,6 @@
 
 mod checks;
 mod effect;
-#[cfg(test)]
-mod tests;
 
 pub use checks::{Scene, all_hold, first_failing};
 pub use effect::{acting, parties, takes_effect};

@@ -5,8 +5,6 @@ mod attacking;
 mod ending;
 mod healing;
 mod mass;
-#[cfg(test)]
-mod tests;
 
 pub use attacking::{attack, ranged_attack};
 pub use ending::suicide;

@@ -5,8 +5,6 @@ mod amounts;
 mod handing;
 mod load;
 mod picking;
-#[cfg(test)]
-mod tests;
 
 pub use handing::{transfer, withdraw};
 pub use load::drop_load;

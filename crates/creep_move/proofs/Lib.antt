@@ -7,4 +7,3 @@ pub mod Deciding
 pub mod Landed
 pub mod Eached
 pub mod Moved
-pub mod Examples

@@ -5,8 +5,6 @@ mod arrivals;
 mod candidate;
 mod landing;
 mod moving;
-#[cfg(test)]
-mod tests;
 mod walk;
 
 pub use moving::settle_moves;

@@ -5,8 +5,6 @@ mod building;
 mod dismantling;
 mod harvesting;
 mod repairing;
-#[cfg(test)]
-mod tests;
 
 pub use building::build;
 pub use dismantling::dismantle;

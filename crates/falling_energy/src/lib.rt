@@ -2,7 +2,5 @@
 #![tactic(auto)]
 
 mod falls;
-#[cfg(test)]
-mod tests;
 
 pub use falls::fall;

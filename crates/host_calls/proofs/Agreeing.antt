@@ -6,7 +6,7 @@ use Rattle.std.proofs.lemmas.Bool.{and_parts, cases_Bool, eqb-true, leb-true, le
 use Rattle.game_tables.specs.Actions.{is_target, max_range, needed_part}
 use Rattle.game_tables.specs.Bodies.{live_count}
 use Rattle.game_tables.specs.declared.action.Action.{Action}
-use Rattle.game_tables.specs.declared.action.Action.TheVariants.{DropLoad, Transfer, Withdraw, Pickup, Harvest, Repair, Build, Move}
+use Rattle.game_tables.specs.declared.action.Action.TheVariants.{DropLoad, Transfer, Withdraw, Pickup, Harvest, Repair, Build, ClaimController, Upgrade, Reserve, AttackController, Move}
 use Rattle.game_tables.specs.declared.code.Code.{Code}
 use Rattle.game_tables.specs.declared.code.Code.TheVariants.{Done}
 use Rattle.game_tables.specs.declared.kind.Part.{Part}
@@ -107,6 +107,10 @@ further_lower Pickup scene amount some holds = holds
 further_lower Harvest scene amount some holds = holds
 further_lower Repair scene amount some holds = holds
 further_lower Build scene amount some holds = holds
+further_lower ClaimController scene amount some holds = holds
+further_lower Upgrade scene amount some holds = holds
+further_lower Reserve scene amount some holds = holds
+further_lower AttackController scene amount some holds = holds
 further_lower Move scene amount some holds = holds
 further_lower _ scene amount some holds = refl
 
@@ -141,6 +145,10 @@ module _ (scene : Scene) (actor target : Option Placed) (around : List Object) (
   further_again Harvest same_target holds = beside Harvest (same_target 1 refl) holds
   further_again Repair same_target holds = beside Repair (same_target 3 refl) holds
   further_again Build same_target holds = beside Build (same_target 3 refl) holds
+  further_again ClaimController same_target holds = beside ClaimController (same_target 1 refl) holds
+  further_again Upgrade same_target holds = beside Upgrade (same_target 3 refl) holds
+  further_again Reserve same_target holds = beside Reserve (same_target 1 refl) holds
+  further_again AttackController same_target holds = beside AttackController (same_target 1 refl) holds
   further_again Move same_target holds = alone_moving holds
   further_again _ same_target holds = refl
 

@@ -6,7 +6,7 @@ use Rattle.std.proofs.lemmas.List.{length-take}
 use Rattle.game_tables.specs.Codes.{code_number}
 use Rattle.game_tables.specs.Limits.{most_memory}
 use Rattle.game_tables.specs.declared.action.Action.{Action}
-use Rattle.game_tables.specs.declared.action.Action.TheVariants.{DropLoad, Transfer, Withdraw, Pickup, Heal, RangedHeal, Dismantle, Attack, Harvest, Repair, Build, RangedMassAttack, RangedAttack, Suicide, Move}
+use Rattle.game_tables.specs.declared.action.Action.TheVariants.{DropLoad, Transfer, Withdraw, Pickup, Heal, RangedHeal, Dismantle, Attack, Harvest, Repair, Build, RangedMassAttack, RangedAttack, Suicide, Upgrade, Reserve, AttackController, Move}
 use Rattle.game_tables.specs.declared.code.Code.{Code}
 use Rattle.game_tables.specs.declared.code.Code.TheVariants.{Done, InvalidArgs}
 use Rattle.intent_book.specs.declared.intent.Intent.{Intent}
@@ -65,6 +65,12 @@ reply_of_size call.RangedAttack desk memory args =
     act_size RangedAttack desk memory (argument args 0) (argument args 1) (pos 0)
 reply_of_size call.Suicide desk memory args =
     act_size Suicide desk memory (argument args 0) (pos 0) (pos 0)
+reply_of_size call.Upgrade desk memory args =
+    act_size Upgrade desk memory (argument args 0) (argument args 1) (pos 0)
+reply_of_size call.Reserve desk memory args =
+    act_size Reserve desk memory (argument args 0) (argument args 1) (pos 0)
+reply_of_size call.AttackController desk memory args =
+    act_size AttackController desk memory (argument args 0) (argument args 1) (pos 0)
 reply_of_size call.Move desk memory args =
     act_size Move desk memory (argument args 0) (pos 0) (argument args 1)
 reply_of_size _ desk memory args = (refl, refl)
@@ -139,6 +145,12 @@ reply_of_unchanged call.RangedAttack desk memory args =
     act_unchanged RangedAttack desk memory (argument args 0) (argument args 1) (pos 0)
 reply_of_unchanged call.Suicide desk memory args =
     act_unchanged Suicide desk memory (argument args 0) (pos 0) (pos 0)
+reply_of_unchanged call.Upgrade desk memory args =
+    act_unchanged Upgrade desk memory (argument args 0) (argument args 1) (pos 0)
+reply_of_unchanged call.Reserve desk memory args =
+    act_unchanged Reserve desk memory (argument args 0) (argument args 1) (pos 0)
+reply_of_unchanged call.AttackController desk memory args =
+    act_unchanged AttackController desk memory (argument args 0) (argument args 1) (pos 0)
 reply_of_unchanged call.Move desk memory args =
     act_unchanged Move desk memory (argument args 0) (pos 0) (argument args 1)
 reply_of_unchanged _ desk memory args = λ _. (refl, refl)

@@ -4,7 +4,7 @@ use Rattle.std.specs.Option.{unwrap_or}
 use Rattle.game_tables.specs.Codes.{code_number}
 use Rattle.game_tables.specs.Limits.{most_memory}
 use Rattle.game_tables.specs.declared.action.Action.{Action}
-use Rattle.game_tables.specs.declared.action.Action.TheVariants.{DropLoad, Transfer, Withdraw, Pickup, Heal, RangedHeal, Dismantle, Attack, Harvest, Repair, Build, RangedMassAttack, RangedAttack, Suicide, Move}
+use Rattle.game_tables.specs.declared.action.Action.TheVariants.{DropLoad, Transfer, Withdraw, Pickup, Heal, RangedHeal, Dismantle, Attack, Harvest, Repair, Build, RangedMassAttack, RangedAttack, Suicide, Upgrade, Reserve, AttackController, Move}
 use Rattle.game_tables.specs.declared.code.Code.{Code}
 use Rattle.game_tables.specs.declared.code.Code.TheVariants.{Done, NotFound, Full, InvalidArgs}
 use Rattle.room_terrain.specs.Tiles.{ground_number}
@@ -225,6 +225,16 @@ mass_attack_reply desk memory id = act_reply RangedMassAttack desk memory id (po
 abbrev pub suicide_reply : Desk → Memory → ℤ → Reply
 suicide_reply desk memory id = act_reply Suicide desk memory id (pos 0) (pos 0)
 
+-- upgrade, reserve and attack_controller: a creep and a controller, and no amount
+abbrev pub upgrade_reply : Desk → Memory → ℤ → ℤ → Reply
+upgrade_reply desk memory id target = act_reply Upgrade desk memory id target (pos 0)
+
+abbrev pub reserve_reply : Desk → Memory → ℤ → ℤ → Reply
+reserve_reply desk memory id target = act_reply Reserve desk memory id target (pos 0)
+
+abbrev pub attack_controller_reply : Desk → Memory → ℤ → ℤ → Reply
+attack_controller_reply desk memory id target = act_reply AttackController desk memory id target (pos 0)
+
 -- move: the amount is the number of the direction
 abbrev pub move_reply : Desk → Memory → ℤ → ℤ → Reply
 move_reply desk memory id direction = act_reply Move desk memory id (pos 0) direction
@@ -267,6 +277,10 @@ reply_of call.RangedMassAttack desk memory args = mass_attack_reply desk memory 
 reply_of call.RangedAttack desk memory args =
     ranged_attack_reply desk memory (argument args 0) (argument args 1)
 reply_of call.Suicide desk memory args = suicide_reply desk memory (argument args 0)
+reply_of call.Upgrade desk memory args = upgrade_reply desk memory (argument args 0) (argument args 1)
+reply_of call.Reserve desk memory args = reserve_reply desk memory (argument args 0) (argument args 1)
+reply_of call.AttackController desk memory args =
+    attack_controller_reply desk memory (argument args 0) (argument args 1)
 reply_of call.Move desk memory args = move_reply desk memory (argument args 0) (argument args 1)
 
 -- the reply to a call with as many arguments as its type has, and to any other

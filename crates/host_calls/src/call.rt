@@ -35,10 +35,13 @@ pub enum Call {
     RangedMassAttack,
     RangedAttack,
     Suicide,
+    Upgrade,
+    Reserve,
+    AttackController,
     Move,
 }
 
-static CALLS: [Call; 31] = [
+static CALLS: [Call; 34] = [
     Call::Tick,
     Call::Me,
     Call::Allowance,
@@ -69,6 +72,9 @@ static CALLS: [Call; 31] = [
     Call::RangedMassAttack,
     Call::RangedAttack,
     Call::Suicide,
+    Call::Upgrade,
+    Call::Reserve,
+    Call::AttackController,
     Call::Move,
 ];
 

@@ -143,6 +143,9 @@ impl<'a, 'v> Desk<'a, 'v> {
             Call::RangedMassAttack => told(self.act(Action::RangedMassAttack, first, 0, 0)),
             Call::RangedAttack => told(self.act(Action::RangedAttack, first, second, 0)),
             Call::Suicide => told(self.act(Action::Suicide, first, 0, 0)),
+            Call::Upgrade => told(self.act(Action::Upgrade, first, second, 0)),
+            Call::Reserve => told(self.act(Action::Reserve, first, second, 0)),
+            Call::AttackController => told(self.act(Action::AttackController, first, second, 0)),
             Call::Move => told(self.act(Action::Move, first, 0, second)),
         }
     }

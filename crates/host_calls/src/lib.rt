@@ -5,12 +5,8 @@ mod call;
 mod desk;
 mod laws;
 mod number;
-#[cfg(test)]
-mod refusals;
 mod seen;
 mod signatures;
-#[cfg(test)]
-mod tests;
 mod wish;
 
 pub use call::Call;

@@ -4,7 +4,7 @@ ghost use Rattle.host_calls.specs.Calls.{AreSignatures, all_calls, call_at, row}
 
 use wasm_module::{HostSig, ValType};
 
-static SIGNATURES: [HostSig; 31] = [
+static SIGNATURES: [HostSig; 34] = [
     HostSig {
         name: "tick",
         params: &[],
@@ -153,6 +153,21 @@ static SIGNATURES: [HostSig; 31] = [
     HostSig {
         name: "suicide",
         params: &[ValType::I64],
+        result: Some(ValType::I32),
+    },
+    HostSig {
+        name: "upgrade",
+        params: &[ValType::I64, ValType::I64],
+        result: Some(ValType::I32),
+    },
+    HostSig {
+        name: "reserve",
+        params: &[ValType::I64, ValType::I64],
+        result: Some(ValType::I32),
+    },
+    HostSig {
+        name: "attack_controller",
+        params: &[ValType::I64, ValType::I64],
         result: Some(ValType::I32),
     },
     HostSig {

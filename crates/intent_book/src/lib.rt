@@ -8,8 +8,6 @@ mod laws;
 mod player_run;
 mod recorded;
 mod refusal;
-#[cfg(test)]
-mod tests;
 
 pub use game_tables::{Action, Body, Part};
 pub use intent::{Intent, Intents};

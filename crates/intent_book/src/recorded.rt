@@ -141,34 +141,3 @@ impl Recorded {
         Intents::of(canonical)
     }
 }
-
-#[cfg(test)]
-mod tests {
-    use super::*;
-    use crate::entries::renumber;
-    use crate::tests::{intent, told};
-    use game_tables::Action;
-    use std::test::Fail;
-
-    #[test]
-    fn new_numbers_keep_the_list(rt: HostRuntime) -> Result<(), Fail> {
-        let mut recorded = Recorded::reserve(rt.alloc(), 7)?;
-        for actor in 0..5 {
-            assert!(rt; recorded.put(intent(Action::DropLoad, actor, 0)));
-        }
-        assert!(rt; recorded.put(intent(Action::DropLoad, 1, 1)));
-        assert!(rt; recorded.put(intent(Action::DropLoad, 3, 2)));
-        assert!(rt; recorded.put(intent(Action::DropLoad, 1, 3)));
-        assert_eq!(rt; recorded.next, 8);
-        recorded.next = renumber(&mut recorded.entries, recorded.next);
-        assert_eq!(rt; recorded.next, 5);
-        assert_eq!(rt; told(recorded.nth(0)), Some((1, 0, 0)));
-        assert_eq!(rt; told(recorded.nth(1)), Some((1, 2, 0)));
-        assert_eq!(rt; told(recorded.nth(2)), Some((1, 4, 0)));
-        assert_eq!(rt; told(recorded.nth(3)), Some((1, 3, 2)));
-        assert_eq!(rt; told(recorded.nth(4)), Some((1, 1, 3)));
-        assert!(rt; recorded.put(intent(Action::DropLoad, 0, 4)));
-        assert_eq!(rt; told(recorded.nth(4)), Some((1, 0, 4)));
-        Ok(())
-    }
-}

@@ -1,5 +1,5 @@
 // The decoder and the writer of modules together: the round trip as a law, and modules of another
-// assembler and the rows of the binary form as tests.
+// assembler as tests.
 #![tactic(auto)]
 
 ghost use Rattle.std.specs.Prelude.{◌≡◌, ℕ, List, IfOk, IfErr};
@@ -11,13 +11,9 @@ use wasm_encode::encode;
 use wasm_module::{DecodeFault, Module, decode};
 
 #[cfg(test)]
-mod decode_tests;
-#[cfg(test)]
 mod opcode_tests;
 #[cfg(test)]
 mod seen;
-#[cfg(test)]
-mod tests;
 #[cfg(test)]
 mod whole_tests;
 

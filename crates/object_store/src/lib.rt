@@ -12,8 +12,6 @@ mod slots;
 mod standing;
 mod stores;
 mod tally;
-#[cfg(test)]
-mod tests;
 mod tile_index;
 mod world;
 

@@ -5,8 +5,6 @@ mod admission;
 mod laws;
 mod outcome;
 mod run;
-#[cfg(test)]
-mod tests;
 
 pub use admission::{Refusal, admit};
 pub use laws::{emitted_once, judged_once};

@@ -7,7 +7,7 @@ use Rattle.std.specs.Cmp.{nat_cmp_total, unsigned_tied}
 use Rattle.std.specs.FinMap.{FinMap, find, get, insert, get-insert, get-remove, get-from_entries}
 use Rattle.std.proofs.lemmas.Bool.{eqb-true}
 use Rattle.game_tables.specs.declared.action.Action.{Action}
-use Rattle.game_tables.specs.declared.action.Action.TheVariants.{DropLoad, Transfer, Withdraw, Pickup, Dismantle, Harvest, Repair, Build, Suicide}
+use Rattle.game_tables.specs.declared.action.Action.TheVariants.{DropLoad, Transfer, Withdraw, Pickup, Dismantle, Harvest, Repair, Build, Suicide, ClaimController, Upgrade, Reserve, AttackController}
 use Rattle.game_tables.specs.declared.kind.Kind.{Kind}
 use Rattle.object_store.specs.Stored.{Stored}
 use Rattle.object_store.specs.Stores.{building_of, free_room}
@@ -21,6 +21,7 @@ use Rattle.world_rules.specs.Drops.{pile_bound, pile_on, pile_of, fallen_on, fal
 use Rattle.world_rules.specs.Loads.{with_more, with_less, handed_over, transferred_by, withdrawn_by, taken_from, picked_up_by}
 use Rattle.world_rules.specs.Work.{live_work, harvested_by, hits_gained, repair_cost, repaired_by, total_of, work_put, building_on, advanced, built_as, built_by}
 use Rattle.world_rules.specs.Fights.{dismantled_by, salvage, without_hits}
+use Rattle.world_rules.specs.Claims.{claimed_by, claimed_for, controller_hurt, hurt_by, reserved_by, ticks_reserved, upgraded_by, work_taken, worked_on}
 use Rattle.world_rules.specs.Steps.{by_object}
 use Rattle.world_rules.specs.Tick.{rule_of, book}
 use Rattle.world_rules.proofs.Parts.{put_in, only, except, get_objects_in, get_with_room}
@@ -119,6 +120,9 @@ dismantle_keyed creep building part keyed =
     let taken : ℕ = min amount (free_room (controller_of part) creep) in
     keyed_fallen creep.x creep.y (amount - taken) (with_object (with_more taken creep) part) (keyed_object (with_more taken creep) part keyed)
 
+upgrade_keyed : (creep controller : Object) → KeepsKeyed (upgraded_by creep controller)
+upgrade_keyed creep controller = let amount : ℕ = work_taken creep controller in two_keyed (worked_on amount controller) (with_less amount creep)
+
 end_keyed : (creep : Option Object) → KeepsKeyed (λ part. by_object without_hits part creep)
 end_keyed None part keyed = keyed
 end_keyed (Some creep) part keyed = keyed_object (record creep { hits = 0 }) part keyed
@@ -141,6 +145,10 @@ rule_keyed Repair entry part keyed = parties_keyed Repair repaired_by repair_key
 rule_keyed Build entry part keyed = parties_keyed Build built_by (λ creep site. build_keyed creep site (building_of site)) entry part keyed
 rule_keyed Dismantle entry part keyed = parties_keyed Dismantle dismantled_by dismantle_keyed entry part keyed
 rule_keyed Suicide entry part keyed = end_keyed (acting Suicide entry part) part keyed
+rule_keyed ClaimController entry part keyed = parties_keyed ClaimController (claimed_by entry.player) (λ creep controller. keyed_object (claimed_for entry.player controller)) entry part keyed
+rule_keyed Upgrade entry part keyed = parties_keyed Upgrade upgraded_by upgrade_keyed entry part keyed
+rule_keyed Reserve entry part keyed = parties_keyed Reserve (reserved_by entry.player) (λ creep controller. keyed_object (record controller { other = entry.player; other_ticks = ticks_reserved creep controller })) entry part keyed
+rule_keyed AttackController entry part keyed = parties_keyed AttackController hurt_by (λ creep controller. keyed_object (controller_hurt creep controller)) entry part keyed
 rule_keyed _ entry part keyed = keyed
 
 pub book_keyed : KeepsKeys book

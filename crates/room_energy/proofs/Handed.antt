@@ -37,7 +37,7 @@ taken_none None = refl
 taken_none (Some found) = refl
 
 -- A change that takes nothing.
-keeps_parties : (action : Action) (change : Object → Object → RoomPart → RoomPart) (entry : Intent) (part : RoomPart)
+pub keeps_parties : (action : Action) (change : Object → Object → RoomPart → RoomPart) (entry : Intent) (part : RoomPart)
     → ((creep target : Object) → AreParties action entry part creep target → energy_in (change creep target part) ≡ energy_in part) → energy_in (by_parties action change entry part) + 0 ≡ energy_in part
 keeps_parties action change entry part keeps =
     let all = energy_parties action change (λ creep target. 0) entry part (λ creep target p. (let kept = keeps creep target p in omega (arith, kept))) in

@@ -4,4 +4,5 @@ pub mod Piles
 pub mod Handed
 pub mod Worked
 pub mod Fought
+pub mod Claimed
 pub mod Taken

@@ -1,7 +1,7 @@
 -- What each entry does to the energy of its room.
 use Rattle.std.proofs.Common.{◌≡◌, ℕ, ◌+◌, ◌^◌, ◌<◌, Bool, refl, ap, arith}
 use Rattle.game_tables.specs.declared.action.Action.{Action}
-use Rattle.game_tables.specs.declared.action.Action.TheVariants.{DropLoad, Transfer, Withdraw, Pickup, Dismantle, Harvest, Repair, Build, Suicide}
+use Rattle.game_tables.specs.declared.action.Action.TheVariants.{DropLoad, Transfer, Withdraw, Pickup, Dismantle, Harvest, Repair, Build, Suicide, ClaimController, Upgrade, Reserve, AttackController}
 use Rattle.intent_book.specs.declared.intent.Intent.{Intent}
 use Rattle.world_rules.specs.RoomParts.{RoomPart}
 use Rattle.world_rules.specs.Tick.{rule_of}
@@ -12,6 +12,7 @@ use Rattle.room_energy.proofs.Parts.{IsReady, ready_of}
 use Rattle.room_energy.proofs.Piles.{energy_dropped}
 use Rattle.room_energy.proofs.Handed.{energy_transferred, energy_withdrawn, energy_picked_up}
 use Rattle.room_energy.proofs.Fought.{energy_dismantled, energy_ended}
+use Rattle.room_energy.proofs.Claimed.{energy_attacked, energy_claimed, energy_reserved, energy_upgraded}
 use Rattle.room_energy.proofs.Worked.{energy_harvested, energy_repaired, energy_built}
 
 -- A rule that puts nothing in.
@@ -32,4 +33,8 @@ module _ (players : ℕ → Bool) (stage : Stage) (part : RoomPart) (k : KeepsRo
   rule_takes Repair = none_given _ _ _ (energy_repaired part ready entry)
   rule_takes Build = none_given _ _ _ (energy_built players stage part k ready entry)
   rule_takes Suicide = ap (λ (n : ℕ). n + 0) (energy_ended part ready entry)
+  rule_takes ClaimController = none_given _ _ _ (energy_claimed part ready entry)
+  rule_takes Upgrade = none_given _ _ _ (energy_upgraded part ready entry)
+  rule_takes Reserve = none_given _ _ _ (energy_reserved part ready entry)
+  rule_takes AttackController = none_given _ _ _ (energy_attacked part ready entry)
   rule_takes action = refl

@@ -3,7 +3,7 @@ use Rattle.std.specs.Prelude.{ℕ, ◌+◌, ◌-◌, ◌*◌, ◌==◌, min, if�
 use Rattle.std.specs.List.{sum_by}
 use Rattle.std.specs.FinMap.{get, values}
 use Rattle.game_tables.specs.declared.action.Action.{Action}
-use Rattle.game_tables.specs.declared.action.Action.TheVariants.{DropLoad, Dismantle, Harvest, Repair, Build}
+use Rattle.game_tables.specs.declared.action.Action.TheVariants.{DropLoad, Dismantle, Harvest, Repair, Build, Upgrade}
 use Rattle.game_tables.specs.declared.kind.Kind.{Kind}
 use Rattle.object_store.specs.Stores.{building_of, free_room}
 use Rattle.object_store.specs.declared.object.Object.{Object}
@@ -11,6 +11,7 @@ use Rattle.intent_book.specs.declared.intent.Intent.{Intent}
 use Rattle.world_rules.specs.RoomParts.{RoomPart, controller_of}
 use Rattle.world_rules.specs.Changes.{with_object}
 use Rattle.world_rules.specs.Checks.{may_take_effect, parties}
+use Rattle.world_rules.specs.Claims.{work_taken}
 use Rattle.world_rules.specs.Drops.{pile_bound, pile_on, wanted_of}
 use Rattle.world_rules.specs.Fights.{salvage}
 use Rattle.world_rules.specs.Loads.{with_less, with_more}
@@ -72,8 +73,8 @@ abbrev pub put_into : Option Kind → Object → Object → ℕ
 put_into None creep site = 0
 put_into (Some kind) creep site = work_put kind creep site
 
--- What an entry takes out of the room: what is lost of what falls, what a repair costs, and what is built
--- with. All other actions in force leave the energy in the room.
+-- What an entry takes out of the room: what is lost of what falls, what a repair costs, what is built with,
+-- and what is put into a controller. All other actions in force leave the energy in the room.
 abbrev pub taken_by : Action → Intent → RoomPart → ℕ
 taken_by DropLoad entry part = lost_by_drop entry part (get part.objects entry.actor)
 taken_by Dismantle entry part = amount_between (lost_by_dismantle part) (parties Dismantle entry part)
@@ -82,4 +83,5 @@ taken_by Repair entry part =
     amount_between (λ creep building. repair_cost (hits_gained creep building)) (parties Repair entry part)
 taken_by Build entry part =
     amount_between (λ creep site. put_into (building_of site) creep site) (parties Build entry part)
+taken_by Upgrade entry part = amount_between work_taken (parties Upgrade entry part)
 taken_by action entry part = 0

@@ -15,7 +15,7 @@ use Rattle.object_store.specs.Controllers.{level_of}
 use Rattle.object_store.specs.Stores.{capacity_as}
 use Rattle.object_store.specs.declared.object.Object.{Object}
 use Rattle.world_rules.specs.Loads.{with_less, with_more}
-use Rattle.room_rules.specs.Within.{Stage, between, moved, settled, within, IsCreepWithin, IsInRangeIn}
+use Rattle.room_rules.specs.Within.{Stage, between, moved, summed, settled, within, IsCreepMoved, IsCreepWithin, IsInRangeIn}
 
 -- ---- with more hits a creep has no fewer live parts
 
@@ -62,11 +62,15 @@ module _ (stage : Stage) (o : Object) (controller : Option Object) (amount : ℕ
   within_more : amount ≤ load_room o.hits o.body - o.energy → IsCreepWithin o → IsCreepWithin (with_more amount o)
   within_more fits s = record { owner = s.owner; hits = s.hits; energy = omega (arith, s.energy, fits, load_more o.hits (hits_max Creep o.body) o.body s.hits); timer = s.timer; extra = s.extra; progress = s.progress; other = s.other; other_ticks = s.other_ticks; some_parts = s.some_parts; parts = s.parts }
 
+  moved_more : amount ≤ load_room o.hits o.body - o.energy → IsCreepMoved o → IsCreepMoved (with_more amount o)
+  moved_more fits s = let r = s.rested in record { other_ticks = s.other_ticks; rested = record { owner = r.owner; hits = r.hits; energy = omega (arith, r.energy, fits); timer = r.timer; extra = r.extra; progress = r.progress; other = r.other; other_ticks = r.other_ticks; some_parts = r.some_parts; parts = r.parts } }
+
   creep_more : (w : Stage) → amount ≤ load_room o.hits o.body - o.energy → IsInRangeIn Creep w o → IsInRangeIn Creep w (with_more amount o)
   creep_more within fits s = within_more fits s
   creep_more settled fits s = record { alive = s.alive; within = within_more fits s.within }
   creep_more between fits s = record { owner = s.owner; hits = s.hits; energy = omega (arith, s.energy, fits); timer = s.timer; extra = s.extra; progress = s.progress; other = s.other; other_ticks = s.other_ticks; some_parts = s.some_parts; parts = s.parts }
-  creep_more moved fits s = let r = s.rested in record { other_ticks = s.other_ticks; rested = record { owner = r.owner; hits = r.hits; energy = omega (arith, r.energy, fits); timer = r.timer; extra = r.extra; progress = r.progress; other = r.other; other_ticks = r.other_ticks; some_parts = r.some_parts; parts = r.parts } }
+  creep_more summed fits s = moved_more fits s
+  creep_more moved fits s = moved_more fits s
 
   -- What takes energy, as far as it has room, stays in its ranges.
   pub more_range : (k : Kind) → is_target Transfer k ≡ true → amount ≤ capacity_as k controller o - o.energy → IsInRangeIn k stage o → IsInRangeIn k stage (with_more amount o)

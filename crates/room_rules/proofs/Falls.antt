@@ -19,7 +19,7 @@ use Rattle.world_rules.specs.Drops.{pile_bound, is_pile_on, pile_on, pile_of, fa
 use Rattle.world_rules.specs.Checks.{may_take_effect}
 use Rattle.world_rules.proofs.Checked.{and_left, and_right, creep_acts}
 use Rattle.world_rules.proofs.Keys.{AreKeysOnce, once_of_sorted}
-use Rattle.room_rules.specs.Within.{Stage, between, moved, settled, within, IsCreepWithin, IsInRangeIn}
+use Rattle.room_rules.specs.Within.{Stage, between, moved, summed, settled, within, IsCreepMoved, IsCreepWithin, IsInRangeIn}
 use Rattle.room_rules.specs.RoomRules.{Holds, KeepsRoomRules}
 use Rattle.room_rules.proofs.Keeps.{keeps_changed, keeps_new, put_or_before}
 
@@ -200,11 +200,15 @@ module _ (players : ℕ → Bool) (stage : Stage) where
       less_within : IsCreepWithin c → IsCreepWithin (record c { energy = c.energy - amount })
       less_within s = record { owner = s.owner; hits = s.hits; energy = omega (arith, s.energy); timer = s.timer; extra = s.extra; progress = s.progress; other = s.other; other_ticks = s.other_ticks; some_parts = s.some_parts; parts = s.parts }
 
+      less_moved : IsCreepMoved c → IsCreepMoved (record c { energy = c.energy - amount })
+      less_moved s = let r = s.rested in record { other_ticks = s.other_ticks; rested = record { owner = r.owner; hits = r.hits; energy = omega (arith, r.energy); timer = r.timer; extra = r.extra; progress = r.progress; other = r.other; other_ticks = r.other_ticks; some_parts = r.some_parts; parts = r.parts } }
+
       less_as : (w : Stage) → IsInRangeIn Creep w c → IsInRangeIn Creep w (record c { energy = c.energy - amount })
       less_as within s = less_within s
       less_as settled s = record { alive = s.alive; within = less_within s.within }
       less_as between s = record { owner = s.owner; hits = s.hits; energy = omega (arith, s.energy); timer = s.timer; extra = s.extra; progress = s.progress; other = s.other; other_ticks = s.other_ticks; some_parts = s.some_parts; parts = s.parts }
-      less_as moved s = let r = s.rested in record { other_ticks = s.other_ticks; rested = record { owner = r.owner; hits = r.hits; energy = omega (arith, r.energy); timer = r.timer; extra = r.extra; progress = r.progress; other = r.other; other_ticks = r.other_ticks; some_parts = r.some_parts; parts = r.parts } }
+      less_as summed s = less_moved s
+      less_as moved s = less_moved s
 
   lessened : (part : RoomPart) → Kept part → (id : ℕ) (c : Object) → Holds part id c → is_creep c.kind ≡ true → (amount : ℕ) → Kept (with_object (record c { energy = c.energy - amount }) part)
   lessened part k id c there creep amount =

@@ -29,7 +29,17 @@ pub record IsSame (before after : Object) : Type 0 where
 pub IsSame-refl : (o : Object) → IsSame o o
 IsSame-refl o = record { id = refl; kind = refl; x = refl; y = refl; owner = refl; other = refl }
 
-wrong_tile : (grounds : List Ground) (one other : Object) → IsSame other one → IsOnWrongTile grounds one → IsOnWrongTile grounds other
+-- An object after a change: where it stood, and as what.
+pub record IsPlaced (before after : Object) : Type 0 where
+  pub id : after.id ≡ before.id
+  pub kind : after.kind ≡ before.kind
+  pub x : after.x ≡ before.x
+  pub y : after.y ≡ before.y
+
+pub same_placed : (before after : Object) → IsSame before after → IsPlaced before after
+same_placed before after same = record { id = same.id; kind = same.kind; x = same.x; y = same.y }
+
+wrong_tile : (grounds : List Ground) (one other : Object) → IsPlaced other one → IsOnWrongTile grounds one → IsOnWrongTile grounds other
 wrong_tile grounds one other same h =
     let kind = subst (λ (k : Kind). IsOnWrongTile grounds (record one { kind = k })) same.kind h in
     let x = subst (λ (n : ℕ). IsOnWrongTile grounds (record one { kind = other.kind; x = n })) same.x kind in
@@ -49,6 +59,9 @@ put_or_before {P} part key o id p is put before =
       | false ↦ λ apart got. before got
     ] refl (sym (get-insert nat_cmp_total part.objects key o id ∙ ap (λ (b : Bool). cond b (Some o) (get part.objects id)) (unsigned_tied id key)) ∙ is)
 
+only_one : (one other : Object) (found : Option Object) → found ≡ Some one → found ≡ Some other → one ≡ other
+only_one one other found is at = cc
+
 -- ---- from one stage to another
 
 module _ (players : ℕ → Bool) (early late : Stage) where
@@ -56,10 +69,14 @@ module _ (players : ℕ → Bool) (early late : Stage) where
   abbrev pub Came : RoomPart → ℕ → Object → Type 0
   Came part id o = (q : Object) × Holds part id q × IsSame q o × (IsInRangeIn q.kind early q → IsInRangeIn o.kind late o)
 
-  -- where all objects stood before, as the same
-  pub keeps_came : (part after : RoomPart) → KeepsRoomRules players early part → after.index ≡ part.index → after.grounds ≡ part.grounds → part.next ≤ after.next
-      → ((id : ℕ) (o : Object) → Holds after id o → Came part id o) → KeepsRoomRules players late after
-  keeps_came part after k index grounds later stood = record {
+  -- It stood there, and who owns and reserves it may do so.
+  abbrev pub Stems : RoomPart → ℕ → Object → Type 0
+  Stems part id o = (q : Object) × Holds part id q × IsPlaced q o × HasRightOwner players o × (IsInRangeIn q.kind early q → IsInRangeIn o.kind late o)
+
+  -- where all objects stood before
+  pub keeps_stems : (part after : RoomPart) → KeepsRoomRules players early part → after.index ≡ part.index → after.grounds ≡ part.grounds → part.next ≤ after.next
+      → ((id : ℕ) (o : Object) → Holds after id o → Stems part id o) → KeepsRoomRules players late after
+  keeps_stems part after k index grounds later stood = record {
     begun = let first : 1 ≤ part.next = k.begun in omega arith;
     ids = λ id o h. (let w = stood id o h in w.2.id ∙ k.ids id w.0 w.1);
     born = λ id o h at. (let w = stood id o h in let b = k.born id w.0 w.1 (at ∙ index) in (b.0, omega (arith, b.1)));
@@ -69,13 +86,20 @@ module _ (players : ℕ → Bool) (early late : Stage) where
         let w = stood one first h in
         let v = stood other second g in
         k.shared one other w.0 v.0 apart w.1 v.1 (sym w.2.x ∙ x ∙ v.2.x) (sym w.2.y ∙ y ∙ v.2.y) ((λ i. clash (sym w.2.kind i) (sym v.2.kind i)) ∙ c));
-    owners = λ id o h. (let w = stood id o h in right_owner players w.0 o w.2 (k.owners id w.0 w.1));
+    owners = λ id o h. (let w = stood id o h in w.3);
     controllers = λ one other first second apart h g a b. (
         let w = stood one first h in
         let v = stood other second g in
         k.controllers one other w.0 v.0 apart w.1 v.1 (ap is_controller (sym w.2.kind) ∙ a) (ap is_controller (sym v.2.kind) ∙ b));
-    ranges = λ id o h out. (let w = stood id o h in k.ranges id w.0 w.1 (λ r. out (w.3 r)));
+    ranges = λ id o h out. (let w = stood id o h in k.ranges id w.0 w.1 (λ r. out (w.4 r)));
   }
+
+  -- where all objects stood before, as the same
+  pub keeps_came : (part after : RoomPart) → KeepsRoomRules players early part → after.index ≡ part.index → after.grounds ≡ part.grounds → part.next ≤ after.next
+      → ((id : ℕ) (o : Object) → Holds after id o → Came part id o) → KeepsRoomRules players late after
+  keeps_came part after k index grounds later stood =
+      keeps_stems part after k index grounds later
+      (λ id o h. (let w = stood id o h in (w.0, w.1, same_placed w.0 o w.2, right_owner players w.0 o w.2 (k.owners id w.0 w.1), w.3)))
 
 module _ (players : ℕ → Bool) (stage : Stage) where
   abbrev Kept : RoomPart → Type 0
@@ -95,19 +119,24 @@ module _ (players : ℕ → Bool) (stage : Stage) where
 
   -- ---- an object in the place of one
 
-  put_keeps : (part : RoomPart) → Kept part → (object : Object) (found : Option Object) → get part.objects object.id ≡ found
-      → ((old : Object) → Holds part object.id old → IsSame old object × (IsInRangeIn old.kind stage old → IsInRangeIn object.kind stage object)) → Kept (put object part found)
-  put_keeps part k object None is alike = k
-  put_keeps part k object (Some old) is alike =
-      let same = alike old is in
-      keeps_same part (record part { objects = insert part.objects object.id object }) k refl refl (omega arith) (λ id o h.
+  put_owned : (part : RoomPart) → Kept part → (object : Object) (found : Option Object) → get part.objects object.id ≡ found
+      → ((old : Object) → Holds part object.id old → IsPlaced old object × HasRightOwner players object × (IsInRangeIn old.kind stage old → IsInRangeIn object.kind stage object)) → Kept (put object part found)
+  put_owned part k object None is alike = k
+  put_owned part k object (Some old) is alike =
+      let new = alike old is in
+      keeps_stems players stage stage part (record part { objects = insert part.objects object.id object }) k refl refl (omega arith) (λ id o h.
       put_or_before part object.id object id o h
-      (λ at one. subst (Stood part id) one (subst (λ (n : ℕ). Stood part n object) (sym at) (old, is, same.0, same.1)))
-      (λ before. stood_itself part id o before))
+      (λ at one. subst (Stems players stage stage part id) one (subst (λ (n : ℕ). Stems players stage stage part n object) (sym at) (old, is, new.0, new.1, new.2)))
+      (λ before. (o, before, same_placed o o (IsSame-refl o), k.owners id o before, λ r. r)))
+
+  pub keeps_owned : (part : RoomPart) → Kept part → (object : Object)
+      → ((old : Object) → Holds part object.id old → IsPlaced old object × HasRightOwner players object × (IsInRangeIn old.kind stage old → IsInRangeIn object.kind stage object)) → Kept (with_object object part)
+  keeps_owned part k object alike = put_owned part k object (get part.objects object.id) refl alike
 
   pub keeps_object : (part : RoomPart) → Kept part → (object : Object)
       → ((old : Object) → Holds part object.id old → IsSame old object × (IsInRangeIn old.kind stage old → IsInRangeIn object.kind stage object)) → Kept (with_object object part)
-  keeps_object part k object alike = put_keeps part k object (get part.objects object.id) refl alike
+  keeps_object part k object alike =
+      keeps_owned part k object (λ old there. (let same = alike old there in (same_placed old object same.0, right_owner players old object same.0 (k.owners object.id old there), same.1)))
 
   -- An object of the room changes, and stays in its ranges.
   pub keeps_changed : (part : RoomPart) → Kept part → (id : ℕ) (old new : Object) → Holds part id old → IsSame old new → (IsInRangeIn old.kind stage old → IsInRangeIn new.kind stage new) → Kept (with_object new part)
@@ -116,9 +145,14 @@ module _ (players : ℕ → Bool) (stage : Stage) where
       (let here : Holds part new.id old = subst (λ (n : ℕ). Holds part n old) (sym (same.id ∙ k.ids id old h)) h in
       let one : old ≡ other = only_one old other (get part.objects new.id) here there in
       subst (λ (o : Object). IsSame o new × (IsInRangeIn o.kind stage o → IsInRangeIn new.kind stage new)) one (same, range)))
-    where
-      only_one : (one other : Object) (found : Option Object) → found ≡ Some one → found ≡ Some other → one ≡ other
-      only_one one other found is at = cc
+
+  -- An object of the room may come to others, and stays in its ranges.
+  pub keeps_given : (part : RoomPart) → Kept part → (id : ℕ) (old new : Object) → Holds part id old → IsPlaced old new → HasRightOwner players new → (IsInRangeIn old.kind stage old → IsInRangeIn new.kind stage new) → Kept (with_object new part)
+  keeps_given part k id old new h same right range =
+      keeps_owned part k new (λ other there.
+      (let here : Holds part new.id old = subst (λ (n : ℕ). Holds part n old) (sym (same.id ∙ k.ids id old h)) h in
+      let one : old ≡ other = only_one old other (get part.objects new.id) here there in
+      subst (λ (o : Object). IsPlaced o new × HasRightOwner players new × (IsInRangeIn o.kind stage o → IsInRangeIn new.kind stage new)) one (same, right, range)))
 
   -- ---- an object less
 
@@ -239,14 +273,20 @@ each_came change keeps part keyed id o h = came_of (get part.objects id) refl (s
     came_of None is got = absurd (cc)
     came_of (Some q) is got = (q, is, got)
 
-module _ (players : ℕ → Bool) (early late : Stage) (change : Object → Option Object) (same : (object after : Object) → change object ≡ Some after → IsSame object after × (IsInRangeIn object.kind early object → IsInRangeIn after.kind late after)) where
-  ids_stay : KeepsIds change
-  ids_stay object after is = (same object after is).0.id
+module _ (players : ℕ → Bool) (early late : Stage) (change : Object → Option Object) where
+  module _ (stays : (object after : Object) → change object ≡ Some after → IsPlaced object after × (HasRightOwner players object → HasRightOwner players after) × (IsInRangeIn object.kind early object → IsInRangeIn after.kind late after)) where
+    ids_stay : KeepsIds change
+    ids_stay object after is = (stays object after is).0.id
 
-  -- Each object changes by itself, or goes, and is in its ranges of the later stage.
-  pub keeps_turned : (part : RoomPart) → KeepsRoomRules players early part → KeepsRoomRules players late (each change part)
-  keeps_turned part k =
-      let rest = each_rest change ids_stay part k.ids in
-      let serial : (each change part).next ≡ part.next = ap (λ (p : RoomPart). p.next) rest in
-      keeps_came players early late part (each change part) k (ap (λ (p : RoomPart). p.index) rest) (ap (λ (p : RoomPart). p.grounds) rest) (omega (arith, serial))
-      (λ id o h. (let came = each_came change ids_stay part k.ids id o h in let alike = same came.0 o came.2 in (came.0, came.1, alike.0, alike.1)))
+    -- Each object changes by itself, or goes; it may come to others, and is in its ranges of the later stage.
+    pub keeps_changes : (part : RoomPart) → KeepsRoomRules players early part → KeepsRoomRules players late (each change part)
+    keeps_changes part k =
+        let rest = each_rest change ids_stay part k.ids in
+        let serial : (each change part).next ≡ part.next = ap (λ (p : RoomPart). p.next) rest in
+        keeps_stems players early late part (each change part) k (ap (λ (p : RoomPart). p.index) rest) (ap (λ (p : RoomPart). p.grounds) rest) (omega (arith, serial))
+        (λ id o h. (let came = each_came change ids_stay part k.ids id o h in let alike = stays came.0 o came.2 in (came.0, came.1, alike.0, alike.1 (k.owners id came.0 came.1), alike.2)))
+
+  module _ (same : (object after : Object) → change object ≡ Some after → IsSame object after × (IsInRangeIn object.kind early object → IsInRangeIn after.kind late after)) where
+    -- Each object changes by itself, or goes, and is in its ranges of the later stage.
+    pub keeps_turned : (part : RoomPart) → KeepsRoomRules players early part → KeepsRoomRules players late (each change part)
+    keeps_turned = keeps_changes (λ object after is. (let alike = same object after is in (same_placed object after alike.0, right_owner players object after alike.0, alike.1)))

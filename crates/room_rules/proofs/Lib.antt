@@ -14,8 +14,10 @@ pub mod Built
 pub mod Fights
 pub mod Turns
 pub mod Settled
+pub mod Claims
 pub mod Rules
 pub mod Calls
 pub mod Ready
 pub mod Crossed
 pub mod Harmed
+pub mod Parties

@@ -19,7 +19,7 @@ use Rattle.object_store.specs.declared.world.Room.{Room}
 use Rattle.object_store.specs.Tables.{IsRising, IsOnTile, find_object}
 use Rattle.world_rules.proofs.Keys.{keyed}
 use Rattle.world_rules.proofs.TableParts.{get_table_part}
-use Rattle.room_rules.specs.Within.{Stage, between, moved, settled, within, IsInRangeIn}
+use Rattle.room_rules.specs.Within.{Stage, between, moved, summed, settled, within, IsInRangeIn}
 use Rattle.room_rules.specs.RoomRules.{KeepsRoomRules}
 use Rattle.room_rules.specs.Followed.{part_stored}
 use Rattle.room_rules.specs.Calls.{AreApart, IsLoadWithin, IsMovable, IsReadyFor}
@@ -75,6 +75,7 @@ load_most energy hits parts load few = omega (arith, load, few, live_most (same_
 pub creep_load : (stage : Stage) (k : Kind) (o : Object) → is_creep k ≡ true → IsInRangeIn k stage o → o.energy ≤ 50 * most_parts
 creep_load between Creep o is r = load_most o.energy o.hits o.body r.energy r.parts
 creep_load moved Creep o is r = load_most o.energy o.hits o.body r.rested.energy r.rested.parts
+creep_load summed Creep o is r = load_most o.energy o.hits o.body r.rested.energy r.rested.parts
 creep_load settled Creep o is r = load_most o.energy (hits_max Creep o.body) o.body r.within.energy r.within.parts
 creep_load within Creep o is r = load_most o.energy (hits_max Creep o.body) o.body r.energy r.parts
 creep_load stage k o is r = absurd (cc)

@@ -2,16 +2,18 @@
 use Rattle.std.proofs.Common.{◌++◌, refl, arith}
 use Rattle.game_tables.specs.Kinds.{hits_max}
 use Rattle.game_tables.specs.declared.action.Action.{Action}
-use Rattle.game_tables.specs.declared.action.Action.TheVariants.{DropLoad, Transfer, Withdraw, Pickup, Dismantle, Harvest, Repair, Build, Suicide}
+use Rattle.game_tables.specs.declared.action.Action.TheVariants.{DropLoad, Transfer, Withdraw, Pickup, Dismantle, Harvest, Repair, Build, Suicide, ClaimController, Upgrade, Reserve, AttackController}
 use Rattle.game_tables.specs.declared.kind.Kind.{Kind}
-use Rattle.game_tables.specs.declared.kind.Kind.TheVariants.{Creep}
+use Rattle.game_tables.specs.declared.kind.Kind.TheVariants.{Controller, Creep}
 use Rattle.intent_book.specs.declared.intent.Intent.{Intent}
 use Rattle.object_store.specs.declared.object.Object.{Object}
+use Rattle.world_rules.specs.RoomParts.{RoomPart}
 use Rattle.world_rules.specs.RuleBook.{Sums}
+use Rattle.world_rules.specs.Claims.{controllers_aged}
 use Rattle.world_rules.specs.RoomTick.{room_after_steps}
 use Rattle.world_rules.specs.Tick.{rule_of}
 use Rattle.world_rules.specs.Upkeep.{aged, buildings_decayed, first_steps, last_steps, middle_steps, recovered, renewed, struck, unloaded}
-use Rattle.room_rules.specs.Within.{between, moved, within, IsInRangeIn}
+use Rattle.room_rules.specs.Within.{between, moved, summed, within, IsInRangeIn}
 use Rattle.room_rules.specs.RoomRules.{Leads}
 use Rattle.room_rules.proofs.Keeps.{IsSame-refl, keeps_came}
 use Rattle.room_rules.proofs.Falls.{keeps_dropped}
@@ -20,6 +22,7 @@ use Rattle.room_rules.proofs.Loads.{keeps_transferred, keeps_withdrawn, keeps_pi
 use Rattle.room_rules.proofs.Work.{keeps_harvested, keeps_repaired}
 use Rattle.room_rules.proofs.Built.{keeps_built}
 use Rattle.room_rules.proofs.Fights.{keeps_dismantled, keeps_ended}
+use Rattle.room_rules.proofs.Claims.{begun_controller, keeps_claimed, keeps_controllers, keeps_hurt, keeps_reserved, keeps_upgraded}
 use Rattle.room_rules.proofs.Steps.{keeps_aged, keeps_decayed, keeps_filled, keeps_recovered, keeps_renewed, keeps_weathered}
 use Rattle.room_rules.proofs.Settled.{keeps_struck, keeps_unloaded}
 
@@ -27,6 +30,7 @@ use Rattle.room_rules.proofs.Settled.{keeps_struck, keeps_unloaded}
 
 begun_range : (k : Kind) (o : Object) → IsInRangeIn k between o → IsInRangeIn k within o
 begun_range Creep o s = record { owner = s.owner; hits = omega (arith, s.hits); energy = omega (arith, s.energy, load_more o.hits (hits_max Creep o.body) o.body (omega (arith, s.hits))); timer = s.timer; extra = s.extra; progress = s.progress; other = s.other; other_ticks = omega (arith, s.other_ticks); some_parts = s.some_parts; parts = s.parts }
+begun_range Controller o s = begun_controller o s
 begun_range k o s = s
 
 -- A room that keeps its rules between ticks keeps the wider ones within a tick.
@@ -45,20 +49,26 @@ rule_keeps Repair entry players part k = keeps_repaired players within part k en
 rule_keeps Build entry players part k = keeps_built players within part k entry
 rule_keeps Dismantle entry players part k = keeps_dismantled players within part k entry
 rule_keeps Suicide entry players part k = keeps_ended players part k entry
+rule_keeps ClaimController entry players part k = keeps_claimed players entry part k
+rule_keeps Upgrade entry players part k = keeps_upgraded players entry part k
+rule_keeps Reserve entry players part k = keeps_reserved players entry part k
+rule_keeps AttackController entry players part k = keeps_hurt players entry part k
 rule_keeps action entry players part k = k
 
 -- ---- upkeep
 
--- The steps up to the gain of spawns lead to the stage before crossings.
-pub first_lead : (sums : Sums) → Leads within moved (room_after_steps sums first_steps)
+-- The steps up to the gain of spawns lead to the stage at which controllers still keep what was put into them.
+pub first_lead : (sums : Sums) → Leads within summed (room_after_steps sums first_steps)
 first_lead sums players part k =
     let light = unloaded (struck sums part) in
-    keeps_filled players moved (recovered (aged light))
-    (keeps_recovered players moved (aged light)
+    keeps_filled players summed (recovered (aged light))
+    (keeps_recovered players summed (aged light)
     (keeps_aged players light
     (keeps_unloaded players (struck sums part) (keeps_struck sums players part k))))
 
--- The later steps keep the rules at that stage.
-pub later_keep : (sums : Sums) → Leads moved moved (room_after_steps sums (middle_steps ++ last_steps))
-later_keep sums players part k =
-    keeps_decayed players moved (buildings_decayed (renewed part)) (keeps_weathered players moved (renewed part) (keeps_renewed players moved part k))
+-- The later steps lead to the stage before crossings.
+pub later_lead : (sums : Sums) → Leads summed moved (room_after_steps sums (middle_steps ++ last_steps))
+later_lead sums players part k =
+    let rested : RoomPart = controllers_aged part in
+    keeps_decayed players moved (buildings_decayed (renewed rested))
+    (keeps_weathered players moved (renewed rested) (keeps_renewed players moved rested (keeps_controllers players part k)))

@@ -10,7 +10,7 @@ use Rattle.world_rules.specs.RoomParts.{RoomPart}
 use Rattle.world_rules.specs.RuleBook.{Sums}
 use Rattle.world_rules.specs.Changes.{with_object, without}
 use Rattle.world_rules.specs.Upkeep.{gone, hits_left, standing_or_gone, struck, struck_as, unloaded, unloaded_as}
-use Rattle.room_rules.specs.Within.{moved, settled, within, IsInRangeIn}
+use Rattle.room_rules.specs.Within.{summed, settled, within, IsInRangeIn}
 use Rattle.room_rules.specs.RoomRules.{Holds, KeepsRoomRules, Leads}
 use Rattle.room_rules.proofs.Keeps.{IsSame}
 use Rattle.room_rules.proofs.Falls.{fallen_came, keeps_dropped_by}
@@ -106,7 +106,7 @@ keeps_struck sums players part k = struck_leads players sums part k
 abbrev IsHeld : Object → Type 0
 IsHeld o = is_creep o.kind ≡ true → o.energy ≤ load_room o.hits o.body
 
-held_range : (k : Kind) (o : Object) → (is_creep k ≡ true → o.energy ≤ load_room o.hits o.body) → IsInRangeIn k settled o → IsInRangeIn k moved o
+held_range : (k : Kind) (o : Object) → (is_creep k ≡ true → o.energy ≤ load_room o.hits o.body) → IsInRangeIn k settled o → IsInRangeIn k summed o
 held_range Creep o held r = let s = r.within in record {
   other_ticks = s.other_ticks;
   rested = record { owner = s.owner; hits = (r.alive, s.hits); energy = held refl; timer = s.timer; extra = s.extra; progress = s.progress; other = s.other; other_ticks = refl; some_parts = s.some_parts; parts = s.parts };
@@ -135,8 +135,8 @@ module _ (players : ℕ → Bool) where
   ]
 
 -- Loads that fall lead on.
-pub keeps_unloaded : Leads settled moved unloaded
-keeps_unloaded players = over_objects_leads players settled moved IsHeld (λ o held r. held_range o.kind o held r) (λ object. unloaded_as object.kind object) (record {
+pub keeps_unloaded : Leads settled summed unloaded
+keeps_unloaded players = over_objects_leads players settled summed IsHeld (λ o held r. held_range o.kind o held r) (λ object. unloaded_as object.kind object) (record {
   keeps = λ object part h k. unloaded_keeps players object.kind object part refl h k;
   fit = λ object part there id o h. unloaded_fit players object.kind object part refl there id o h;
 })

@@ -16,7 +16,7 @@ use Rattle.world_rules.specs.Steps.{each}
 use Rattle.world_rules.specs.Crossings.{still}
 use Rattle.world_rules.proofs.Checked.{and_left}
 use Rattle.world_rules.specs.Rules.{IsFrom1To, IsWall, IsSource, IsPile}
-use Rattle.room_rules.specs.Within.{Stage, between, moved, settled, within, IsCreepWithin, IsInRangeIn}
+use Rattle.room_rules.specs.Within.{Stage, between, moved, summed, settled, within, IsCreepMoved, IsCreepWithin, IsInRangeIn}
 use Rattle.room_rules.specs.RoomRules.{Holds, KeepsRoomRules}
 use Rattle.room_rules.proofs.Keeps.{IsSame, IsSame-refl, keeps_changed, keeps_each, keeps_over, keeps_turned, keeps_without}
 use Rattle.room_rules.proofs.Falls.{IsOpen, keeps_fallen}
@@ -102,11 +102,15 @@ rested_by n o = record o { extra = o.extra - n }
 within_rested : (n : ℕ) (o : Object) → IsCreepWithin o → IsCreepWithin (rested_by n o)
 within_rested n o s = record { owner = s.owner; hits = s.hits; energy = s.energy; timer = s.timer; extra = omega (arith, s.extra); progress = s.progress; other = s.other; other_ticks = s.other_ticks; some_parts = s.some_parts; parts = s.parts }
 
+moved_rested : (n : ℕ) (o : Object) → IsCreepMoved o → IsCreepMoved (rested_by n o)
+moved_rested n o s = let r = s.rested in record { other_ticks = s.other_ticks; rested = record { owner = r.owner; hits = r.hits; energy = r.energy; timer = r.timer; extra = omega (arith, r.extra); progress = r.progress; other = r.other; other_ticks = r.other_ticks; some_parts = r.some_parts; parts = r.parts } }
+
 creep_rested : (n : ℕ) (stage : Stage) (o : Object) → IsInRangeIn Creep stage o → IsInRangeIn Creep stage (rested_by n o)
 creep_rested n within o s = within_rested n o s
 creep_rested n settled o s = record { alive = s.alive; within = within_rested n o s.within }
 creep_rested n between o s = record { owner = s.owner; hits = s.hits; energy = s.energy; timer = s.timer; extra = omega (arith, s.extra); progress = s.progress; other = s.other; other_ticks = s.other_ticks; some_parts = s.some_parts; parts = s.parts }
-creep_rested n moved o s = let r = s.rested in record { other_ticks = s.other_ticks; rested = record { owner = r.owner; hits = r.hits; energy = r.energy; timer = r.timer; extra = omega (arith, r.extra); progress = r.progress; other = r.other; other_ticks = r.other_ticks; some_parts = r.some_parts; parts = r.parts } }
+creep_rested n summed o s = moved_rested n o s
+creep_rested n moved o s = moved_rested n o s
 
 pub recovered_same : (k : Kind) (o : Object) → IsSame o (recovered_as k o)
 recovered_same Creep o = record { id = refl; kind = refl; x = refl; y = refl; owner = refl; other = refl }
@@ -117,7 +121,7 @@ recovered_range Creep stage o r = creep_rested (2 * live_count Move o.hits o.bod
 recovered_range k stage o r = r
 
 -- An older creep stays in its ranges.
-older_range : (k : Kind) (o : Object) → k ≡ Creep → nat_lt 1 o.timer ≡ true → IsInRangeIn k moved o → IsInRangeIn k moved (record o { timer = o.timer - 1 })
+older_range : (k : Kind) (o : Object) → k ≡ Creep → nat_lt 1 o.timer ≡ true → IsInRangeIn k summed o → IsInRangeIn k summed (record o { timer = o.timer - 1 })
 older_range Creep o is runs s =
     let r = s.rested in
     let more = ltb-true 1 o.timer runs in
@@ -244,17 +248,17 @@ module _ (players : ℕ → Bool) (stage : Stage) where
 
 -- Creeps grow older, or die, once their hits and loads are settled.
 module _ (players : ℕ → Bool) where
-  aged_keeps : (kind : Kind) (object : Object) (part : RoomPart) → object.kind ≡ kind → Holds part object.id object → KeepsRoomRules players moved part → KeepsRoomRules players moved (aged_as kind object part)
+  aged_keeps : (kind : Kind) (object : Object) (part : RoomPart) → object.kind ≡ kind → Holds part object.id object → KeepsRoomRules players summed part → KeepsRoomRules players summed (aged_as kind object part)
   aged_keeps Creep creep part is h k =
-      elim (nat_lt 1 creep.timer) as (λ b. nat_lt 1 creep.timer ≡ b → KeepsRoomRules players moved (if b then with_object (record creep { timer = creep.timer - 1 }) part else gone creep part)) [
-        | true ↦ λ runs. keeps_changed players moved part k creep.id creep (record creep { timer = creep.timer - 1 }) h
+      elim (nat_lt 1 creep.timer) as (λ b. nat_lt 1 creep.timer ≡ b → KeepsRoomRules players summed (if b then with_object (record creep { timer = creep.timer - 1 }) part else gone creep part)) [
+        | true ↦ λ runs. keeps_changed players summed part k creep.id creep (record creep { timer = creep.timer - 1 }) h
             (record { id = refl; kind = refl; x = refl; y = refl; owner = refl; other = refl }) (older_range creep.kind creep is runs)
-        | false ↦ λ over. gone_keeps players moved creep creep part h k (ap is_source is, ap is_controller is) (IsSame-refl creep)
+        | false ↦ λ over. gone_keeps players summed creep creep part h k (ap is_source is, ap is_controller is) (IsSame-refl creep)
       ] refl
   aged_keeps kind object part is h k = k
 
-  pub keeps_aged : (part : RoomPart) → KeepsRoomRules players moved part → KeepsRoomRules players moved (aged part)
-  keeps_aged part k = keeps_over players moved (λ object. aged_as object.kind object) (λ object part h k. aged_keeps object.kind object part refl h k) part k
+  pub keeps_aged : (part : RoomPart) → KeepsRoomRules players summed part → KeepsRoomRules players summed (aged part)
+  keeps_aged part k = keeps_over players summed (λ object. aged_as object.kind object) (λ object part h k. aged_keeps object.kind object part refl h k) part k
 
 -- The creeps of a room have moved no more: it is between ticks again.
 pub keeps_rest : (players : ℕ → Bool) (part : RoomPart) → KeepsRoomRules players moved part → KeepsRoomRules players between (each (λ object. Some (still object)) part)

@@ -1,18 +1,19 @@
 -- The ranges of fields within a tick, where they are wider than between ticks.
-use Rattle.std.specs.Prelude.{◌≡◌, ◌≤◌, length}
+use Rattle.std.specs.Prelude.{◌≡◌, ◌≤◌, ◌==◌, if◌then◌else◌, length}
 use Rattle.game_tables.specs.Bodies.{most_parts}
 use Rattle.game_tables.specs.Fields.{most_energy, most_timer, most_extra}
 use Rattle.game_tables.specs.Kinds.{hits_max}
 use Rattle.game_tables.specs.declared.kind.Kind.{Kind}
-use Rattle.game_tables.specs.declared.kind.Kind.TheVariants.{Creep}
+use Rattle.game_tables.specs.declared.kind.Kind.TheVariants.{Controller, Creep}
 use Rattle.object_store.specs.declared.object.Object.{Object}
-use Rattle.world_rules.specs.Rules.{IsFrom1To, IsCreep, IsInRangeAs}
+use Rattle.world_rules.specs.Rules.{IsFrom1To, IsController, IsCreep, IsInRangeAs}
 
--- How far a tick is: between ticks; after upkeep and before crossings; after the hits of creeps and buildings
--- were settled; and before that.
+-- How far a tick is: between ticks; once controllers have lost time and before crossings; once loads fell and
+-- before that; once the hits of creeps and buildings were settled; and before that.
 pub data Stage : Type 0 where
   between : Stage
   moved : Stage
+  summed : Stage
   settled : Stage
   within : Stage
 
@@ -40,10 +41,23 @@ pub record IsCreepSettled (object : Object) : Type 0 where
   pub alive : 1 ≤ object.hits
   pub within : IsCreepWithin object
 
+-- a controller without what it keeps beside of a tick: what was put into it, where it has a level
+abbrev pub without_sum : Object → Object
+without_sum controller =
+    record controller { other_ticks = if controller.extra == 0 then controller.other_ticks else 0 }
+
+-- A controller of a level keeps what was put into it in the tick.
+abbrev pub IsControllerWithin : Object → Type 0
+IsControllerWithin object = IsController (without_sum object)
+
 -- The fields are in the kind's ranges at this stage of a tick.
 abbrev pub IsInRangeIn : Kind → Stage → Object → Type 0
 IsInRangeIn Creep between object = IsCreep object
 IsInRangeIn Creep moved object = IsCreepMoved object
+IsInRangeIn Creep summed object = IsCreepMoved object
 IsInRangeIn Creep settled object = IsCreepSettled object
 IsInRangeIn Creep within object = IsCreepWithin object
+IsInRangeIn Controller summed object = IsControllerWithin object
+IsInRangeIn Controller settled object = IsControllerWithin object
+IsInRangeIn Controller within object = IsControllerWithin object
 IsInRangeIn kind stage object = IsInRangeAs kind object

@@ -15,21 +15,22 @@ ghost use Rattle.world_rules.specs.Tick.{book};
 ghost use Rattle.world_rules.specs.Upkeep.{first_steps, last_steps, middle_steps};
 ghost use Rattle.world_rules.specs.Sound.{IsSound};
 ghost use Rattle.room_rules.specs.Calls.{AreActorsOnce};
-ghost use Rattle.room_rules.specs.Within.{between, moved, within};
+ghost use Rattle.room_rules.specs.Within.{between, moved, summed, within};
 ghost use Rattle.room_rules.specs.RoomRules.{KeepsRoomRules, Leads, is_player};
 ghost use Rattle.room_rules.specs.Followed.{part_stored, FollowRooms, KeepsPlayers};
 ghost use Rattle.room_rules.specs.Crossed.{HasCrossed};
 
 /// Says through which stages of a tick the rules in force lead a room that keeps its rules: between ticks it
 /// also keeps the wider ones within a tick, which entries and movement keep; the steps of upkeep up to the
-/// gain of spawns lead to those before crossings, which the later steps keep; and once no creep has moved the
-/// room is between ticks again. It does nothing when it runs.
+/// gain of spawns lead to those at which controllers still keep what was put into them, and the later steps
+/// to those before crossings; and once no creep has moved the room is between ticks again. It does nothing
+/// when it runs.
 pub fn rules_keep_rooms()
     ensures begins { Leads between within (λ part. part) }
     ensures entries { (entry : Intent) → Leads within within (λ part. (book.effect entry part).part) }
     ensures movement { (list : List Intent) → AreActorsOnce list → Leads within within (book.moved list) }
-    ensures first { (sums : Sums) → Leads within moved (room_after_steps sums first_steps) }
-    ensures later { (sums : Sums) → Leads moved moved (room_after_steps sums (middle_steps ++ last_steps)) }
+    ensures first { (sums : Sums) → Leads within summed (room_after_steps sums first_steps) }
+    ensures later { (sums : Sums) → Leads summed moved (room_after_steps sums (middle_steps ++ last_steps)) }
     ensures rest { Leads moved between (each (λ object. Some (still object))) }
 {}
 

@@ -11,8 +11,6 @@ mod players;
 mod ranges;
 mod rooms;
 mod shared;
-#[cfg(test)]
-mod tests;
 mod tiles;
 mod view;
 

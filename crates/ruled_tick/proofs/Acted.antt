@@ -214,13 +214,13 @@ module _ (stored : Stored) (sound : IsSound stored) (done : List Entry) (entry :
       same = sym (ruled_world stored sound rooms acted.follow entry.room room at entry.intent table ruled) ∙ ap (in_room change entry.room) acted.same ∙ sym pushed;
     }
 
-  acted_found : (found : Option Room) (new : List Room) → slice_get rooms entry.room ≡ found → IsRuledIn found entry.room entry.intent rooms new → IsActed stored (done ++ entry ∷ []) later new
-  acted_found None new at stays = subst (IsActed stored (done ++ entry ∷ []) later) (sym stays) (acted_unchanged at)
-  acted_found (Some room) new at d = subst (IsActed stored (done ++ entry ∷ []) later) (sym d.1) (acted_in room d.0 at d.2)
+  acted_found : (found : Option Room) (points : ℕ) (new : List Room) → slice_get rooms entry.room ≡ found → IsRuledIn found entry.room entry.intent points rooms new → IsActed stored (done ++ entry ∷ []) later new
+  acted_found None points new at stays = subst (IsActed stored (done ++ entry ∷ []) later) (sym stays.0) (acted_unchanged at)
+  acted_found (Some room) points new at d = subst (IsActed stored (done ++ entry ∷ []) later) (sym d.1) (acted_in room d.0 at d.2)
 
   -- after one entry more
-  pub acted_more : (new : List Room) → IsRuledIn (slice_get rooms entry.room) entry.room entry.intent rooms new → IsActed stored (done ++ entry ∷ []) later new
-  acted_more new d = acted_found (slice_get rooms entry.room) new refl d
+  pub acted_more : (points : ℕ) (new : List Room) → IsRuledIn (slice_get rooms entry.room) entry.room entry.intent points rooms new → IsActed stored (done ++ entry ∷ []) later new
+  acted_more points new d = acted_found (slice_get rooms entry.room) points new refl d
 
 -- ---- along the entries
 

@@ -82,5 +82,9 @@ module _ (f : Account → Account) (same : (account : Account) → (f account).p
   changed_last player [] last = tt
   changed_last player (account ∷ accounts) last = (subst (λ (n : ℕ). n < player) (sym (same account)) last.0, changed_last player accounts last.1)
 
-pub accounted-player : (runs : List PlayerRun) (account : Account) → (accounted runs account).player ≡ account.player
-accounted-player runs account = elim (run_of account.player runs) as (λ run. (account_after 0 account run).player ≡ account.player) [ None ↦ refl | Some run ↦ refl ]
+pub after-player : (gain : ℕ) (account : Account) (run : Option PlayerRun) → (account_after gain account run).player ≡ account.player
+after-player gain account None = refl
+after-player gain account (Some run) = refl
+
+pub accounted-player : (gain : ℕ → ℕ) (runs : List PlayerRun) (account : Account) → (accounted gain runs account).player ≡ account.player
+accounted-player gain runs account = after-player (gain account.player) account (run_of account.player runs)

@@ -3,6 +3,7 @@ pub mod Harming
 pub mod Summing
 pub mod Actions
 pub mod Acted
+pub mod Gaining
 pub mod Places
 pub mod Rising
 pub mod Moves

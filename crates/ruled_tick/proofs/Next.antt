@@ -1,5 +1,5 @@
 -- A tick of what is stored, with its accounts after the runs, is the next world.
-use Rattle.std.proofs.Common.{◌≡◌, ℕ, ◌+◌, List, [], ◌∷◌, map, length, refl, sym, ap, subst, ◌∙◌}
+use Rattle.std.proofs.Common.{◌≡◌, ℕ, ◌+◌, ◌-◌, ◌^◌, min, List, [], ◌∷◌, map, length, refl, sym, ap, subst, ◌∙◌}
 use Rattle.std.specs.Ordering.{nat_cmp}
 use Rattle.std.specs.FinMap.{FinMap, from_entries, entries}
 use Rattle.intent_book.specs.declared.intent.Intent.{Intent}
@@ -16,25 +16,25 @@ use Rattle.world_rules.proofs.Keys.{keyed, accounts_sorted, entries_of_sorted}
 use Rattle.object_store.specs.declared.world.Room.{Room}
 use Rattle.exit_crossing.specs.declared.leaving.Crosser.{Crosser}
 use Rattle.exit_crossing.specs.Crossing.{AreCrossers, IsReadyToCross, KeepsFrames}
-use Rattle.ruled_tick.specs.inner.Ticked.{accounted, IsRuledRooms}
-use Rattle.ruled_tick.proofs.Actions.{none_gained}
-use Rattle.ruled_tick.proofs.Follows.{accounted-player, changed-IsSound}
+use Rattle.ruled_tick.specs.inner.Entered.{AreGains}
+use Rattle.ruled_tick.specs.inner.Ticked.{accounted, raised_by, IsRuledRooms}
+use Rattle.ruled_tick.proofs.Follows.{accounted-player, after-player, changed-IsSound}
 use Rattle.ruled_tick.proofs.Leaving.{as_many, over_accounts, over_other, over_tick}
 
 abbrev player_of : Account → ℕ
 player_of account = account.player
 
--- accounts that change by the points that their players gained, where no player gains some
-module _ (change : ℕ → ℕ → Account → Account) (same : (account : Account) → (change 0 account.player account).player ≡ account.player) where
-  abbrev pub earned : Account → Account
-  earned account = change 0 account.player account
+-- accounts that change by the points that their players gained
+module _ (change : ℕ → ℕ → Account → Account) (same : (gain : ℕ) (account : Account) → (change gain account.player account).player ≡ account.player) where
+  abbrev pub earned : (ℕ → ℕ) → Account → Account
+  earned gain account = change (gain account.player) account.player account
 
-  earned_keyed : (gain : ℕ → ℕ) → ((player : ℕ) → gain player ≡ 0) → (accounts : List Account)
-      → map (λ (e : ℕ × Account). (e.0, change (gain e.0) e.0 e.1)) (keyed player_of accounts) ≡ keyed player_of (map earned accounts)
-  earned_keyed gain none [] = refl
-  earned_keyed gain none (account ∷ accounts) =
-      let rest = earned_keyed gain none accounts in
-      λ i. (sym (same account) i, change (none account.player i) account.player account) ∷ rest i
+  earned_keyed : (gain : ℕ → ℕ) (accounts : List Account)
+      → map (λ (e : ℕ × Account). (e.0, change (gain e.0) e.0 e.1)) (keyed player_of accounts) ≡ keyed player_of (map (earned gain) accounts)
+  earned_keyed gain [] = refl
+  earned_keyed gain (account ∷ accounts) =
+      let rest = earned_keyed gain accounts in
+      λ i. (sym (same (gain account.player) account) i, change (gain account.player) account.player account) ∷ rest i
 
   -- the world after the rooms of a tick, with its accounts changed
   abbrev pub with_earned : World → List Intent → World
@@ -44,17 +44,16 @@ module _ (change : ℕ → ℕ → Account → Account) (same : (account : Accou
 
   -- a world that is ruled but for its accounts, with those changed
   pub earned_is : (w : Stored) (after_rooms : World) (list : List Intent) → IsSound w → after_rooms.accounts ≡ (world_of w).accounts → after_rooms ≡ ruled book crossed (world_of w) list
-      → record after_rooms { accounts = from_entries (keyed player_of (map earned w.accounts)) } ≡ with_earned (world_of w) list
+      → record after_rooms { accounts = from_entries (keyed player_of (map (earned (gained book (world_of w) list)) w.accounts)) } ≡ with_earned (world_of w) list
   earned_is w after_rooms list sound accounts is =
       let gain : ℕ → ℕ = gained book (world_of w) list in
       let changed : List (ℕ × Account) → List (ℕ × Account) = λ es. map (λ (e : ℕ × Account). (e.0, change (gain e.0) e.0 e.1)) es in
       let with_accounts : List (ℕ × Account) → World = λ es. record after_rooms { accounts = from_entries es } in
-      let none : (player : ℕ) → gain player ≡ 0 = none_gained (world_of w) list in
       sym (
       ap (λ (world : World). record world { accounts = from_entries (changed (entries world.accounts)) }) (sym is)
       ∙ ap (λ (all : FinMap nat_cmp Account). with_accounts (changed (entries all))) accounts
       ∙ ap (λ (es : List (ℕ × Account)). with_accounts (changed es)) (entries_of_sorted (keyed player_of w.accounts) (accounts_sorted w.accounts sound.accounts))
-      ∙ ap with_accounts (earned_keyed gain none w.accounts)
+      ∙ ap with_accounts (earned_keyed gain w.accounts)
       )
 
 -- The first world is ruled rooms with these accounts, and the second comes of it by the crossings.
@@ -107,22 +106,37 @@ module _ (w : Stored) (entries : List Entry) (sound : IsSound w) (next : Stored)
     many keeps = as_many pushed.rooms later.rooms keeps.rooms ∙ ap length pushed_rooms ∙ r.rooms
 
 -- with the points raised
-pub plain-IsRuled : (w : Stored) (entries : List Entry) → IsSound w → (next : Stored) (crossers : List Crosser) → IsRuledRooms w entries next crossers → (pushed later : Stored) → pushed ≡ record next { accounts = map (account_raised 0) w.accounts }
-    → world_of later ≡ crossed_over (map (λ crosser. crosser.id) crossers) (world_of pushed) → (intents : List Intent) → AreKept (world_of w) intents entries → world_of later ≡ plain_world (world_of w) intents
-plain-IsRuled w entries sound next crossers r pushed later is crossing intents are =
-    later_is w entries sound next crossers r (account_raised 0) (λ account. refl) pushed is later crossing
-    ∙ earned_is (λ gain player account. account_raised gain account) (λ account. refl) w (after_rooms w entries sound next crossers r (account_raised 0) (λ account. refl) pushed is) intents sound
-    (gone_accounts w entries sound next crossers r (account_raised 0) (λ account. refl) pushed is)
-    (is_ruled w entries sound next crossers r (account_raised 0) (λ account. refl) pushed is intents are)
+pub plain-IsRuled : (w : Stored) (entries : List Entry) → IsSound w → (next : Stored) (crossers : List Crosser) → IsRuledRooms w entries next crossers → (pushed later : Stored) → (intents : List Intent)
+    → pushed ≡ record next { accounts = map (raised_by (gained book (world_of w) intents)) w.accounts }
+    → world_of later ≡ crossed_over (map (λ crosser. crosser.id) crossers) (world_of pushed) → AreKept (world_of w) intents entries → world_of later ≡ plain_world (world_of w) intents
+plain-IsRuled w entries sound next crossers r pushed later intents is crossing are =
+    let f : Account → Account = raised_by (gained book (world_of w) intents) in
+    later_is w entries sound next crossers r f (λ account. refl) pushed is later crossing
+    ∙ earned_is (λ gain player account. account_raised gain account) (λ gain account. refl) w (after_rooms w entries sound next crossers r f (λ account. refl) pushed is) intents sound
+    (gone_accounts w entries sound next crossers r f (λ account. refl) pushed is)
+    (is_ruled w entries sound next crossers r f (λ account. refl) pushed is intents are)
 
 -- with the accounts after the runs
-pub ran-IsNext : (w : Stored) (entries : List Entry) → IsSound w → (next : Stored) (crossers : List Crosser) → IsRuledRooms w entries next crossers → (runs : List PlayerRun) (pushed later : Stored) → pushed ≡ record next { accounts = map (accounted runs) w.accounts }
+pub ran-IsNext : (w : Stored) (entries : List Entry) → IsSound w → (next : Stored) (crossers : List Crosser) → IsRuledRooms w entries next crossers → (runs : List PlayerRun) (pushed later : Stored)
+    → pushed ≡ record next { accounts = map (accounted (gained book (world_of w) (intents_of runs)) runs) w.accounts }
     → world_of later ≡ crossed_over (map (λ crosser. crosser.id) crossers) (world_of pushed) → AreKept (world_of w) (intents_of runs) entries → world_of later ≡ next_world (world_of w) runs
 ran-IsNext w entries sound next crossers r runs pushed later is crossing are =
-    later_is w entries sound next crossers r (accounted runs) (accounted-player runs) pushed is later crossing
-    ∙ earned_is (λ gain player account. account_after gain account (run_of player runs)) (accounted-player runs) w (after_rooms w entries sound next crossers r (accounted runs) (accounted-player runs) pushed is) (intents_of runs) sound
-    (gone_accounts w entries sound next crossers r (accounted runs) (accounted-player runs) pushed is)
-    (is_ruled w entries sound next crossers r (accounted runs) (accounted-player runs) pushed is (intents_of runs) are)
+    let gain : ℕ → ℕ = gained book (world_of w) (intents_of runs) in
+    let f : Account → Account = accounted gain runs in
+    later_is w entries sound next crossers r f (accounted-player gain runs) pushed is later crossing
+    ∙ earned_is (λ gain player account. account_after gain account (run_of player runs)) (λ gain account. after-player gain account (run_of account.player runs)) w (after_rooms w entries sound next crossers r f (accounted-player gain runs) pushed is) (intents_of runs) sound
+    (gone_accounts w entries sound next crossers r f (accounted-player gain runs) pushed is)
+    (is_ruled w entries sound next crossers r f (accounted-player gain runs) pushed is (intents_of runs) are)
+
+-- what is read beside the accounts
+pub read_gains : (gain : ℕ → ℕ) (accounts read : List Account) (gains got : List ℕ) → read ≡ accounts → got ≡ gains → AreGains gain accounts gains → AreGains gain read got
+read_gains gain accounts read gains got same beside are = beside ∙ are ∙ (λ i. map (λ (account : Account). min (2 ^ 64 - 1) (gain account.player)) (sym same i))
+
+-- The accounts were pushed with what their players gained, as it was read beside them.
+pub pushed_as : (change : (ℕ → ℕ) → Account → Account) (w next pushed : Stored) (accounts read : List Account) (gains got : List ℕ) → read ≡ accounts → got ≡ gains → accounts ≡ w.accounts
+    → ((gain : ℕ → ℕ) → AreGains gain read got → pushed ≡ record next { accounts = map (change gain) read }) → (gain : ℕ → ℕ) → AreGains gain accounts gains → pushed ≡ record next { accounts = map (change gain) w.accounts }
+pushed_as change w next pushed accounts read gains got same beside stored push gain are =
+    push gain (read_gains gain accounts read gains got same beside are) ∙ ap (λ (list : List Account). record next { accounts = map (change gain) list }) (same ∙ stored)
 
 -- ---- a copy of a world
 

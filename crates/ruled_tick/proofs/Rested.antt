@@ -35,7 +35,7 @@ use Rattle.room_rules.specs.Within.{between, within, moved as stage_moved}
 use Rattle.room_rules.specs.RoomRules.{KeepsRoomRules, is_player}
 use Rattle.room_rules.specs.Followed.{part_stored, FollowsRoom, FollowsAt, FollowRooms}
 use Rattle.room_rules.proofs.Followed.{followed_sound}
-use Rattle.room_rules.proofs.Rules.{first_lead, later_keep}
+use Rattle.room_rules.proofs.Rules.{first_lead, later_lead}
 use Rattle.room_rules.proofs.Steps.{keeps_rest}
 use Rattle.room_rules.proofs.Moved.{keeps_moved}
 use Rattle.exit_crossing.specs.Crossing.{AreIdsApart, rested_room}
@@ -140,7 +140,7 @@ module _ (stored : Stored) (sound : IsSound stored) (before : List Room) (follow
       let done : RoomPart = ticked_part (moves k) sums part in
       let is : part_stored (rested_room mate) ≡ each rests done = rested_part mate ticked.rising ∙ ap (each rests) (ticked.part sums (beside_are room.table)) in
       let kept : KeepsRoomRules players within stepped = keeps_moved players (moves k) part (alone k) came.keeps in
-      let upkept : KeepsRoomRules players stage_moved done = later_keep sums players early (first_lead sums players stepped kept) in
+      let upkept : KeepsRoomRules players stage_moved done = later_lead sums players early (first_lead sums players stepped kept) in
       let follows : Follows part (each rests done) =
       follows_trans part stepped (each rests done) (book_orderly.moved (moves k) part)
       (follows_trans stepped done (each rests done) (steps_follow steps book_orderly.steps sums stepped) (follows_each rests done)) in

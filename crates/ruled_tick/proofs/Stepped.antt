@@ -1,5 +1,5 @@
 -- A room's table after movement and upkeep.
-use Rattle.std.proofs.Common.{◌≡◌, ℕ, ◌+◌, ◌*◌, ◌^◌, ◌<◌, ◌≤◌, ◌&&◌, ◌||◌, max, nat_lt, Bool, true, false, cond, List, [], ◌∷◌, length, Option, Some, None, refl, sym, ap, subst, ◌∙◌, inl, inr, arith}
+use Rattle.std.proofs.Common.{◌≡◌, ℕ, ◌+◌, ◌*◌, ◌^◌, ◌<◌, ◌≤◌, ◌&&◌, ◌||◌, ◌++◌, max, nat_lt, Bool, true, false, cond, List, [], ◌∷◌, length, Option, Some, None, refl, sym, ap, subst, ◌∙◌, inl, inr, arith}
 use Rattle.std.specs.List.{AllByRecursion, count_by}
 use Rattle.std.proofs.lemmas.List.Sums.{sum_by-cons}
 use Rattle.game_tables.specs.Kinds.{is_building, is_creep}
@@ -13,7 +13,8 @@ use Rattle.world_rules.specs.RoomParts.{RoomPart, table_part}
 use Rattle.world_rules.specs.RuleBook.{Sums, Step, Follows, StaysInRoom}
 use Rattle.world_rules.specs.RoomTick.{room_after_steps}
 use Rattle.world_rules.specs.Moves.{moved}
-use Rattle.world_rules.specs.Upkeep.{first_steps, last_steps, decays}
+use Rattle.world_rules.specs.Claims.{controllers_aged}
+use Rattle.world_rules.specs.Upkeep.{first_steps, last_steps, middle_steps, decays}
 use Rattle.world_rules.proofs.Follows.{follows_trans}
 use Rattle.world_rules.proofs.Orderly.{book_orderly}
 use Rattle.world_rules.proofs.TableParts.{get_table_part}
@@ -78,6 +79,24 @@ module _ (grounds : List Ground) (start after : Table) (follows : Follows (table
         | inr new ↦ absurd (omega (arith, next, new.2, new.3))
       ]
 
+-- the steps up to those of controllers
+abbrev pub early_steps : List Step
+early_steps = first_steps ++ middle_steps
+
+-- The steps of controllers make nothing.
+pub aged_rule : (grounds : List Ground) (two young three : Table) → ((sums : Sums) → AreSumsOf sums two → table_part grounds young ≡ room_after_steps sums first_steps (table_part grounds two))
+    → table_part grounds three ≡ controllers_aged (table_part grounds young) → (sums : Sums) → AreSumsOf sums two → table_part grounds three ≡ room_after_steps sums early_steps (table_part grounds two)
+aged_rule grounds two young three rule aged sums are = aged ∙ ap controllers_aged (rule sums are)
+
+pub aged_keeps : (many : ℕ) (two young three : Table) → KeepsUpTo many two young → KeepsUpTo 0 young three → KeepsUpTo many two three
+aged_keeps many two young three keeps aged = record {
+  index = aged.index ∙ keeps.index;
+  used = aged.used ∙ keeps.used;
+  later = omega (arith, keeps.later, aged.later);
+  made = omega (arith, keeps.made, aged.made);
+  tiles = aged.tiles;
+}
+
 -- ---- movement, and memory for the first steps
 
 -- A table after movement, and with memory for the first steps.
@@ -110,22 +129,23 @@ module _ (moves : List Intent) (grounds : List Ground) (start one two : Table) (
   sums_two : (sums : Sums) → AreSumsOf sums start → AreSumsOf sums two
   sums_two sums are = subst (AreSumsOf sums) (sym has.memory.same) (record { damage = (sums_after grounds start one follows_one sums has.next has.tallies are).damage; healing = (sums_after grounds start one follows_one sums has.next has.tallies are).healing })
 
-  -- ---- the first steps, and memory for the last ones
+  -- ---- the steps up to those of controllers, and memory for the last ones
 
-  module _ (three four : Table) (rule : (sums : Sums) → AreSumsOf sums two → table_part grounds three ≡ room_after_steps sums first_steps (table_part grounds two)) (keeps : KeepsUpTo (may_leave two.objects) two three)
+  module _ (three four : Table) (rule : (sums : Sums) → AreSumsOf sums two → table_part grounds three ≡ room_after_steps sums early_steps (table_part grounds two)) (keeps : KeepsUpTo (may_leave two.objects) two three)
       (memory : HasMemory (length three.objects + most_arrivals) three four) where
     abbrev own : Sums
     own = sums_beside start
 
-    part_three : (sums : Sums) → AreSumsOf sums start → table_part grounds three ≡ room_after_steps sums first_steps (moved moves (table_part grounds start))
-    part_three sums are = rule sums (sums_two sums are) ∙ ap (room_after_steps sums first_steps) part_two
+    part_three : (sums : Sums) → AreSumsOf sums start → table_part grounds three ≡ room_after_steps sums early_steps (moved moves (table_part grounds start))
+    part_three sums are = rule sums (sums_two sums are) ∙ ap (room_after_steps sums early_steps) part_two
 
     follows_three : Follows (table_part grounds start) (table_part grounds three)
     follows_three =
         let part : RoomPart = table_part grounds start in
         let all = book_orderly.steps in
-        let stay : AllByRecursion (λ (step : Step). (sums : Sums) → StaysInRoom (step sums)) first_steps = (all.0, (all.1.0, (all.1.1.0, (all.1.1.1.0, (all.1.1.1.1.0, tt))))) in
-        subst (Follows part) (sym (part_three own (beside_are start))) (follows_trans part (moved moves part) (room_after_steps own first_steps (moved moves part)) (book_orderly.moved moves part) (steps_follow first_steps stay own (moved moves part)))
+        let stay : AllByRecursion (λ (step : Step). (sums : Sums) → StaysInRoom (step sums)) early_steps =
+        (all.0, (all.1.0, (all.1.1.0, (all.1.1.1.0, (all.1.1.1.1.0, (all.1.1.1.1.1.0, (all.1.1.1.1.1.1.0, tt))))))) in
+        subst (Follows part) (sym (part_three own (beside_are start))) (follows_trans part (moved moves part) (room_after_steps own early_steps (moved moves part)) (book_orderly.moved moves part) (steps_follow early_steps stay own (moved moves part)))
 
     -- ready for the last steps
     pub ready_last : IsReadyFor (may_fall four.objects) four
@@ -151,7 +171,7 @@ module _ (moves : List Intent) (grounds : List Ground) (start one two : Table) (
 
 -- the whole
 pub ticked_room : (moves : List Intent) (room later : Room) (one two three four : Table) → later.name ≡ room.name → later.terrain ≡ room.terrain → HasMoved moves room.terrain room.table one two
-    → ((sums : Sums) → AreSumsOf sums two → table_part room.terrain three ≡ room_after_steps sums first_steps (table_part room.terrain two)) → KeepsUpTo (may_leave two.objects) two three → HasMemory (length three.objects + most_arrivals) three four
+    → ((sums : Sums) → AreSumsOf sums two → table_part room.terrain three ≡ room_after_steps sums early_steps (table_part room.terrain two)) → KeepsUpTo (may_leave two.objects) two three → HasMemory (length three.objects + most_arrivals) three four
     → ((grounds : List Ground) (sums : Sums) → table_part grounds later.table ≡ room_after_steps sums last_steps (table_part grounds four)) → KeepsUpTo (may_fall four.objects) four later.table → IsRising later.table.objects
     → IsTicked moves room later
 ticked_room moves room later one two three four name terrain has rule keeps memory last kept rise = record {

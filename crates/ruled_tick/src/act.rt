@@ -1,13 +1,14 @@
 // What the entries of a tick make of the rooms.
-ghost use Rattle.std.specs.Prelude.{◌≡◌, IsTrue, ◌<◌, ◌≤◌, ◌^◌, ℕ, List, length, Some, option_map, slice_get, OnOk, IfOk};
+ghost use Rattle.std.specs.Prelude.{◌≡◌, ◌≢◌, IsTrue, ◌<◌, ◌≤◌, ◌^◌, ℕ, List, length, Some, option_map, slice_get, OnOk, IfOk};
 ghost use Rattle.room_terrain.specs.declared.terrain.Ground.{Ground};
 ghost use Rattle.object_store.specs.declared.world.Room.{Room};
 ghost use Rattle.world_rules.specs.RoomParts.{table_part};
 ghost use Rattle.world_rules.specs.Tick.{book};
 ghost use Rattle.object_store.specs.Tables.{AreTalliesOf};
 ghost use Rattle.room_rules.specs.Calls.{IsHarmedBy, IsReady, Keeps};
-ghost use Rattle.ruled_tick.specs.inner.Entered.{many_in, widened, AreCounts, IsRuled, IsRuledIn};
+ghost use Rattle.ruled_tick.specs.inner.Entered.{many_in, widened, AreCounts, IsGained, IsRuled, IsRuledIn};
 
+use controller_rules::{attack_controller, claim, reserve, upgrade};
 use creep_combat::{attack, heal, mass_attack, ranged_attack, ranged_heal, suicide};
 use creep_logistics::{drop_load, pickup, transfer, withdraw};
 use creep_work::{build, dismantle, harvest, repair};
@@ -31,15 +32,17 @@ pub fn widen_all(alloc: Global, rooms: &mut [Room], entries: &[Entry]) -> Result
     Ok(())
 }
 
-/// Rules an entry in its room, if there is such a room.
-pub fn enter(rooms: &mut [Room], entry: &Entry)
+/// Rules an entry in its room, if there is such a room, and answers the points that its player gains.
+pub fn enter(rooms: &mut [Room], entry: &Entry) -> u32
     requires ready { (room : Room) → slice_get rooms.old entry.now.room ≡ Some room → IsReady room.table }
     ensures { IsRuledIn
-        (slice_get rooms.old entry.now.room) entry.now.room entry.now.intent rooms.old rooms.new }
+        (slice_get rooms.old entry.now.room) entry.now.room entry.now.intent result rooms.old rooms.new }
 {
     let index = entry.room as usize;
     if index < rooms.len() {
-        rule_in(&mut rooms[index], &entry.intent);
+        rule_in(&mut rooms[index], &entry.intent)
+    } else {
+        0
     }
 }
 
@@ -77,18 +80,19 @@ fn widen(alloc: Global, room: &mut Room, entries: u32) -> Result<(), NoMemory>
     Ok(())
 }
 
-fn rule_in(room: &mut Room, intent: &Intent)
+fn rule_in(room: &mut Room, intent: &Intent) -> u32
     requires ready { IsReady room.old.table }
     ensures rest { room.new ≡ record room.old { table = room.new.table } }
     ensures ruled { IsRuled intent.now room.old.table room.new.table }
+    ensures points { IsGained intent.now room.old.table result }
 {
-    rule(&mut room.table, intent);
+    let points = rule(&mut room.table, intent);
     let _rising = room.table.objects();
+    points
 }
 
-// The rule of each action. One that is not in force yet does nothing, nor does a move, which is settled with
-// the other moves of its room after all entries.
-fn rule(table: &mut RoomTable, intent: &Intent)
+// The rule of each action, and the points that its player gains, which only an upgrade gives.
+fn rule(table: &mut RoomTable, intent: &Intent) -> u32
     requires ready { IsReady table.old }
     ensures rule { (grounds : List Ground)
         → table_part grounds table.new ≡ (book.effect intent.now (table_part grounds table.old)).part }
@@ -96,9 +100,31 @@ fn rule(table: &mut RoomTable, intent: &Intent)
         → IsHarmedBy (book.harm intent.now (table_part grounds table.old)) table.old table.new }
     ensures told { AreTalliesOf table.old.objects table.old.tallies }
     ensures keeps { Keeps table.old table.new }
+    ensures points { IsGained intent.now table.old result }
 {
     // No sum passes its most, and nothing was done to what doesn't stand.
     let _told = table.objects();
+    match intent.action {
+        Action::Upgrade => upgrade(table, intent),
+        _ => {
+            rule_plain(table, intent);
+            0
+        }
+    }
+}
+
+// The rule of each action that gives no points. One that is not in force yet does nothing, nor does a move,
+// which is settled with the other moves of its room after all entries.
+fn rule_plain(table: &mut RoomTable, intent: &Intent)
+    requires ready { IsReady table.old }
+    requires plain { intent.now.action ≢ Action.Upgrade }
+    requires told { AreTalliesOf table.old.objects table.old.tallies }
+    ensures rule { (grounds : List Ground)
+        → table_part grounds table.new ≡ (book.effect intent.now (table_part grounds table.old)).part }
+    ensures harm { (grounds : List Ground)
+        → IsHarmedBy (book.harm intent.now (table_part grounds table.old)) table.old table.new }
+    ensures keeps { Keeps table.old table.new }
+{
     match intent.action {
         Action::DropLoad => drop_load(table, intent),
         Action::Transfer => transfer(table, intent),
@@ -114,6 +140,9 @@ fn rule(table: &mut RoomTable, intent: &Intent)
         Action::RangedMassAttack => mass_attack(table, intent),
         Action::RangedAttack => ranged_attack(table, intent),
         Action::Suicide => suicide(table, intent),
+        Action::ClaimController => claim(table, intent),
+        Action::Reserve => reserve(table, intent),
+        Action::AttackController => attack_controller(table, intent),
         _ => {}
     }
 }

@@ -3,6 +3,7 @@
 #![tactic(auto)]
 
 mod act;
+mod gains;
 mod rooms;
 mod tick;
 

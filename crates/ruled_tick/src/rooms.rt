@@ -11,11 +11,12 @@ use intent_book::{Intent, Intents};
 use kept_entries::Entry;
 use object_store::{Room, RoomTable};
 use std::alloc::{AllocError as NoMemory, Global};
-use upkeep_rules::{upkeep_first, upkeep_last};
+use upkeep_rules::{age_controllers, upkeep_first, upkeep_last};
 
 /// Lets the creeps of each room move, by those of the entries that are moves, and keeps the rooms up.
 pub fn tick_all(alloc: Global, rooms: &mut [Room], entries: &[Entry]) -> Result<(), NoMemory>
-    requires ready { (index : ℕ) (room : Room) → slice_get rooms.old index ≡ Some room → IsReadyToTick room.table }
+    requires ready { (index : ℕ) (room : Room) → slice_get rooms.old index ≡ Some room
+        → IsReadyToTick room.table }
     requires once { (index : ℕ) → AreActorsOnce (moves_in index entries.now) }
     ensures { OnOk result (AreTicked entries.now rooms.old rooms.new) }
 {
@@ -70,6 +71,7 @@ fn tick_room(room: &mut Room, moves: &[Intent]) -> Result<(), NoMemory>
     let most_left = 2 * u64::from(room.table.len());
     take_memory(&mut room.table, most_left)?;
     upkeep_first(&mut room.table);
+    age_controllers(&mut room.table);
     let most_made = u64::from(room.table.len()) + MOST_ARRIVALS;
     take_memory(&mut room.table, most_made)?;
     upkeep_last(&mut room.table);

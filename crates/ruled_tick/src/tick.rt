@@ -1,14 +1,16 @@
 // One tick of the whole world.
-ghost use Rattle.std.specs.Prelude.{◌≡◌, IsTrue, ◌<◌, ◌≤◌, ◌-◌, ◌+◌, ◌^◌, List, [], map, length, option_map, IfOk, OnOk};
+ghost use Rattle.std.specs.Prelude.{◌≡◌, IsTrue, ◌<◌, ◌≤◌, ◌-◌, ◌+◌, ◌^◌, ℕ, List, [], map, length, option_map, IfOk, OnOk};
 ghost use Rattle.object_store.specs.Stored.{AreRising};
 ghost use Rattle.intent_book.specs.declared.intent.Intent.{Intent};
 ghost use Rattle.kept_entries.specs.Turns.{AreKept};
 ghost use Rattle.world_rules.specs.World.{world_of};
 ghost use Rattle.world_rules.specs.Tick.{book, plain_world, next_world, intents_of, gained, account_raised, account_after, run_of, bucket_after, points_after};
 ghost use Rattle.world_rules.specs.Sound.{IsSound, HaveSerials};
-ghost use Rattle.ruled_tick.specs.inner.Ticked.{accounted, IsRuledRooms, AreInPlace};
+ghost use Rattle.ruled_tick.specs.inner.Entered.{AreGains};
+ghost use Rattle.ruled_tick.specs.inner.Ticked.{accounted, raised_by, IsRuledRooms, AreInPlace};
 
 use crate::act::{enter, widen_all};
+use crate::gains::add_gain;
 use crate::rooms::tick_all;
 use exit_crossing::{Crosser, all_crossers, cross};
 use game_tables::{most_bucket, most_points, unit_instructions};
@@ -52,8 +54,8 @@ pub fn tick_taken(alloc: Global, world: World, entries: &[Entry]) -> Result<Worl
         → world_of next ≡ plain_world (world_of world) list) }
     ensures sound { IfOk result IsSound }
 {
-    let (mut next, accounts, crossers) = ruled_rooms(alloc, world, entries)?;
-    push_raised(alloc, &accounts, &mut next)?;
+    let (mut next, accounts, gains, crossers) = ruled_rooms(alloc, world, entries)?;
+    push_raised(alloc, &accounts, &gains, &mut next)?;
     cross(&mut next, &crossers);
     Ok(next)
 }
@@ -80,14 +82,14 @@ pub fn next_world(
         → world_of next ≡ next_world (world_of world) runs.now) }
     ensures sound { IfOk result IsSound }
     ensures accounts { IfOk result
-        (λ next. next.accounts
+        (λ next. (list : List Intent) → AreKept (world_of world) list entries.now → next.accounts
         ≡ map (λ account.
-        account_after (gained book (world_of world) (intents_of runs.now) account.player) account
+        account_after (gained book (world_of world) list account.player) account
         (run_of account.player runs.now)) world.accounts) }
     ensures rooms { IfOk result (λ next. length next.rooms ≡ length world.rooms) }
 {
-    let (mut next, accounts, crossers) = ruled_rooms(alloc, world, entries)?;
-    push_accounted(alloc, &accounts, runs, &mut next)?;
+    let (mut next, accounts, gains, crossers) = ruled_rooms(alloc, world, entries)?;
+    push_accounted(alloc, &accounts, &gains, runs, &mut next)?;
     cross(&mut next, &crossers);
     Ok(next)
 }
@@ -104,20 +106,22 @@ pub fn all_intents(alloc: Global, runs: &[PlayerRun]) -> Result<Vec<Intent>, NoM
 }
 
 // The world after a tick with these entries, before crossings and without accounts yet, its accounts as they
-// were, and the creeps that are to cross.
+// were, what their players gained, and the creeps that are to cross.
 fn ruled_rooms(
     alloc: Global,
     world: World,
     entries: &[Entry],
-) -> Result<(World, Vec<Account>, Vec<Crosser>), NoMemory>
+) -> Result<(World, Vec<Account>, Vec<u64>, Vec<Crosser>), NoMemory>
     requires tick { world.tick < 2 ^ 64 - 1 }
     requires sound { IsSound world }
     requires few { length entries.now ≤ 2 ^ 18 }
     requires serials { HaveSerials world.rooms }
     requires kept { (list : List Intent) × AreKept (world_of world) list entries.now }
-    ensures rooms { IfOk result (λ parts. IsRuledRooms world entries.now parts.0 parts.2.items) }
+    ensures rooms { IfOk result (λ parts. IsRuledRooms world entries.now parts.0 parts.3.items) }
     ensures accounts { IfOk result (λ parts. parts.1.items ≡ world.accounts) }
     ensures within { IfOk result (λ parts. length parts.1.items < 2 ^ 32) }
+    ensures gains { IfOk result (λ parts. (list : List Intent) → AreKept (world_of world) list entries.now
+        → AreGains (gained book (world_of world) list) parts.1.items parts.2.items) }
 {
     let tick = world.tick() + 1;
     // The numbers of rooms and of accounts are below 2^32.
@@ -125,13 +129,15 @@ fn ruled_rooms(
     let _accounts = world.account_list();
     let (mut rooms, accounts) = world.into_parts();
     widen_all(alloc, &mut rooms, entries)?;
+    let mut gains = vec![in alloc; 0_u64; accounts.len()]?;
     for entry in entries {
-        enter(&mut rooms, entry);
+        let points = enter(&mut rooms, entry);
+        add_gain(&accounts, &mut gains, entry.intent.player, points);
     }
     tick_all(alloc, &mut rooms, entries)?;
     let crossers = all_crossers(alloc, &mut rooms)?;
     let next = world_of_rooms(alloc, tick, rooms)?;
-    Ok((next, accounts, crossers))
+    Ok((next, accounts, gains, crossers))
 }
 
 // The world of these rooms, without accounts yet.
@@ -147,58 +153,78 @@ fn world_of_rooms(alloc: Global, tick: u64, rooms: Vec<Room>) -> Result<World, N
     Ok(next)
 }
 
-// The accounts with the points that their players gained, which are none: no action that gains some is in
-// force.
-fn push_raised(alloc: Global, accounts: &[Account], next: &mut World) -> Result<(), NoMemory>
+// The accounts with the points that their players gained.
+fn push_raised(
+    alloc: Global,
+    accounts: &[Account],
+    gains: &[u64],
+    next: &mut World,
+) -> Result<(), NoMemory>
     requires rising { AreRising accounts.now }
     requires within { length accounts.now < 2 ^ 32 }
+    requires gains { (gain : ℕ → ℕ) × AreGains gain accounts.now gains.now }
     requires none { next.old.accounts ≡ [] }
-    ensures { OnOk result
-        (next.new ≡ record next.old { accounts = map (account_raised 0) accounts.now }) }
+    ensures { OnOk result ((gain : ℕ → ℕ) → AreGains gain accounts.now gains.now
+        → next.new ≡ record next.old { accounts = map (raised_by gain) accounts.now }) }
 {
-    for account in accounts {
-        next.push_account(raised(alloc, account)?)?;
+    for (index, account) in accounts.iter().enumerate() {
+        next.push_account(raised(alloc, account, gains[index])?)?;
     }
     Ok(())
 }
 
-fn raised(alloc: Global, account: &Account) -> Result<Account, NoMemory>
-    ensures { IfOk result (λ next. next ≡ account_raised 0 account.now) }
+fn raised(alloc: Global, account: &Account, gain: u64) -> Result<Account, NoMemory>
+    ensures { IfOk result (λ next. next ≡ account_raised gain account.now) }
 {
     Ok(Account {
         player: account.player,
         limit: account.limit,
         bucket: account.bucket,
-        points: account.points.min(most_points()),
+        points: raised_points(account, gain),
         memory: Bytes::of(alloc, account.memory.as_slice())?,
     })
 }
 
-// The accounts after the runs.
+// The points of an account with those that its player gained, up to their bound.
+fn raised_points(account: &Account, gain: u64) -> u64
+    ensures { result ≡ points_after account.now gain }
+{
+    account.points.saturating_add(gain).min(most_points())
+}
+
+// The accounts after the runs, with the points that their players gained.
 fn push_accounted(
     alloc: Global,
     accounts: &[Account],
+    gains: &[u64],
     runs: &[PlayerRun],
     next: &mut World,
 ) -> Result<(), NoMemory>
     requires rising { AreRising accounts.now }
     requires within { length accounts.now < 2 ^ 32 }
+    requires gains { (gain : ℕ → ℕ) × AreGains gain accounts.now gains.now }
     requires none { next.old.accounts ≡ [] }
-    ensures { OnOk result
-        (next.new ≡ record next.old { accounts = map (accounted runs.now) accounts.now }) }
+    ensures { OnOk result ((gain : ℕ → ℕ) → AreGains gain accounts.now gains.now
+        → next.new ≡ record next.old { accounts = map (accounted gain runs.now) accounts.now }) }
 {
-    for account in accounts {
-        next.push_account(after_runs(alloc, account, runs)?)?;
+    for (index, account) in accounts.iter().enumerate() {
+        next.push_account(after_runs(alloc, account, gains[index], runs)?)?;
     }
     Ok(())
 }
 
-fn after_runs(alloc: Global, account: &Account, runs: &[PlayerRun]) -> Result<Account, NoMemory>
-    ensures { IfOk result (λ next. next ≡ accounted runs.now account.now) }
+fn after_runs(
+    alloc: Global,
+    account: &Account,
+    gain: u64,
+    runs: &[PlayerRun],
+) -> Result<Account, NoMemory>
+    ensures { IfOk result
+        (λ next. next ≡ account_after gain account.now (run_of account.now.player runs.now)) }
 {
     match run_of(runs, account.player) {
-        Some(run) => filled(alloc, account, run.used, &run.memory),
-        None => filled(alloc, account, 0, &account.memory),
+        Some(run) => filled(alloc, account, gain, run.used, &run.memory),
+        None => filled(alloc, account, gain, 0, &account.memory),
     }
 }
 
@@ -209,12 +235,19 @@ fn run_of(runs: &[PlayerRun], player: u32) -> Option<&PlayerRun>
     runs.iter().find(|run| run.player == player)
 }
 
-// The account with its bucket after a run that took so many instructions, and with a memory text.
-fn filled(alloc: Global, account: &Account, used: u64, memory: &Bytes) -> Result<Account, NoMemory>
+// The account with its bucket after a run that took so many instructions, with the points that its player
+// gained, and with a memory text.
+fn filled(
+    alloc: Global,
+    account: &Account,
+    gain: u64,
+    used: u64,
+    memory: &Bytes,
+) -> Result<Account, NoMemory>
     ensures { IfOk result
         (λ next. next ≡ record account.now {
           bucket = bucket_after account.now used;
-          points = points_after account.now 0;
+          points = points_after account.now gain;
           memory = memory.now;
         }) }
 {
@@ -222,7 +255,7 @@ fn filled(alloc: Global, account: &Account, used: u64, memory: &Bytes) -> Result
         player: account.player,
         limit: account.limit,
         bucket: filled_bucket(account, used),
-        points: account.points.min(most_points()),
+        points: raised_points(account, gain),
         memory: Bytes::of(alloc, memory.as_slice())?,
     })
 }

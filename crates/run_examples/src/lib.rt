@@ -1,22 +1,19 @@
-// Runs and checks over devices in memory, and the calls that fail: examples of the top calls, and of what
-// players
-// see, which are tests alone. They stand in a crate of their own, so that the top calls are not proved once
-// more for them.
+// Calls that the built program doesn't make, or not with devices that fail, and adapters over files, of which no
+// clause tells: examples that are tests alone.
+// They stand in a crate of their own, so that the calls are not proved once more for them.
 #![tactic(auto)]
 
 #[cfg(test)]
-mod player_tests;
+mod bytes_tests;
 #[cfg(test)]
-mod run_tests;
+mod device_tests;
 #[cfg(test)]
-mod status_tests;
+mod file_tests;
+#[cfg(test)]
+mod text_tests;
 #[cfg(test)]
 mod tick_tests;
 #[cfg(test)]
-mod tool_tests;
-#[cfg(test)]
 mod view_tests;
-#[cfg(test)]
-mod words_tests;
 #[cfg(test)]
 mod worlds;

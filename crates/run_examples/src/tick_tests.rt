@@ -1,16 +1,14 @@
 // Single ticks of worlds that were read from files.
-ghost use Rattle.std.specs.Prelude.{◌≡◌, [], ◌∷◌, IsTrue, IfOk};
+ghost use Rattle.std.specs.Prelude.{IsTrue};
 ghost use Rattle.world_rules.specs.Sound.{HaveSerials};
 
 use crate::worlds::room;
 use game_tables::{Action, Body};
-use intent_book::{Intent, Intents, PlayerRun, RunOutcome};
-use kept_entries::kept_entries;
-use object_store::{Bytes, World};
-use ruled_tick::{all_intents, next_world, tick_plain};
+use intent_book::Intent;
+use object_store::World;
+use ruled_tick::tick_plain;
 use std::alloc::{AllocError, Global};
 use std::test::Fail;
-use world_roster::Roster;
 use world_text::read_world;
 
 // Creeps 3 and 4 of players 2 and 1 stand in the first room, and one of player 1 on a pile; in the second one
@@ -136,128 +134,5 @@ fn entries_of_two_rooms_are_ruled(rt: HostRuntime) -> Result<(), Fail> {
     );
     assert_eq!(rt; memory_of(&next, 1), b"one".as_slice());
     assert_eq!(rt; memory_of(&next, 2), b"two".as_slice());
-    Ok(())
-}
-
-// A run of a player that took so many instructions, wants this, and leaves this memory text.
-fn run(
-    alloc: Global,
-    player: u32,
-    used: u64,
-    intent: Intent,
-    memory: &[u8],
-) -> Result<PlayerRun, AllocError>
-    ensures { IfOk result (λ run. run.intents ≡ intent ∷ []) }
-{
-    let mut intents = Intents::new(alloc);
-    intents.push(intent)?;
-    Ok(PlayerRun {
-        player,
-        outcome: RunOutcome::Finished,
-        used,
-        intents,
-        memory: Bytes::of(alloc, memory)?,
-    })
-}
-
-#[test]
-fn runs_of_two_players_are_ruled(rt: HostRuntime) -> Result<(), Fail> {
-    let text = two_rooms(rt.alloc())?;
-    let Ok(file) = read_world(rt.alloc(), text.as_bytes()) else {
-        return Err("refused".into());
-    };
-    if !have_serials(&file.world) {
-        return Err("used up".into());
-    }
-    let second = entry(2, Action::DropLoad, 3, 0);
-    let first = entry(1, Action::DropLoad, 4_294_967_297, 7);
-    let runs = [
-        run(rt.alloc(), 2, 100_001, second, b"new")?,
-        run(rt.alloc(), 1, 9, first, b"")?,
-    ];
-    let intents = all_intents(rt.alloc(), &runs)?;
-    let entries = {
-        let roster = Roster::of(rt.alloc(), &file.world)?;
-        kept_entries(rt.alloc(), &file.world, &roster, &intents)?
-    };
-    assert_eq!(rt; entries.len(), 2);
-    let next = next_world(rt.alloc(), file.world, &entries, &runs)?;
-    assert_eq!(rt; (next.tick(), next.rooms(), next.accounts()), (42, 2, 2));
-    assert_eq!(rt; room_of(&next, 0), Some((5, 8)));
-    assert_eq!(rt; room_of(&next, 1), Some((4, 5)));
-    for (index, id, energy) in [
-        (0, 3, 0),
-        (0, 4, 20),
-        (0, 6, 999),
-        (0, 7, 29),
-        (1, 4_294_967_297, 43),
-        (1, 4_294_967_300, 6),
-    ] {
-        assert_eq!(rt; energy_of(&next, index, id), Some(energy), "of {id}");
-    }
-    // (a limit of 20 and a unit, and a limit of 500 and 11 units)
-    assert_eq!(rt;
-        (saved_of(&next, 1), saved_of(&next, 2)),
-        (Some((49, 7)), Some((9_489, 0)))
-    );
-    assert_eq!(rt; memory_of(&next, 1), b"".as_slice());
-    assert_eq!(rt; memory_of(&next, 2), b"new".as_slice());
-    Ok(())
-}
-
-// A room with a creep, a spawn and a site of player 1, and a creep of player 2.
-fn one_room(alloc: Global) -> Result<String, AllocError> {
-    let only = room(
-        alloc,
-        "E0S0",
-        7,
-        "{\"id\":3,\"kind\":\"creep\",\"x\":31,\"y\":30,\"owner\":1,\"body\":[\"carry\",\"move\"],\"energy\":30,\"timer\":1500},{\"id\":4,\"kind\":\"spawn\",\"x\":30,\"y\":30,\"owner\":1},{\"id\":5,\"kind\":\"site\",\"x\":20,\"y\":20,\"owner\":1,\"extra\":8},{\"id\":6,\"kind\":\"creep\",\"x\":10,\"y\":10,\"owner\":2,\"body\":[\"move\"],\"timer\":1500}",
-    )?;
-    format!(in alloc;
-        "{{\"version\":1,\"tick\":41,\"rooms\":[{only}],\"players\":[{{\"player\":1,\"limit\":20}},{{\"player\":2,\"limit\":500}}]}}"
-    )
-}
-
-#[test]
-fn entries_count_by_their_actors(rt: HostRuntime) -> Result<(), Fail> {
-    let text = one_room(rt.alloc())?;
-    let Ok(file) = read_world(rt.alloc(), text.as_bytes()) else {
-        return Err("refused".into());
-    };
-    let roster = Roster::of(rt.alloc(), &file.world)?;
-    let intents = [
-        entry(1, Action::Move, 3, 1),
-        // (a spawn of the player, a creep that is none, and a spawn of another)
-        entry(1, Action::SpawnCreep, 4, 0),
-        entry(1, Action::SpawnCreep, 3, 0),
-        entry(2, Action::SpawnCreep, 4, 0),
-        // (a site of the player, and of another)
-        entry(1, Action::RemoveSite, 5, 0),
-        entry(2, Action::RemoveSite, 5, 0),
-        // (a tile of the only room, and one behind it)
-        entry(2, Action::CreateSite, 2_499, 8),
-        entry(2, Action::CreateSite, 2_500, 8),
-        // (of attack and heal of one creep the attack is overruled; the other creep's stays)
-        entry(1, Action::Attack, 3, 0),
-        entry(1, Action::Heal, 3, 0),
-        entry(2, Action::Attack, 6, 0),
-    ];
-    let entries = kept_entries(rt.alloc(), &file.world, &roster, &intents)?;
-    let kept = [
-        (Action::Heal, 3_u64, 1_u32),
-        (Action::Attack, 6, 2),
-        (Action::CreateSite, 2_499, 2),
-        (Action::RemoveSite, 5, 1),
-        (Action::SpawnCreep, 4, 1),
-        (Action::Move, 3, 1),
-    ];
-    assert_eq!(rt; entries.len(), kept.len());
-    for (found, (action, actor, player)) in entries.iter().zip(kept) {
-        assert_eq!(rt; (found.room, found.intent.actor), (0, actor));
-        assert_eq!(rt;
-            (found.intent.action, found.intent.player),
-            (action, player)
-        );
-    }
     Ok(())
 }

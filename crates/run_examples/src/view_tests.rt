@@ -99,22 +99,3 @@ fn players_see_their_rooms(rt: HostRuntime) -> Result<(), Fail> {
     );
     Ok(())
 }
-
-#[test]
-fn a_player_sees_no_room_of_another(rt: HostRuntime) -> Result<(), Fail> {
-    let text = three_rooms(rt.alloc())?;
-    let Ok(file) = read_world(rt.alloc(), text.as_bytes()) else {
-        return Err("refused".into());
-    };
-    let world = &file.world;
-    if world.rooms() > 400 || world.account(2).is_none() {
-        return Err("not the world of the file".into());
-    }
-    let two = View::of(rt.alloc(), world, 2)?;
-    assert_eq!(rt;
-        (two.room_count(), two.room(0), two.count(), two.sites()),
-        (1, Some(2), 3, 0)
-    );
-    assert_eq!(rt; (two.find(8_589_934_595), two.find(3)), (Some(2), None));
-    Ok(())
-}

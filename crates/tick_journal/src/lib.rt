@@ -9,6 +9,3 @@ mod parts;
 pub use contents::{base_content, tick_content};
 pub use entries::UploadEntry;
 pub use std::alloc::AllocError as NoMemory;
-
-#[cfg(test)]
-mod tests;

@@ -1,11 +1,11 @@
 // Upkeep: what time does to the objects of a room at the end of a tick.
 #![tactic(auto)]
 
+mod control;
 mod filling;
 mod pass;
-#[cfg(test)]
-mod tests;
 mod upkeep;
 mod wearing;
 
-pub use upkeep::{upkeep_first, upkeep_last};
+pub use control::full_time;
+pub use upkeep::{age_controllers, upkeep_first, upkeep_last};

@@ -12,6 +12,7 @@ ghost use Rattle.world_rules.specs.Steps.{each};
 ghost use Rattle.world_rules.specs.Upkeep.{source_renewed, pile_decayed};
 ghost use Rattle.upkeep_rules.specs.inner.Passed.{left_by, left_of, passed};
 
+use crate::control::aged;
 use game_tables::{Kind, Part, pile_decay, renewal_ticks};
 use object_store::{Object, RoomTable};
 
@@ -20,6 +21,8 @@ use object_store::{Object, RoomTable};
 pub(crate) enum Step {
     /// Creeps recover from fatigue.
     Recover,
+    /// Controllers lose time.
+    Control,
     /// Sources are renewed, up to this capacity.
     Renew(u64),
     /// Piles decay.
@@ -91,6 +94,7 @@ fn keep_up(step: Step, object: &Object) -> Upkept
 {
     match (step, object.kind) {
         (Step::Recover, Kind::Creep) => recover(object),
+        (Step::Control, Kind::Controller) => Upkept::Changes(aged(object)),
         (Step::Renew(capacity), Kind::Source) => renew_source(object, capacity),
         (Step::Decay, Kind::Pile) => decay_pile(object),
         _ => Upkept::Stays,

@@ -1,9 +1,12 @@
 // The steps of upkeep in their order.
 ghost use Rattle.std.specs.Prelude.{◌≡◌, List};
+ghost use Rattle.std.specs.List.{AllByRecursion};
 ghost use Rattle.room_terrain.specs.declared.terrain.Ground.{Ground};
+ghost use Rattle.object_store.specs.Tables.{IsOnTile};
 ghost use Rattle.object_store.specs.Tallies.{no_tallies};
 ghost use Rattle.world_rules.specs.RoomParts.{table_part};
 ghost use Rattle.world_rules.specs.RuleBook.{Sums};
+ghost use Rattle.world_rules.specs.Claims.{controllers_aged};
 ghost use Rattle.world_rules.specs.RoomTick.{room_after_steps};
 ghost use Rattle.world_rules.specs.Upkeep.{buildings_decayed, first_steps, last_steps};
 ghost use Rattle.room_rules.specs.Calls.{AreSumsOf, IsReadyFor, KeepsUpTo};
@@ -34,6 +37,16 @@ pub fn upkeep_first(room: &mut RoomTable)
     pass(room, Step::Recover);
     fill_spawns(room);
     room.clear_sums();
+}
+
+/// The step before the renewal of sources: controllers lose time. It takes no memory.
+pub fn age_controllers(room: &mut RoomTable)
+    requires tiles { AllByRecursion IsOnTile room.old.objects }
+    ensures rule { (grounds : List Ground)
+        → table_part grounds room.new ≡ controllers_aged (table_part grounds room.old) }
+    ensures keeps { KeepsUpTo 0 room.old room.new }
+{
+    pass(room, Step::Control);
 }
 
 /// The steps from the renewal of sources on: sources are renewed, containers and roads decay, and piles do,

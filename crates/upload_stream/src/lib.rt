@@ -4,8 +4,6 @@
 mod fault;
 mod laws;
 mod stream;
-#[cfg(test)]
-mod tests;
 
 pub use fault::StreamFault;
 pub use laws::stream_is_judged_once;

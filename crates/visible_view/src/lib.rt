@@ -3,8 +3,6 @@
 
 mod field;
 mod gather;
-#[cfg(test)]
-mod tests;
 mod view;
 
 pub use std::alloc::AllocError as NoMemory;

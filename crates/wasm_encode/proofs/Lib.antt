@@ -12,4 +12,3 @@ pub mod OnceValues
 pub mod Whole
 pub mod Texts
 pub mod Exists
-pub mod Examples

@@ -5,8 +5,6 @@ mod encodable;
 mod entries;
 mod instrs;
 mod sections;
-#[cfg(test)]
-mod tests;
 mod values;
 mod written;
 

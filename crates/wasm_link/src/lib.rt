@@ -16,6 +16,3 @@ pub use fault::LinkFault;
 pub use linked::{Callee, Linked, link};
 pub use std::alloc::AllocError as NoMemory;
 pub use stored::Stored;
-
-#[cfg(test)]
-mod tests;

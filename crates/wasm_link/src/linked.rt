@@ -237,13 +237,4 @@ impl Linked {
             table,
         })
     }
-
-    /// How many functions and how many types there are.
-    #[cfg(test)]
-    pub(crate) fn counts(&self) -> (usize, usize)
-        ensures functions { result.0 ≡ length (link_view self.now).program.functions }
-        ensures types { result.1 ≡ length (link_view self.now).program.types }
-    {
-        (self.functions.len(), self.classes.len())
-    }
 }

@@ -12,6 +12,3 @@ pub use laws::forms_are_one;
 pub use read::{read_account, read_intent, read_room};
 pub use std::alloc::AllocError as NoMemory;
 pub use write::{put_length, write_account, write_intent, write_room};
-
-#[cfg(test)]
-mod tests;

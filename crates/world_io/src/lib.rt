@@ -12,8 +12,6 @@ mod sink;
 mod source;
 mod steady;
 mod stream;
-#[cfg(test)]
-mod tests;
 
 pub use disk::Disk;
 pub use files::{FileDisk, FileSink, FileSource};

@@ -2,8 +2,6 @@
 #![tactic(auto)]
 
 mod roster;
-#[cfg(test)]
-mod tests;
 
 pub use roster::Roster;
 pub use std::alloc::AllocError as NoMemory;

@@ -1,5 +1,5 @@
 -- What the checks of an action tell of its actor and of its target.
-use Rattle.std.proofs.Common.{◌≡◌, ◌&&◌, ◌++◌, Bool, true, false, nat_lt, if◌then◌else◌, List, [], ◌∷◌, Option, Some, None, refl, sym, ap, subst, ◌∙◌, option_map}
+use Rattle.std.proofs.Common.{◌≡◌, ◌==◌, ◌&&◌, ◌++◌, Bool, true, false, nat_lt, if◌then◌else◌, List, [], ◌∷◌, Option, Some, None, refl, sym, ap, subst, ◌∙◌, option_map}
 use Rattle.std.specs.FinMap.{get, values}
 use Rattle.game_tables.specs.Actions.{max_range, needed_part}
 use Rattle.game_tables.specs.Kinds.{is_creep}
@@ -58,6 +58,7 @@ pub record AreParties (action : Action) (entry : Intent) (part : RoomPart) (cree
   pub there : get part.objects entry.actor ≡ Some creep
   pub at : get part.objects entry.target ≡ Some target
   pub kind : is_creep creep.kind ≡ true
+  pub own : (creep.owner == entry.player) ≡ true
   pub targets : all_hold (target_checks (max_range action) action (scene_with entry part creep target)) ≡ true
   pub further : all_hold (further_checks action (scene_with entry part creep target)) ≡ true
   pub hits : nat_lt 0 creep.hits ≡ true
@@ -87,11 +88,15 @@ module _ (action : Action) (entry : Intent) (part : RoomPart) where
       let scene = scene_with entry part found.0 found.1 in
       let takes = holds_all found.0 found.1 stand.0 stand.1 both.0 in
       let hold = and_left (all_hold (checks action scene)) (nat_lt 0 found.0.hits) takes in
-      let before = creep_checks scene ++ amount_checks action scene ++ part_checks (needed_part action) scene in
+      let first = creep_checks scene ++ amount_checks action scene in
+      let before = first ++ part_checks (needed_part action) scene in
+      let early = hold_left before (target_checks (max_range action) action scene) (hold_left (before ++ target_checks (max_range action) action scene) (further_checks action scene) hold) in
+      let creeps = hold_left (creep_checks scene) (amount_checks action scene) (hold_left first (part_checks (needed_part action) scene) early) in
       record {
         there = stand.0;
         at = stand.1;
         kind = creep_acts action entry part found.0 stand.0 both.0;
+        own = and_left (found.0.owner == entry.player) true (and_right (is_creep found.0.kind) ((found.0.owner == entry.player) && true) creeps);
         targets = hold_right before (target_checks (max_range action) action scene) (hold_left (before ++ target_checks (max_range action) action scene) (further_checks action scene) hold);
         further = hold_right (before ++ target_checks (max_range action) action scene) (further_checks action scene) hold;
         hits = and_right (all_hold (checks action scene)) (nat_lt 0 found.0.hits) takes;

@@ -7,7 +7,7 @@ use Rattle.game_tables.specs.Kinds.{is_building, is_creep, source_capacity}
 use Rattle.game_tables.specs.declared.kind.Kind.{Kind}
 use Rattle.game_tables.specs.declared.kind.Kind.TheVariants.{Creep, Spawn}
 use Rattle.game_tables.specs.declared.action.Action.{Action}
-use Rattle.game_tables.specs.declared.action.Action.TheVariants.{DropLoad, Transfer, Withdraw, Pickup, Dismantle, Harvest, Repair, Build, Suicide}
+use Rattle.game_tables.specs.declared.action.Action.TheVariants.{DropLoad, Transfer, Withdraw, Pickup, Dismantle, Harvest, Repair, Build, Suicide, ClaimController, Upgrade, Reserve, AttackController}
 use Rattle.object_store.specs.Controllers.{is_taken, is_owned_room}
 use Rattle.object_store.specs.Stores.{building_of, free_room}
 use Rattle.object_store.specs.declared.object.Object.{Object}
@@ -20,6 +20,7 @@ use Rattle.world_rules.specs.Drops.{pile_bound, pile_on, pile_of, fallen_on, fal
 use Rattle.world_rules.specs.Loads.{with_more, with_less, handed_over, transferred_by, withdrawn_by, taken_from, picked_up_by}
 use Rattle.world_rules.specs.Work.{live_work, harvested_by, hits_gained, repair_cost, repaired_by, total_of, work_put, building_on, advanced, built_as, built_by}
 use Rattle.world_rules.specs.Fights.{dismantled_by, salvage, without_hits}
+use Rattle.world_rules.specs.Claims.{claimed_by, claimed_for, controller_aged_as, controller_hurt, hurt_by, reserved_by, ticks_reserved, upgraded_by, work_taken, worked_on}
 use Rattle.world_rules.specs.Steps.{by_object, over_objects}
 use Rattle.world_rules.specs.Movement.{Mover, movers, has_mover, stepped, worn_as, moved_by}
 use Rattle.world_rules.specs.Moves.{candidates, fatigue}
@@ -103,6 +104,11 @@ end_follows : (creep : Option Object) → StaysInRoom (λ part. by_object withou
 end_follows None part = follows_self part
 end_follows (Some creep) part = follows_object (record creep { hits = 0 }) part
 
+upgrade_follows : (creep controller : Object) → StaysInRoom (upgraded_by creep controller)
+upgrade_follows creep controller =
+    let amount : ℕ = work_taken creep controller in
+    two_follow (worked_on amount controller) (with_less amount creep)
+
 -- ---- all rules
 
 rule_follows : (action : Action) (entry : Intent) → StaysInRoom (λ part. (rule_of action entry part).part)
@@ -115,6 +121,10 @@ rule_follows Repair entry part = follows_parties Repair repaired_by repair_follo
 rule_follows Build entry part = follows_parties Build built_by (λ creep site. build_follows creep site (building_of site)) entry part
 rule_follows Dismantle entry part = follows_parties Dismantle dismantled_by dismantle_follows entry part
 rule_follows Suicide entry part = end_follows (acting Suicide entry part) part
+rule_follows ClaimController entry part = follows_parties ClaimController (claimed_by entry.player) (λ creep controller now. follows_object (claimed_for entry.player controller) now) entry part
+rule_follows Upgrade entry part = follows_parties Upgrade upgraded_by upgrade_follows entry part
+rule_follows Reserve entry part = follows_parties Reserve (reserved_by entry.player) (λ creep controller now. follows_object (record controller { other = entry.player; other_ticks = ticks_reserved creep controller }) now) entry part
+rule_follows AttackController entry part = follows_parties AttackController hurt_by (λ creep controller now. follows_object (controller_hurt creep controller) now) entry part
 rule_follows _ entry part = follows_self part
 
 -- ---- movement
@@ -188,7 +198,7 @@ book_orderly = record {
             (
               rests,
               (
-                rests,
+                (λ sums. follows_each (λ object. Some (controller_aged_as object.kind object))),
                 (
                   (λ sums part. follows_each (λ object. renewed_as object.kind (source_capacity (is_taken (controller_of part))) object) part),
                   ((λ sums. buildings_follow), ((λ sums. follows_each (λ object. decayed_as object.kind object)), tt)),

@@ -8,7 +8,7 @@ use Rattle.game_tables.specs.Actions.{is_target, max_range, needed_part}
 use Rattle.game_tables.specs.Bodies.{live_count}
 use Rattle.game_tables.specs.Kinds.{is_creep, obstructs}
 use Rattle.game_tables.specs.declared.action.Action.{Action}
-use Rattle.game_tables.specs.declared.action.Action.TheVariants.{DropLoad, Transfer, Withdraw, Pickup, Heal, RangedHeal, Harvest, Repair, Build, Move}
+use Rattle.game_tables.specs.declared.action.Action.TheVariants.{DropLoad, Transfer, Withdraw, Pickup, Heal, RangedHeal, Harvest, Repair, Build, ClaimController, Upgrade, Reserve, AttackController, Move}
 use Rattle.game_tables.specs.declared.code.Code.{Code}
 use Rattle.game_tables.specs.declared.code.Code.TheVariants.{Done, NotOwner, NotFound, NotEnoughResources, InvalidTarget, Full, NotInRange, InvalidArgs, Tired, NoBodypart}
 use Rattle.game_tables.specs.declared.kind.Kind.{Kind}
@@ -147,6 +147,11 @@ would_obstruct (Some kind) = obstructs kind
 abbrev pub is_in_the_way : List Object → Object → Bool
 is_in_the_way around site = would_obstruct (building_of site) && is_some (first_on site.x site.y Creep around)
 
+-- Nobody owns the controller, and no other player reserves it.
+abbrev pub is_free_for : ℕ → Object → Bool
+is_free_for player controller =
+    (controller.owner == 0) && ((controller.other == 0) || (controller.other == player))
+
 abbrev pub further_checks : Action → Scene → List Check
 further_checks DropLoad scene = holds_least scene.least scene.actor ∷ []
 further_checks Transfer scene =
@@ -162,6 +167,14 @@ further_checks Build scene =
     (holds_of scene.target (λ site. site.owner == scene.player), NotOwner)
     ∷ holds_least 1 scene.actor
     ∷ (holds_of scene.target (λ site. not (is_in_the_way scene.around site)), InvalidTarget) ∷ []
+further_checks ClaimController scene =
+    (holds_of scene.target (is_free_for scene.player), InvalidTarget) ∷ []
+further_checks Upgrade scene =
+    (holds_of scene.target (λ controller. controller.owner == scene.player), NotOwner)
+    ∷ holds_least 1 scene.actor ∷ []
+further_checks Reserve scene = (holds_of scene.target (is_free_for scene.player), InvalidTarget) ∷ []
+further_checks AttackController scene =
+    (holds_of scene.target (λ controller. is_anothers scene.player (Some controller)), InvalidTarget) ∷ []
 further_checks Move scene = (holds_of scene.actor (λ creep. creep.extra == 0), Tired) ∷ []
 further_checks _ scene = []
 

@@ -8,6 +8,7 @@ pub mod Drops
 pub mod Loads
 pub mod Work
 pub mod Fights
+pub mod Claims
 pub mod Intents
 pub mod Upkeep
 pub mod Tick
@@ -21,3 +22,4 @@ pub mod Crossings
 pub mod Examples
 pub mod FrameExamples
 pub mod FightExamples
+pub mod ClaimExamples

@@ -13,6 +13,7 @@ use Rattle.world_rules.specs.RoomParts.{RoomPart, controller_of}
 use Rattle.world_rules.specs.RuleBook.{Step, Sums}
 use Rattle.world_rules.specs.Changes.{with_object, without}
 use Rattle.world_rules.specs.Drops.{dropped_by, fallen}
+use Rattle.world_rules.specs.Claims.{controllers_aged}
 use Rattle.world_rules.specs.Steps.{over_objects, each}
 
 -- ---- hits
@@ -182,7 +183,7 @@ first_steps = struck ∷ (λ sums. unloaded) ∷ (λ sums. aged) ∷ (λ sums. r
 abbrev pub middle_steps : List Step
 middle_steps =
     unchanged  -- spawns make creeps
-    ∷ unchanged  -- controllers lose time
+    ∷ (λ sums. controllers_aged)
     ∷ []
 
 -- the steps from the renewal of sources on

@@ -2,12 +2,14 @@
 // the crates above cite.
 #![tactic(auto)]
 
+mod claims;
 mod examples;
 mod fights;
 mod framed;
 mod rule;
 mod sound;
 
+pub use claims::{aging_examples, claim_examples, upgrade_examples};
 pub use examples::{bucket_examples, drop_examples, entry_examples, upkeep_examples};
 pub use fights::{fight_examples, hits_examples};
 pub use framed::{

@@ -9,8 +9,6 @@ mod objects;
 mod players;
 mod read;
 mod rooms;
-#[cfg(test)]
-mod tests;
 mod text;
 mod tokens;
 mod values;

@@ -1,4 +1,4 @@
-use Rattle.room_rules.proofs.Rules.{begun_leads, first_lead, later_keep, rule_keeps}
+use Rattle.room_rules.proofs.Rules.{begun_leads, first_lead, later_lead, rule_keeps}
 use Rattle.room_rules.proofs.Moved.{keeps_moved}
 use Rattle.room_rules.proofs.Steps.{keeps_rest}
 use Rattle.room_rules.proofs.rules_keep_rooms.Goals as goal
@@ -9,6 +9,6 @@ returns c = record {
   entries = λ entry players part k. rule_keeps entry.action entry players part k;
   movement = λ list once players part k. keeps_moved players list part once k;
   first = first_lead;
-  later = later_keep;
+  later = later_lead;
   rest = keeps_rest;
 }

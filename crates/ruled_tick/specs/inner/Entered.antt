@@ -1,8 +1,9 @@
 -- What the entries of a tick make of what is stored.
-use Rattle.std.specs.Prelude.{◌≡◌, ℕ, ◌+◌, ◌*◌, ◌^◌, ◌<◌, ◌≤◌, ◌==◌, max, List, [], ◌∷◌, ◌++◌, length, map, Option, Some, None, option_map, slice_get, slice_set, slice_index}
+use Rattle.std.specs.Prelude.{◌≡◌, ◌≢◌, ℕ, ◌+◌, ◌-◌, ◌*◌, ◌^◌, ◌<◌, ◌≤◌, ◌==◌, min, max, List, [], ◌∷◌, ◌++◌, length, map, Option, Some, None, option_map, slice_get, slice_set, slice_index}
 use Rattle.std.specs.List.{count_by}
 use Rattle.std.specs.Option.{option_to_list}
 use Rattle.room_terrain.specs.declared.terrain.Ground.{Ground}
+use Rattle.object_store.specs.declared.account.Account.{Account}
 use Rattle.object_store.specs.declared.world.Room.{Room}
 use Rattle.object_store.specs.Tables.{Table, IsRising, AreTalliesOf}
 use Rattle.object_store.specs.Tallies.{no_tallies}
@@ -15,9 +16,9 @@ use Rattle.room_rules.specs.Followed.{FollowRooms}
 use Rattle.room_rules.specs.RoomRules.{is_player}
 use Rattle.room_rules.specs.Within.{within}
 use Rattle.world_rules.specs.World.{World, world_of}
-use Rattle.world_rules.specs.RoomParts.{table_part, in_room, part_at}
+use Rattle.world_rules.specs.RoomParts.{RoomPart, table_part, in_room, part_at}
 use Rattle.world_rules.specs.RuleBook.{Harm}
-use Rattle.world_rules.specs.Tick.{book, harms_in, sums_of}
+use Rattle.world_rules.specs.Tick.{Gain, book, harms_in, points_of, sums_of}
 use Rattle.world_rules.specs.Sound.{serials_bound}
 
 -- ---- worlds
@@ -47,6 +48,43 @@ harms_entered world (entry ∷ later) =
 -- what they do to the objects of a room
 abbrev pub harms_entered_in : ℕ → World → List (Option ℕ × Intent) → List Harm
 harms_entered_in room world list = map (λ harm. harm.1) (harms_in room (harms_entered world list))
+
+-- ---- gains
+
+-- what the rule of an entry in a room gives its player, if it is in one, read in a world
+abbrev pub gain_entered : Intent → World → Option ℕ → List Gain
+gain_entered intent world None = []
+gain_entered intent world (Some room) =
+    let gain : RoomPart → Gain = λ part. record {
+      room = room;
+      player = intent.player;
+      points = (book.effect intent part).points;
+    } in
+    option_to_list (option_map gain (part_at world room))
+
+-- what the rules of entries with their rooms give, one after the other
+abbrev pub gains_entered : World → List (Option ℕ × Intent) → List Gain
+gains_entered world [] = []
+gains_entered world (entry ∷ later) =
+    gain_entered entry.1 world entry.0 ++ gains_entered (entered_in entry.1 world entry.0) later
+
+-- the points that they give each player
+abbrev pub points_entered : World → List (Option ℕ × Intent) → ℕ → ℕ
+points_entered world list player = points_of player (gains_entered world list)
+
+-- Beside each account stands what its player gained, as far as 64 bits hold it.
+abbrev pub AreGains : (ℕ → ℕ) → List Account → List ℕ → Type 0
+AreGains gain accounts gains = gains ≡ map (λ account. min (2 ^ 64 - 1) (gain account.player)) accounts
+
+-- The account of a player stands at this place.
+pub record IsPlaceOf (accounts : List Account) (player place : ℕ) : Type 0 where
+  pub inside : place < length accounts
+  pub own : (account : Account) → slice_get accounts place ≡ Some account → account.player ≡ player
+
+-- No account is a player's.
+abbrev pub HasNoAccount : List Account → ℕ → Type 0
+HasNoAccount accounts player =
+    (place : ℕ) (account : Account) → slice_get accounts place ≡ Some account → account.player ≢ player
 
 -- ---- memory
 
@@ -79,12 +117,17 @@ pub record IsRuled (entry : Intent) (old new : Table) : Type 0 where
   pub keeps : Keeps old new
   pub rising : IsRising new.objects
 
--- An entry was ruled in the room of this index, if there is one.
-abbrev pub IsRuledIn : Option Room → ℕ → Intent → List Room → List Room → Type 0
-IsRuledIn None index entry old new = new ≡ old
-IsRuledIn (Some room) index entry old new =
+-- By an entry that is ruled on this table, its player gains so many points.
+abbrev pub IsGained : Intent → Table → ℕ → Type 0
+IsGained entry table points =
+    (grounds : List Ground) → points ≡ (book.effect entry (table_part grounds table)).points
+
+-- An entry was ruled in the room of this index, if there is one, and gained so many points.
+abbrev pub IsRuledIn : Option Room → ℕ → Intent → ℕ → List Room → List Room → Type 0
+IsRuledIn None index entry points old new = (new ≡ old) × (points ≡ 0)
+IsRuledIn (Some room) index entry points old new =
     (table : Table) × (new ≡ slice_set old index (record room { table = table }))
-    × IsRuled entry room.table table
+    × IsRuled entry room.table table × IsGained entry room.table points
 
 -- After so many entries, there are serials left, and memory for so many that are still to come.
 pub record HasRoomFor (done later : ℕ) (table : Table) : Type 0 where

@@ -18,7 +18,7 @@ use Rattle.world_rules.specs.RoomTick.{room_after_steps}
 use Rattle.world_rules.specs.Moves.{moved}
 use Rattle.world_rules.specs.Crossings.{crossed, crossed_over}
 use Rattle.world_rules.specs.Upkeep.{steps}
-use Rattle.world_rules.specs.Tick.{account_after, book, inner, run_of}
+use Rattle.world_rules.specs.Tick.{account_after, account_raised, book, inner, run_of}
 use Rattle.world_rules.specs.Sound.{IsSound}
 use Rattle.room_rules.specs.Calls.{AreSumsOf, IsMovable}
 use Rattle.room_rules.specs.Followed.{part_stored}
@@ -78,9 +78,13 @@ abbrev pub AreTicked : List Entry → List Room → List Room → Type 0
 AreTicked entries old new =
     (index : ℕ) → IsTickedAt (moves_in index entries) (slice_get old index) (slice_get new index)
 
--- an account after these runs, in which no player gains points
-abbrev pub accounted : List PlayerRun → Account → Account
-accounted runs account = account_after 0 account (run_of account.player runs)
+-- an account with the points that its player gained
+abbrev pub raised_by : (ℕ → ℕ) → Account → Account
+raised_by gain account = account_raised (gain account.player) account
+
+-- an account after these runs, with the points that its player gained
+abbrev pub accounted : (ℕ → ℕ) → List PlayerRun → Account → Account
+accounted gain runs account = account_after (gain account.player) account (run_of account.player runs)
 
 -- Each table's index is its room's place.
 abbrev pub AreInPlace : List Room → Type 0

@@ -4,15 +4,17 @@ use Rattle.std.specs.List.{AllByRecursion}
 use Rattle.object_store.specs.declared.object.Object.{Object}
 use Rattle.object_store.specs.Tables.{Table, IsOnTile}
 use Rattle.object_store.specs.Tallies.{Tallies}
+use Rattle.world_rules.specs.Claims.{controller_aged_as}
 use Rattle.world_rules.specs.Upkeep.{recovered_as, renewed_as, decayed_as}
 use Rattle.upkeep_rules.specs.declared.pass.Step.{Step}
-use Rattle.upkeep_rules.specs.declared.pass.Step.TheVariants.{Recover, Renew, Decay}
+use Rattle.upkeep_rules.specs.declared.pass.Step.TheVariants.{Recover, Control, Renew, Decay}
 use Rattle.upkeep_rules.specs.declared.pass.Upkept.{Upkept}
 use Rattle.upkeep_rules.specs.declared.pass.Upkept.TheVariants.{Stays, Changes, Goes}
 
 -- what a step leaves of an object
 abbrev pub left_by : Step → Object → Option Object
 left_by Recover object = Some (recovered_as object.kind object)
+left_by Control object = Some (controller_aged_as object.kind object)
 left_by (Renew capacity) object = renewed_as object.kind capacity object
 left_by Decay object = decayed_as object.kind object
 

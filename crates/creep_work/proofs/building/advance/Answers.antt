@@ -6,7 +6,7 @@ use Rattle.world_rules.specs.RoomParts.{table_part}
 use Rattle.world_rules.proofs.TableParts.{tiles_filter, tiles_new}
 use Rattle.room_rules.specs.Calls.{Keeps}
 use Rattle.room_rules.proofs.Calls.{ready_set, ready_without, set_in, tallies_renewed}
-use Rattle.creep_work.proofs.Parties.{keeps_ready}
+use Rattle.room_rules.proofs.Parties.{keeps_ready}
 use Rattle.creep_work.proofs.Sites.{advanced_missing, advanced_whole}
 use Rattle.creep_work.proofs.building.advance.Goals as goal
 

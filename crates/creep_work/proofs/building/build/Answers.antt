@@ -10,7 +10,7 @@ use Rattle.world_rules.specs.Work.{advanced, built_as, built_by}
 use Rattle.world_rules.proofs.TableParts.{part_replaced}
 use Rattle.room_rules.specs.Calls.{IsReady}
 use Rattle.room_rules.proofs.Calls.{ready_set}
-use Rattle.creep_work.proofs.Parties.{are_there, has_replaced, ruled_by}
+use Rattle.room_rules.proofs.Parties.{are_there, has_replaced, ruled_by}
 use Rattle.creep_work.proofs.building.build.Goals as goal
 
 pub set-requires-clause-tile : goal.set-requires-clause-tile

@@ -13,7 +13,7 @@ use Rattle.object_store.specs.Tallies.{damaged, tally_of}
 use Rattle.room_rules.specs.Calls.{IsReady, tally_with}
 use Rattle.room_rules.proofs.Calls.{ready_set, set_in}
 use Rattle.room_rules.proofs.Harmed.{blow_at, harmed_between, shown_within, unharmed, with_tallies}
-use Rattle.creep_work.proofs.Parties.{are_there, ruled_by, target_under}
+use Rattle.room_rules.proofs.Parties.{are_there, ruled_by, target_under}
 use Rattle.creep_work.proofs.dismantling.dismantle.Goals as goal
 
 pub returns-in_default-clause-harm : goal.returns-in_default-clause-harm

@@ -10,7 +10,7 @@ use Rattle.world_rules.specs.Loads.{with_less, with_more}
 use Rattle.world_rules.specs.Work.{harvested_by, live_work}
 use Rattle.room_rules.specs.Calls.{IsReady}
 use Rattle.room_rules.proofs.Calls.{set_in}
-use Rattle.creep_work.proofs.Parties.{are_there, has_replaced, part_both, ready_both, ruled_by}
+use Rattle.room_rules.proofs.Parties.{are_there, has_replaced, part_both, ready_both, ruled_by}
 use Rattle.creep_work.proofs.harvesting.harvest.Goals as goal
 
 pub set-requires-clause-tile : goal.set-requires-clause-tile

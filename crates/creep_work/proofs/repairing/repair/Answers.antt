@@ -8,7 +8,7 @@ use Rattle.world_rules.specs.Loads.{with_less}
 use Rattle.world_rules.specs.Work.{hits_gained, repair_cost, repaired_by}
 use Rattle.room_rules.specs.Calls.{Keeps}
 use Rattle.room_rules.proofs.Calls.{set_in}
-use Rattle.creep_work.proofs.Parties.{are_there, both_in, has_replaced, keeps_ready, part_both, ready_both, ruled_by}
+use Rattle.room_rules.proofs.Parties.{are_there, both_in, has_replaced, keeps_ready, part_both, ready_both, ruled_by}
 use Rattle.creep_work.proofs.repairing.repair.Goals as goal
 
 pub set-requires-clause-tile : goal.set-requires-clause-tile

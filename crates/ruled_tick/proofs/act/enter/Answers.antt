@@ -17,11 +17,11 @@ returns-then-index-rooms c =
     let entry = c.args.entry.now in
     let room = c.index-rooms-index.result in
     let new = c.rule_in.new.room in
-    subst (λ (found : Option Room). IsRuledIn found entry.room entry.intent rooms (set rooms entry.room new)) (sym (slice_get-get_or rooms entry.room room c.if-index-rooms.true))
-    (new.table, ap (set rooms entry.room) c.rule_in.ensures.rest, c.rule_in.ensures.ruled)
+    subst (λ (found : Option Room). IsRuledIn found entry.room entry.intent c.rule_in.result rooms (set rooms entry.room new)) (sym (slice_get-get_or rooms entry.room room c.if-index-rooms.true))
+    (new.table, ap (set rooms entry.room) c.rule_in.ensures.rest, c.rule_in.ensures.ruled, c.rule_in.ensures.points)
 
 pub returns-else-index-rooms : goal.returns-else-index-rooms
 returns-else-index-rooms c =
     let rooms = c.args.rooms.now in
     let entry = c.args.entry.now in
-    subst (λ (found : Option Room). IsRuledIn found entry.room entry.intent rooms rooms) (sym (slice_get_past rooms entry.room c.if-index-rooms.false)) refl
+    subst (λ (found : Option Room). IsRuledIn found entry.room entry.intent 0 rooms rooms) (sym (slice_get_past rooms entry.room c.if-index-rooms.false)) (refl, refl)

@@ -1,26 +1,10 @@
--- What each rule makes of the room's part: those that only do something to objects leave it.
-use Rattle.std.proofs.Common.{ap, sym, ◌∙◌}
-use Rattle.game_tables.specs.declared.action.Action.{Action}
+use Rattle.std.proofs.Common.{sym}
 use Rattle.world_rules.specs.RoomParts.{table_part}
-use Rattle.world_rules.specs.Tick.{rule_of}
+use Rattle.ruled_tick.proofs.Gaining.{no_points}
 use Rattle.ruled_tick.proofs.act.rule.Goals as goal
 
-pub returns-in-Heal-clause-rule : goal.returns-in-Heal-clause-rule
-returns-in-Heal-clause-rule c = λ grounds.
-    c.heal.ensures.rule grounds ∙ sym (ap (λ (action : Action). (rule_of action c.args.intent.now (table_part grounds c.args.table.now)).part) c.in-Heal.is)
+pub rule_plain-requires-clause-plain : goal.rule_plain-requires-clause-plain
+rule_plain-requires-clause-plain c = c.in_default.not-Upgrade
 
-pub returns-in-RangedHeal-clause-rule : goal.returns-in-RangedHeal-clause-rule
-returns-in-RangedHeal-clause-rule c = λ grounds.
-    c.ranged_heal.ensures.rule grounds ∙ sym (ap (λ (action : Action). (rule_of action c.args.intent.now (table_part grounds c.args.table.now)).part) c.in-RangedHeal.is)
-
-pub returns-in-Attack-clause-rule : goal.returns-in-Attack-clause-rule
-returns-in-Attack-clause-rule c = λ grounds.
-    c.attack.ensures.rule grounds ∙ sym (ap (λ (action : Action). (rule_of action c.args.intent.now (table_part grounds c.args.table.now)).part) c.in-Attack.is)
-
-pub returns-in-RangedMassAttack-clause-rule : goal.returns-in-RangedMassAttack-clause-rule
-returns-in-RangedMassAttack-clause-rule c = λ grounds.
-    c.mass_attack.ensures.rule grounds ∙ sym (ap (λ (action : Action). (rule_of action c.args.intent.now (table_part grounds c.args.table.now)).part) c.in-RangedMassAttack.is)
-
-pub returns-in-RangedAttack-clause-rule : goal.returns-in-RangedAttack-clause-rule
-returns-in-RangedAttack-clause-rule c = λ grounds.
-    c.ranged_attack.ensures.rule grounds ∙ sym (ap (λ (action : Action). (rule_of action c.args.intent.now (table_part grounds c.args.table.now)).part) c.in-RangedAttack.is)
+pub returns-in_default-clause-points : goal.returns-in_default-clause-points
+returns-in_default-clause-points c = λ grounds. sym (no_points c.args.intent.now.action c.in_default.not-Upgrade c.args.intent.now (table_part grounds c.args.table.now))

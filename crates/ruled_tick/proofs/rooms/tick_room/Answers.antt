@@ -2,7 +2,8 @@ use Rattle.std.proofs.Common.{◌+◌, ◌*◌, ap, subst, ◌∙◌, refl}
 use Rattle.object_store.specs.Tables.{IsRising}
 use Rattle.exit_crossing.specs.Crossing.{most_arrivals}
 use Rattle.ruled_tick.specs.inner.Ticked.{HasMemory}
-use Rattle.ruled_tick.proofs.Stepped.{HasMoved, ready_first, ready_last, ticked_room}
+use Rattle.ruled_tick.proofs.Stepped.{HasMoved, aged_keeps, aged_rule, ready_first, ready_last, ticked_room}
+use Rattle.upkeep_rules.specs.Falling.{may_leave}
 use Rattle.ruled_tick.proofs.rooms.tick_room.Goals as goal
 
 pub upkeep_first-requires : goal.upkeep_first-requires
@@ -27,7 +28,10 @@ upkeep_last-requires c =
     let room = c.args.room.now in
     let one = c.settle_moves.new.room in
     let two = c.take_memory.new.table in
-    let three = c.upkeep_first.new.room in
+    let young = c.upkeep_first.new.room in
+    let three = c.age_controllers.new.room in
+    let rule = aged_rule room.terrain two young three (c.upkeep_first.ensures.rule room.terrain) (c.age_controllers.ensures.rule room.terrain) in
+    let keeps = aged_keeps (may_leave two.objects) two young three c.upkeep_first.ensures.keeps c.age_controllers.ensures.keeps in
     let four = c.take_memory-2.new.table in
     let memory = subst (λ n. HasMemory n one two) (ap (λ n. 2 * n) (c.from-most_left.ensures ∙ c.len.ensures)) c.in_ok-take_memory.ensures in
     let more = subst (λ n. HasMemory n three four) (ap (λ n. n + most_arrivals) (c.from-most_made.ensures ∙ c.len-2.ensures)) c.in_ok-take_memory-2.ensures in
@@ -40,14 +44,17 @@ upkeep_last-requires c =
       tiles = c.settle_moves.ensures.tiles;
       memory = memory;
     } in
-    record { ready = ready_last c.args.moves.now room.terrain room.table one two has three four (c.upkeep_first.ensures.rule room.terrain) c.upkeep_first.ensures.keeps more }
+    record { ready = ready_last c.args.moves.now room.terrain room.table one two has three four rule keeps more }
 
 pub returns : goal.returns
 returns c =
     let room = c.args.room.now in
     let one = c.settle_moves.new.room in
     let two = c.take_memory.new.table in
-    let three = c.upkeep_first.new.room in
+    let young = c.upkeep_first.new.room in
+    let three = c.age_controllers.new.room in
+    let rule = aged_rule room.terrain two young three (c.upkeep_first.ensures.rule room.terrain) (c.age_controllers.ensures.rule room.terrain) in
+    let keeps = aged_keeps (may_leave two.objects) two young three c.upkeep_first.ensures.keeps c.age_controllers.ensures.keeps in
     let four = c.take_memory-2.new.table in
     let memory = subst (λ n. HasMemory n one two) (ap (λ n. 2 * n) (c.from-most_left.ensures ∙ c.len.ensures)) c.in_ok-take_memory.ensures in
     let more = subst (λ n. HasMemory n three four) (ap (λ n. n + most_arrivals) (c.from-most_made.ensures ∙ c.len-2.ensures)) c.in_ok-take_memory-2.ensures in
@@ -61,5 +68,5 @@ returns c =
       memory = memory;
     } in
     ticked_room c.args.moves.now room (record room { table = c.upkeep_last.new.room }) one two three four refl refl has
-    (c.upkeep_first.ensures.rule room.terrain) c.upkeep_first.ensures.keeps more
+    rule keeps more
     c.upkeep_last.ensures.rule c.upkeep_last.ensures.keeps (subst IsRising c.objects-rising.ensures.all c.objects-rising.ensures.rising)

@@ -1,9 +1,13 @@
-use Rattle.ruled_tick.proofs.Rising.{comes_last}
+use Rattle.std.proofs.Common.{ℕ}
+use Rattle.world_rules.specs.Tick.{run_of}
 use Rattle.ruled_tick.specs.inner.Ticked.{accounted}
-use Rattle.ruled_tick.proofs.Follows.{accounted-player, changed_last}
+use Rattle.ruled_tick.proofs.Rising.{comes_last}
+use Rattle.ruled_tick.proofs.Follows.{accounted-player, after-player, changed_last}
 use Rattle.ruled_tick.proofs.tick.push_accounted.Goals as goal
 
 pub push_account-requires-clause-rising : goal.push_account-requires-clause-rising
 push_account-requires-clause-rising c =
     let runs = c.args.runs.now in
-    rw (c.in_ok-after_runs.ensures, c.loop-account.invariant, accounted-player runs c.account-item.result) (changed_last (accounted runs) (accounted-player runs) _ _ (comes_last _ c.loop-account.account-index _ c.requires.rising c.loop-account-test.true c.account-item.is))
+    let gain : ℕ → ℕ = c.requires.gains.0 in
+    let account = c.index-accounts-index.result in
+    rw (c.in_ok-after_runs.ensures, c.loop-index.invariant gain c.requires.gains.1, after-player _ account (run_of account.player runs)) (changed_last (accounted gain runs) (accounted-player gain runs) _ _ (comes_last _ c.loop-index.index _ c.requires.rising c.loop-index-test.true c.index-accounts-index.is))

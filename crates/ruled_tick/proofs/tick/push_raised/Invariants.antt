@@ -1,6 +1,8 @@
-use Rattle.std.proofs.Common.{◌≡◌, take, map}
-use Rattle.world_rules.specs.Tick.{account_raised}
+use Rattle.std.proofs.Common.{◌≡◌, ℕ, take, map}
+use Rattle.ruled_tick.specs.inner.Entered.{AreGains}
+use Rattle.ruled_tick.specs.inner.Ticked.{raised_by}
 use Rattle.ruled_tick.proofs.tick.push_raised.Given as goal
 
-abbrev pub invariant-loop-account : goal.invariant-loop-account
-invariant-loop-account l = l.next ≡ record l.fn.next { accounts = map (account_raised 0) (take l.account-index l.accounts) }
+abbrev pub invariant-loop-index : goal.invariant-loop-index
+invariant-loop-index l =
+    (gain : ℕ → ℕ) → AreGains gain l.accounts l.gains → l.next ≡ record l.fn.next { accounts = map (raised_by gain) (take l.index l.accounts) }

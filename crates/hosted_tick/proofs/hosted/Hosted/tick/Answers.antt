@@ -33,5 +33,7 @@ returns-clause-hosted c =
     let runs = c.deref-2.result.now in
     let hosted = subst (λ (h : Held). IsHosted h.world) (sym c.self.view_is) c.requires.hosted in
     let short = subst (AllByRecursion (λ (run : PlayerRun). length run.memory ≤ most_memory)) (sym c.deref-2.ensures.value) c.in_ok-runs.ensures.short in
+    let lent = subst (λ (entries : List Entry). AreKept (world_of world) (intents_of c.in_ok-runs.field-0.runs.items) entries) (sym c.deref.ensures.value) c.in_ok-runs.ensures.kept in
+    let kept = subst (λ (r : List PlayerRun). AreKept (world_of world) (intents_of r) c.deref.result.now) (sym c.deref-2.ensures.value) lent in
     let ensured = c.in_ok-after.ensures in
-    hosted_after world c.in_ok-after.after (gained book (world_of world) (intents_of runs)) runs hosted short ensured.sound ensured.rooms ensured.accounts
+    hosted_after world c.in_ok-after.after (gained book (world_of world) (intents_of runs)) runs hosted short ensured.sound ensured.rooms (ensured.accounts (intents_of runs) kept)

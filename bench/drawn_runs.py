@@ -1,0 +1,33 @@
+"""Runs of calls that are drawn tick by tick for the world as it then stands: the program has to make of them what bench/game.py does."""
+
+import compared_runs
+from compared_runs import world_faults
+from scripts import Table
+from worlds import Step, Upload, acted, full, ticked
+
+
+def count_into(done, counts):
+    for key, count in counts.items():
+        done[key] = done.get(key, 0) + count
+
+
+def play_drawn(checks, name, first, ticks, players, calls, changes):
+    """A run of so many ticks. `calls` draws the calls of a player for a world, and `changes` counts what became of a world in a tick, by the
+    worlds before and after it and the runs. Answers how often each action did something, and nothing, and how often each change came."""
+    it, uploads, steps, done = full(first), [], [], {}
+    for tick in range(ticks):
+        tables = [(number, Table(calls(it, number))) for number in players]
+        uploads += [Upload(tick, number, table) for number, table in tables]
+        runs = [table.run(it, number) for number, table in tables]
+        count_into(done, acted(full(it), runs))
+        before, it = it, ticked(it, runs)
+        count_into(done, changes(before, it, runs))
+        steps.append(Step([(number, "accepted", table.content) for number, table in tables], runs, it))
+    checks.note(f"the worlds of {name} keep the rules", world_faults(first, steps))
+    compared_runs.play(checks, name, first, ticks, uploads, steps=steps)
+    return done
+
+
+def note_counts(checks, name, done, least):
+    """Notes whether each of these came often enough."""
+    checks.note(name, [f"{what}: {done.get(what, 0)} times, and not {most}" for what, most in least.items() if done.get(what, 0) < most])

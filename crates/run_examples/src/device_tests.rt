@@ -1,0 +1,250 @@
+// Runs and checks over devices in memory, of which a call fails.
+ghost use Rattle.std.specs.Prelude.{◌≡◌, ◌<◌, ◌^◌, length, IfOk};
+
+use crate::worlds::room;
+use std::alloc::{AllocError, Global};
+use std::test::Fail;
+use world_io::{Disk, Failed, MemoryDisk, MemorySink, MemorySource};
+use world_run::{Refusal, Status, run_alone, tool_main};
+
+// The shortest module.
+const OPENING: &[u8] = b"\x00asm\x01\x00\x00\x00";
+
+const START: &[u8] = b"start tick 0 rooms 1 objects 2 players 0\n";
+
+const TICK_1: &[u8] =
+    b"start tick 0 rooms 1 objects 2 players 0\ntick 1 objects 2 intents 0 energy 2499\n";
+
+// The inputs of a run, and the numbers of the calls that fail.
+#[derive(Drop)]
+struct Inputs {
+    world: Vec<u8>,
+    uploads: Vec<u8>,
+    disk: Vec<u8>,
+    reads: Vec<u64>,
+    upload_reads: Vec<u64>,
+    writes: Vec<u64>,
+    calls: Vec<u64>,
+}
+
+// How a run ended, with what it printed and left on the disk.
+#[derive(Drop)]
+struct Ended {
+    status: Status,
+    printed: Vec<u8>,
+    journal: Vec<u8>,
+}
+
+// A room with a source that is renewed at once and a pile of 1,001.
+fn small_world(alloc: Global) -> Result<Vec<u8>, AllocError> {
+    let room = room(
+        alloc,
+        "E0S0",
+        3,
+        "{\"id\":1,\"kind\":\"source\",\"x\":10,\"y\":10,\"timer\":1},{\"id\":2,\"kind\":\"pile\",\"x\":20,\"y\":20,\"energy\":1001}",
+    )?;
+    let text = format!(in alloc; "{{\"version\":1,\"tick\":0,\"rooms\":[{room}]}}")?;
+    Ok(text.into_bytes())
+}
+
+// The small world, no uploads, an empty disk, and no call that fails.
+fn small_inputs(alloc: Global) -> Result<Inputs, AllocError>
+    ensures { IfOk result (λ inputs. length inputs.disk.items ≡ 0) }
+{
+    Ok(Inputs {
+        world: small_world(alloc)?,
+        uploads: Vec::new(alloc),
+        disk: Vec::new(alloc),
+        reads: Vec::new(alloc),
+        upload_reads: Vec::new(alloc),
+        writes: Vec::new(alloc),
+        calls: Vec::new(alloc),
+    })
+}
+
+fn words(alloc: Global, ticks: &str) -> Result<Vec<String>, AllocError> {
+    let mut words = Vec::new(alloc);
+    for word in ["run", "w.json", "u.bin", "j.bin", "--ticks", ticks] {
+        words.push(String::from_str(alloc, word)?)?;
+    }
+    Ok(words)
+}
+
+fn run(alloc: Global, inputs: Inputs, ticks: &str) -> Result<Ended, AllocError>
+    requires { length inputs.disk.items < 2 ^ 62 }
+{
+    let Inputs {
+        world,
+        uploads,
+        disk,
+        reads,
+        upload_reads,
+        writes,
+        calls,
+    } = inputs;
+    let mut world = MemorySource::new(world, reads);
+    let mut uploads = MemorySource::new(uploads, upload_reads);
+    let mut out = MemorySink::new(alloc, writes);
+    let mut disk = MemoryDisk::new(disk, calls, None);
+    let words = words(alloc, ticks)?;
+    let status = run_alone(alloc, &words, &mut world, &mut uploads, &mut out, &mut disk);
+    Ok(Ended {
+        status,
+        printed: Vec::from_slice(alloc, out.written())?,
+        journal: Vec::from_slice(alloc, disk.bytes())?,
+    })
+}
+
+#[test]
+fn a_failing_first_call_is_named(rt: HostRuntime) -> Result<(), Fail> {
+    let alloc = rt.alloc();
+    let reads = Inputs {
+        reads: vec![in alloc; 0u64]?,
+        ..small_inputs(alloc)?
+    };
+    let ended = run(alloc, reads, "1")?;
+    assert_eq!(rt; ended.status, Status::ReadFault);
+    assert!(rt; ended.journal.is_empty());
+    let upload_reads = Inputs {
+        upload_reads: vec![in alloc; 0u64]?,
+        ..small_inputs(alloc)?
+    };
+    let ended = run(alloc, upload_reads, "1")?;
+    assert_eq!(rt; ended.status, Status::ReadFault);
+    assert!(rt; ended.journal.is_empty());
+    let writes = Inputs {
+        writes: vec![in alloc; 0u64]?,
+        ..small_inputs(alloc)?
+    };
+    let ended = run(alloc, writes, "1")?;
+    assert_eq!(rt; ended.status, Status::WriteFault);
+    assert!(rt; ended.printed.is_empty());
+    assert!(rt; !ended.journal.is_empty());
+    let calls = Inputs {
+        calls: vec![in alloc; 0u64]?,
+        ..small_inputs(alloc)?
+    };
+    let ended = run(alloc, calls, "1")?;
+    assert_eq!(rt; ended.status, Status::DiskFault);
+    assert!(rt; ended.printed.is_empty());
+    Ok(())
+}
+
+#[test]
+fn a_failing_later_call_leaves_the_ticks_before(rt: HostRuntime) -> Result<(), Fail> {
+    let alloc = rt.alloc();
+    let whole = run(alloc, small_inputs(alloc)?, "1")?;
+    let writes = Inputs {
+        writes: vec![in alloc; 1u64]?,
+        ..small_inputs(alloc)?
+    };
+    let ended = run(alloc, writes, "2")?;
+    assert_eq!(rt; ended.status, Status::WriteFault);
+    assert_eq!(rt; ended.printed.as_slice(), START);
+    assert_eq!(rt; ended.journal.as_slice(), whole.journal.as_slice());
+    // The calls of the disk are its length, then a write and a sync for each world.
+    for (call, printed) in [
+        (1_u64, 0_usize),
+        (2, 0),
+        (3, START.len()),
+        (4, START.len()),
+        (5, TICK_1.len()),
+    ] {
+        let calls = Inputs {
+            calls: vec![in alloc; call]?,
+            ..small_inputs(alloc)?
+        };
+        let ended = run(alloc, calls, "2")?;
+        assert_eq!(rt; ended.status, Status::DiskFault);
+        assert_eq!(rt; ended.printed.len(), printed);
+    }
+    Ok(())
+}
+
+// Checks a module of 8 bytes. The reads and writes of these numbers fail. Answers whether anything was printed, too.
+fn check(alloc: Global, reads: Vec<u64>, writes: Vec<u64>) -> Result<(Status, bool), AllocError> {
+    let mut words = Vec::new(alloc);
+    for word in ["check", "m.wasm"] {
+        words.push(String::from_str(alloc, word)?)?;
+    }
+    let mut input = MemorySource::new(OPENING.to_vec(alloc)?, reads);
+    let mut out = MemorySink::new(alloc, writes);
+    let mut disk = MemoryDisk::new(Vec::new(alloc), Vec::new(alloc), None);
+    let status = tool_main(alloc, &words, &mut input, &mut out, &mut disk);
+    Ok((status, !out.written().is_empty()))
+}
+
+#[test]
+fn a_failing_call_of_a_check_is_named(rt: HostRuntime) -> Result<(), Fail> {
+    let alloc = rt.alloc();
+    // The second read finds the end.
+    for call in [0_u64, 1] {
+        let ended = check(alloc, vec![in alloc; call]?, Vec::new(alloc))?;
+        assert_eq!(rt; ended, (Status::ReadFault, false));
+    }
+    let ended = check(alloc, Vec::new(alloc), vec![in alloc; 0u64]?)?;
+    assert_eq!(rt; ended, (Status::WriteFault, false));
+    let ended = check(alloc, Vec::new(alloc), Vec::new(alloc))?;
+    assert_eq!(rt; ended, (Status::Refused(Refusal::NoLoop), true));
+    Ok(())
+}
+
+// A disk that sees whether each write is followed by a sync before anything else is written.
+#[derive(Drop)]
+struct Watched<D> {
+    inner: D,
+    waits: bool,
+    late: bool,
+    syncs: u64,
+}
+
+impl<D: Disk> Disk for Watched<D> {
+    ghost seen = { λ w. D.seen w.inner };
+
+    ghost faults = { λ w. D.faults w.inner };
+
+    fn len(&mut self) -> Result<u64, Failed> {
+        self.inner.len()
+    }
+
+    fn read(&mut self, at: u64, buf: &mut [u8]) -> Result<usize, Failed> {
+        self.inner.read(at, buf)
+    }
+
+    fn write_at(&mut self, at: u64, bytes: &[u8]) -> Result<(), Failed> {
+        self.late = self.late || self.waits;
+        self.waits = true;
+        self.inner.write_at(at, bytes)
+    }
+
+    fn cut(&mut self, len: u64) -> Result<(), Failed> {
+        self.inner.cut(len)
+    }
+
+    fn sync(&mut self) -> Result<(), Failed> {
+        self.waits = false;
+        self.syncs = self.syncs.saturating_add(1);
+        self.inner.sync()
+    }
+}
+
+#[test]
+fn each_frame_is_synced(rt: HostRuntime) -> Result<(), Fail> {
+    let alloc = rt.alloc();
+    let mut world = MemorySource::new(small_world(alloc)?, Vec::new(alloc));
+    let mut uploads = MemorySource::new(Vec::new(alloc), Vec::new(alloc));
+    let mut out = MemorySink::new(alloc, Vec::new(alloc));
+    let mut disk = Watched {
+        inner: MemoryDisk::new(Vec::new(alloc), Vec::new(alloc), None),
+        waits: false,
+        late: false,
+        syncs: 0,
+    };
+    let words = words(alloc, "2")?;
+    let status = run_alone(alloc, &words, &mut world, &mut uploads, &mut out, &mut disk);
+    assert_eq!(rt; status, Status::Done);
+    assert_eq!(rt; disk.syncs, 3);
+    assert!(rt; !disk.late);
+    assert!(rt; !disk.waits);
+    Ok(())
+}

@@ -1,0 +1,93 @@
+// The adapters over files, of which no clause says what they read and write.
+use std::alloc::{AllocError, Global};
+use std::fs;
+use std::test::Fail;
+use world_io::{
+    Disk, Failed, FileDisk, FileSink, FileSource, ReadStop, Sink, Source, StreamSink, read_all,
+    write_all,
+};
+
+// Bytes of several pieces and pages, which differ from place to place, from one place to another.
+fn long_text(alloc: Global, from: u32, to: u32) -> Result<Vec<u8>, AllocError> {
+    let mut text = Vec::new(alloc);
+    for i in from..to {
+        text.push((i % 251) as u8)?;
+    }
+    Ok(text)
+}
+
+#[test]
+fn a_file_is_written_whole(rt: HostRuntime) -> Result<(), Fail> {
+    let path = "world_io_a_sink.bin";
+    let mut text = long_text(rt.alloc(), 0, 200_000)?;
+    assert!(rt; !text.is_empty());
+    fs::write(&rt, path, b"older than all that follows")?;
+    let mut sink = FileSink::create(&rt, path);
+    assert_eq!(rt; fs::read(&rt, path)?.len(), 0);
+    assert_eq!(rt; sink.write(&text), Ok(200_000));
+    write_all(&mut sink, b" and its end")?;
+    text.extend_from_slice(b" and its end")?;
+    assert!(rt; fs::read(&rt, path)?.as_slice() == text.as_slice());
+    fs::remove_file(&rt, path)?;
+    Ok(())
+}
+
+#[test]
+fn a_file_is_read_whole(rt: HostRuntime) -> Result<(), Fail> {
+    let path = "world_io_a_source.bin";
+    let text = long_text(rt.alloc(), 0, 200_000)?;
+    fs::write(&rt, path, text.as_slice())?;
+    let mut source = FileSource::open(&rt, path);
+    assert!(rt; read_all(rt.alloc(), &mut source, 200_000)?.as_slice() == text.as_slice());
+    assert_eq!(rt; source.read(&mut [0u8; 4]), Ok(0));
+    let mut disk = FileDisk::open(&rt, path);
+    let mut buf = vec![in rt.alloc(); 0u8; 199_990]?;
+    assert_eq!(rt; disk.read(10, &mut buf), Ok(199_990));
+    assert!(rt; buf.as_slice() == long_text(rt.alloc(), 10, 200_000)?.as_slice());
+    assert_eq!(rt; disk.read(199_990, &mut buf), Ok(10));
+    assert_eq!(rt; disk.read(200_000, &mut buf), Ok(0));
+    fs::remove_file(&rt, path)?;
+    Ok(())
+}
+
+#[test]
+fn a_disk_is_the_file_at_its_path(rt: HostRuntime) -> Result<(), Fail> {
+    let path = "world_io_a_disk.bin";
+    let mut made = FileDisk::open_or_make(&rt, path);
+    assert_eq!(rt; made.len(), Ok(0));
+    made.write_at(0, &long_text(rt.alloc(), 0, 200_000)?)?;
+    let mut disk = FileDisk::open_or_make(&rt, path);
+    assert_eq!(rt; disk.len(), Ok(200_000));
+    disk.write_at(199_999, b"over the end")?;
+    disk.write_at(0, b"front")?;
+    disk.cut(200_009)?;
+    disk.sync()?;
+    let mut want = b"front".to_vec(rt.alloc())?;
+    want.extend_from_slice(&long_text(rt.alloc(), 5, 199_999)?)?;
+    want.extend_from_slice(b"over the e")?;
+    let mut only_read = FileDisk::open(&rt, path);
+    assert_eq!(rt; only_read.write_at(0, b"x"), Err(Failed));
+    assert_eq!(rt; only_read.cut(0), Err(Failed));
+    assert!(rt; fs::read(&rt, path)?.as_slice() == want.as_slice());
+    fs::remove_file(&rt, path)?;
+    Ok(())
+}
+
+#[test]
+fn fails_where_no_file_opens(rt: HostRuntime) -> Result<(), Fail> {
+    let path = "world_io_no_folder/file";
+    let mut source = FileSource::open(&rt, path);
+    assert_eq!(rt;
+        read_all(rt.alloc(), &mut source, 9).map(|text| text.len()),
+        Err(ReadStop::Fault)
+    );
+    assert_eq!(rt; FileSink::create(&rt, path).write(b"x"), Err(Failed));
+    assert_eq!(rt; FileDisk::open(&rt, "world_io_no_file").len(), Err(Failed));
+    let mut disk = FileDisk::open_or_make(&rt, path);
+    assert_eq!(rt; disk.len(), Err(Failed));
+    assert_eq!(rt; disk.sync(), Err(Failed));
+    let mut output = StreamSink::over(rt.stderr());
+    write_all(&mut output, b"")?;
+    assert_eq!(rt; output.write(b"\n"), Ok(1));
+    Ok(())
+}
