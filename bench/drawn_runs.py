@@ -2,8 +2,18 @@
 
 import compared_runs
 from compared_runs import world_faults
+from game import ACTIONS, DIRECTIONS, distance
 from scripts import Table
 from worlds import Step, Upload, acted, full, ticked
+
+
+def call_of(random, name, one, around):
+    """A call of a creep for an action, whose target is drawn of those in its reach, or None where there is none."""
+    action, amounts = ACTIONS[name], {"drop": (0,), "move": (random.choice(list(DIRECTIONS)),)}
+    if not action.targets:
+        return (name, one["id"], *amounts.get(name, ()))
+    fit = [it["id"] for it in around if it["kind"] in action.targets and distance(it, one) <= action.reach and (it is not one or action.itself)]
+    return (name, one["id"], random.choice(fit), *((0,) if name in ("transfer", "withdraw") else ())) if fit else None
 
 
 def count_into(done, counts):

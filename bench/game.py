@@ -1,8 +1,10 @@
-"""The game's numbers, what objects hold, and what creeps do, for the checks and the measures.
+"""The game's numbers, what objects hold, and what players do, for the checks and the measures.
 
 It is a second, slow writing of the tables in docs/players.md and of the rules in docs/formats.md, which shares nothing with the program.
 An object is what a world file has of it, with every key. How creeps step stands in bench/movement.py.
 """
+
+import math
 
 SECOND = 1 << 32
 FIELDS = ("owner", "energy", "timer", "extra", "progress", "other", "other_ticks")
@@ -10,6 +12,8 @@ KINDS = ["source", "controller", "creep", "spawn", "extension", "storage", "cont
 BUILDINGS = ("spawn", "extension", "storage", "container", "road")
 STORES = ("spawn", "extension", "storage", "container")
 OBSTRUCTING = ("source", "controller", "spawn", "extension", "storage")
+OF_OWNERS = ("spawn", "extension", "storage")
+FIXED = ("source", "controller", *BUILDINGS, "site")
 PARTS = ["move", "work", "carry", "attack", "ranged_attack", "tough", "heal", "claim"]
 HITS = {"spawn": 5000, "extension": 1000, "storage": 10_000, "container": 250_000, "road": 5000}
 TOTALS = {"spawn": 15_000, "extension": 3000, "storage": 30_000, "container": 5000, "road": 300}
@@ -24,8 +28,23 @@ LAST_LEVEL = 8
 MOST_AT_LAST = 15
 MOST_RESERVED = 5000
 
-NOT_OWNER, NOT_FOUND, NOT_ENOUGH, INVALID_TARGET, FULL = -1, -5, -6, -7, -8
-NOT_IN_RANGE, INVALID, TIRED, NO_BODYPART = -9, -10, -11, -12
+# Of each level how many buildings of a kind a room may have, with those that sites are for.
+COUNTS = {
+    "spawn": [0, 1, 1, 1, 1, 1, 1, 2, 3],
+    "extension": [0, 0, 5, 10, 20, 30, 40, 50, 60],
+    "storage": [0, 0, 0, 0, 1, 1, 1, 1, 1],
+    "container": [5] * 9,
+    "road": [2500] * 9,
+}
+MOST_SITES = 100
+
+# What the parts of a creep cost that a spawn makes, and the ticks that each of them takes.
+COSTS = {"move": 50, "work": 100, "carry": 50, "attack": 80, "ranged_attack": 150, "tough": 10, "heal": 250, "claim": 600}
+MOST_PARTS = 50
+PART_TICKS = 3
+
+NOT_OWNER, BUSY, NOT_FOUND, NOT_ENOUGH, INVALID_TARGET, FULL = -1, -4, -5, -6, -7, -8
+NOT_IN_RANGE, INVALID, TIRED, NO_BODYPART, LEVEL_NOT_ENOUGH, GLOBAL_LEVEL_NOT_ENOUGH = -9, -10, -11, -12, -14, -15
 
 
 def thing(kind, id, x, y, **fields):
@@ -67,6 +86,29 @@ def capacity(one, objects):
     return {"spawn": 300, "storage": 1_000_000, "container": 2000}.get(one["kind"], 0)
 
 
+def count_of(kind, objects):
+    """How many of a kind there are, with those that sites are for."""
+    return sum(one["kind"] == kind or one["kind"] == "site" and KINDS[one["extra"] - 1] == kind for one in objects)
+
+
+def payers(player, objects):
+    """What of these pays for a player's creeps, in its order: spawns first, then extensions, each in rising id."""
+    mine = [one for one in objects if one["kind"] in ("spawn", "extension") and one["owner"] == player]
+    return sorted(mine, key=lambda one: (one["kind"] == "extension", one["id"]))
+
+
+def cost_of(body):
+    return sum(COSTS[part] for part in body)
+
+
+def lifetime(body):
+    return 600 if "claim" in body else 1500
+
+
+def global_level(points):
+    return 1 + math.isqrt(points // 1_000_000)
+
+
 def full_timer(kind, objects):
     """How long a building of a room with these objects keeps its hits."""
     controller = controller_of(objects)
@@ -96,14 +138,14 @@ def distance(one, other):
 
 
 class Action:
-    """An action of creeps: its number, the part that it needs, the kinds of its targets, how far they may be, and whether the creep itself may be
-    one."""
+    """An action: its number, the part that it needs, the kinds of its targets, how far they may be, whether the creep itself may be one, and what
+    its actor is."""
 
-    def __init__(self, number, part=None, targets=(), reach=0, itself=False):
-        self.number, self.part, self.targets, self.reach, self.itself = number, part, targets, reach, itself
+    def __init__(self, number, part=None, targets=(), reach=0, itself=False, actor="creep"):
+        self.number, self.part, self.targets, self.reach, self.itself, self.actor = number, part, targets, reach, itself, actor
 
 
-# Those that are in force, in the order in which a tick applies them. No call makes an entry of claim_controller yet.
+# Those that are in force, in the order in which a tick applies them. A tile is an actor by its number through all rooms, row by row.
 ACTIONS = {
     "drop": Action(1),
     "transfer": Action(2, None, ("creep", *STORES), 1),
@@ -123,6 +165,9 @@ ACTIONS = {
     "upgrade": Action(16, "work", ("controller",), 3),
     "reserve": Action(17, "claim", ("controller",), 1),
     "attack_controller": Action(18, "claim", ("controller",), 1),
+    "create_site": Action(19, actor="tile"),
+    "remove_site": Action(20, actor="site"),
+    "spawn_creep": Action(21, actor="spawn"),
     "move": Action(22, "move"),
 }
 
@@ -148,8 +193,13 @@ def counting(entries):
     return {(name, id): it for (name, id), it in entries.items() if not any((other, id) in entries for other in OVERRULED_BY.get(name, ()))}
 
 
+def first_failing(rows):
+    """Of checks in their order, each whether it holds and the code where it doesn't, the code of the first that fails, or 0."""
+    return next((code for holds, code in rows if not holds), 0)
+
+
 def refusal(name, player, actor, target, amount, least, objects):
-    """The code of the first check of an action that fails, or 0.
+    """The code of the first check of a creep's action that fails, or 0.
 
     Actor and target are what stands under their ids, each a room's index and an object, or None. The objects are those of the
     actor's room; the least is how much there has to be."""
@@ -167,8 +217,7 @@ def refusal(name, player, actor, target, amount, least, objects):
             return INVALID_TARGET
         if target[0] != actor[0] or distance(target[1], actor[1]) > action.reach:
             return NOT_IN_RANGE
-    further = FURTHER[name](player, actor[1], target and target[1], least, objects) if name in FURTHER else ()
-    return next((code for holds, code in further if not holds), 0)
+    return first_failing(FURTHER[name](player, actor[1], target and target[1], least, objects) if name in FURTHER else ())
 
 
 def others_of(controller, player):
@@ -212,6 +261,39 @@ FURTHER = {
     "attack_controller": lambda player, _, controller, *__: ((others_of(controller, player), INVALID_TARGET),),
     "move": lambda _, creep, *__: ((creep["extra"] == 0, TIRED),),
 }
+
+
+# ---- the checks of what no creep does, each whether it holds and the code where it doesn't
+
+
+def of_site(player, number, x, y, place, recorded=0, sites=0):
+    """The checks of a new site for the kind of a number on a tile of a room. So many of that kind are recorded for other tiles of the room, and
+    so many sites the player has in the world, with all that are recorded for other tiles."""
+    yield 1 <= x <= 48 and 1 <= y <= 48 and 1 <= number <= len(KINDS) and KINDS[number - 1] in BUILDINGS, INVALID
+    kind, objects = KINDS[number - 1], place["objects"]
+    # (without a controller a room counts as one of level 0 that is nobody's)
+    controller = controller_of(objects) or {"owner": 0, "other": 0, "extra": 0}
+    yield not others_of(controller, player), NOT_OWNER
+    yield kind not in OF_OWNERS or controller["owner"] == player, LEVEL_NOT_ENOUGH
+    yield count_of(kind, objects) + recorded < COUNTS[kind][controller["extra"]], LEVEL_NOT_ENOUGH
+    standing = {one["kind"] for one in objects if (one["x"], one["y"]) == (x, y)}
+    yield place["terrain"][50 * y + x] != "1" and not standing & set(FIXED), INVALID_TARGET
+    yield kind not in OBSTRUCTING or "creep" not in standing, INVALID_TARGET
+    yield sites < MOST_SITES, FULL
+
+
+def of_removal(player, site):
+    yield site is not None and site["kind"] == "site", NOT_FOUND
+    yield site["owner"] == player, NOT_OWNER
+
+
+def of_spawn(player, spawn, body, objects):
+    """The checks of a new creep of these parts, or of what is none, by a spawn among the objects of its room."""
+    yield spawn is not None and spawn["kind"] == "spawn", NOT_FOUND
+    yield spawn["owner"] == player, NOT_OWNER
+    yield spawn["timer"] == 0, BUSY
+    yield body is not None and 1 <= len(body) <= MOST_PARTS, INVALID
+    yield cost_of(body) <= sum(one["energy"] for one in payers(player, objects)), NOT_ENOUGH
 
 
 # ---- what they make of the world
@@ -289,8 +371,10 @@ class Course:
             return None
         return actor, target
 
-    def act(self, player, name, id, target, amount):
+    def act(self, player, name, id, target, amount, body=()):
         """What an entry does: whether it did anything."""
+        if ACTIONS[name].actor != "creep":
+            return getattr(self, "do_" + name)(player, id, amount, body)
         found = self.parties(player, name, id, target, amount)
         if found:
             actor, target = found
@@ -363,7 +447,7 @@ class Course:
             return
         self.remove(index, site)
         timer = full_timer(kind, self.rooms[index]["objects"])
-        owner = site["owner"] if kind in ("spawn", "extension", "storage") else 0
+        owner = site["owner"] if kind in OF_OWNERS else 0
         self.make(index, kind, site["x"], site["y"], owner=owner, hits=HITS[kind], timer=timer)
 
     def do_ranged_mass_attack(self, index, creep, _, __):
@@ -407,6 +491,36 @@ class Course:
             controller["timer"] = max(1, controller["timer"] - 300 * parts)
         else:
             controller["other_ticks"] = max(1, controller["other_ticks"] - parts)
+
+    def do_create_site(self, player, tile, number, _):
+        """A site is made, where its checks hold in the room alone: whether it was."""
+        index, tile = divmod(tile, 2500)
+        y, x = divmod(tile, 50)
+        if first_failing(of_site(player, number, x, y, self.rooms[index])):
+            return False
+        self.make(index, "site", x, y, owner=player, extra=number)
+        return True
+
+    def do_remove_site(self, player, id, *_):
+        index, site = self.found.get(id, (None, None))
+        if first_failing(of_removal(player, site)):
+            return False
+        self.remove(index, site)
+        return True
+
+    def do_spawn_creep(self, player, id, _, body):
+        """A spawn begins to make a creep, for which its player's spawns and extensions of the room pay: whether it did."""
+        index, spawn = self.found.get(id, (None, None))
+        objects = self.rooms[index]["objects"] if spawn else []
+        if first_failing(of_spawn(player, spawn, body, objects)):
+            return False
+        cost = cost_of(body)
+        for payer in payers(player, objects):
+            paid = min(payer["energy"], cost)
+            payer["energy"] -= paid
+            cost -= paid
+        spawn.update(body=list(body), timer=PART_TICKS * len(body))
+        return True
 
 
 def rise(controller):

@@ -66,9 +66,13 @@ HOST_CALLS = {
     "ranged_mass_attack": (I64, I32),
     "ranged_attack": (I64 * 2, I32),
     "suicide": (I64, I32),
+    "claim_controller": (I64 * 2, I32),
     "upgrade": (I64 * 2, I32),
     "reserve": (I64 * 2, I32),
     "attack_controller": (I64 * 2, I32),
+    "create_site": (I32 * 4, I32),
+    "remove_site": (I64, I32),
+    "spawn_creep": (I64 + I32 * 2, I32),
     "move": (I64 + I32, I32),
 }
 

@@ -9,14 +9,15 @@ The first table has the loops of bench/machine.py as players of 5,000,000 instru
 looked for beside PROGRAM and in crates/machine_bench/out. The second has ticks by how many players there are and what they see, with an
 empty `loop` for each, beside the same without modules. The third has the modules that a player would write to hurt, and the time for an
 instruction that they pay for, beside that of a plain loop; what the tick takes besides is left out, for which it is measured with an empty
-`loop`, or where a record is full with a module that fills it and no more. The fourth has those that hardly pay for any, and the time for
-each player. The fifth has streams of uploads, by their entries and bytes, and the most memory that the program took (its least is what
+`loop`, or where a record is full with a module that fills it and no more. The fourth has the calls that ask how much there is, the same way. The fifth has those that hardly pay for any, and the time for
+each player. The sixth has streams of uploads, by their entries and bytes, and the most memory that the program took (its least is what
 Python takes, which starts it).
 
 The times depend on the machine and on what else it does: compare figures of one run alone. With --quick each row is run once, in fewer
 ticks, which shows that it runs and little else.
 """
 
+import json
 import os
 import struct
 import subprocess
@@ -83,6 +84,18 @@ def wide():
     return of_rooms(rooms, players_of(1))
 
 
+def built():
+    """The same with a room of the player's at level 8, with a spawn and 50 full extensions, and a creep beside a free controller in the next."""
+    it = json.loads(wide())
+    home, free = it["rooms"][2], it["rooms"][3]
+    extensions = [thing("extension", 2 * SECOND + 102 + place, place % 25 + 1, 40 + place // 25, owner=1, energy=200, hits=1000) for place in range(50)]
+    home["objects"] += [thing("controller", 2 * SECOND + 100, 45, 45, owner=1, extra=8, timer=150_000), thing("spawn", 2 * SECOND + 101, 44, 45, owner=1, energy=300, hits=5000), *extensions]
+    claimer = {**creep(3, 101, 1), "x": 44, "y": 44, "body": ["claim", "move"], "energy": 0, "hits": 200, "timer": 600}
+    free["objects"] += [thing("controller", 3 * SECOND + 100, 45, 45), claimer]
+    it["players"] = players_of(1, points=100_000_000)
+    return bytes_of(it)
+
+
 def crowded(count, creeps):
     """So many players with so many creeps with loads each, 2,000 to a room."""
     rooms = []
@@ -119,6 +132,10 @@ IMPORTS = {
     "harvest": "(param i64 i64) (result i32)",
     "repair": "(param i64 i64) (result i32)",
     "build": "(param i64 i64) (result i32)",
+    "claim_controller": "(param i64 i64) (result i32)",
+    "create_site": "(param i32 i32 i32 i32) (result i32)",
+    "remove_site": "(param i64) (result i32)",
+    "spawn_creep": "(param i64 i32 i32) (result i32)",
     "move": "(param i64 i32) (result i32)",
 }
 STEP = "(local.set $i (i32.add (local.get $i) (i32.const 1)))"
@@ -187,6 +204,79 @@ COSTLY = {
     "memory_read of 64 KiB": (text_of(["memory_read", "memory_write"], "(drop (call $memory_read (i32.const 0)))", MEMORY, WHOLE_TEXT), 10),
     "memory_write of nothing": (calling("memory_write", "(i32.const 0)", "(i32.const 0)", more=MEMORY), 500),
     "memory_write that is refused": (calling("memory_write", "(i32.const 1)", "(i32.const -1)", more=MEMORY), 500),
+}
+
+
+# The same of the calls that ask how much there is, in the world with a room that is built on. A record is full of drops but for its last
+# entry, which is made again and again, or refused.
+ALMOST = FILL.replace("(i32.const 4096)", "(i32.const 4095)")
+ALMOST_FILLING = FILLING.replace(FILL, ALMOST)
+BODY = '(memory 1) (data (i32.const 0) "' + "\\01" * 50 + '\\09")'
+SITES = """(loop $s (drop (call $create_site (i32.const 2) (i32.add (i32.const 1) (i32.rem_u (local.get $i) (i32.const 11)))
+    (i32.add (i32.const 10) (i32.div_u (local.get $i) (i32.const 11))) (i32.const 8))) (local.set $i (i32.add (local.get $i) (i32.const 1)))
+    (br_if $s (i32.lt_u (local.get $i) (i32.const 99))))"""
+
+
+MASK = (1 << 64) - 1
+GROUPS = 512
+
+
+def folded(a, b):
+    return (a * b & MASK) ^ (a * b >> 64)
+
+
+def hash_of(action, actor):
+    """The hash of an entry's key, whose seed is fixed: so a player can choose keys that collide."""
+    state = folded(0x243F6A8885A308D3 ^ action * 0x010101, 0x9E3779B97F4A7C15 ^ 2)
+    return folded(state ^ actor, 0x9E3779B97F4A7C15 ^ 16)
+
+
+def colliding(count):
+    """Tiles of the rooms that are seen, whose entries for sites all belong into one group of the table of a record."""
+    tiles = ((room, x, y) for room in range(3, 300) for y in range(10, 49) for x in range(1, 49))
+    found = [it for it in tiles if hash_of(19, it[0] * 2500 + it[2] * 50 + it[1]) % GROUPS == 7]
+    return found[:count]
+
+
+def sites_again(tiles):
+    """A module that makes sites on these tiles without end, which stand in its memory as bytes: the room's two, x and y."""
+    data = "".join("\\%02x" % byte for room, x, y in tiles for byte in (*room.to_bytes(2, "little"), x, y))
+    at = f"(local.set $i (i32.rem_u (local.get $i) (i32.const {4 * len(tiles)})))"
+    call = "(drop (call $create_site (i32.load16_u (local.get $i)) (i32.load8_u offset=2 (local.get $i)) (i32.load8_u offset=3 (local.get $i)) (i32.const 8)))"
+    return text_of(["create_site"], f"{at} {call} (local.set $i (i32.add (local.get $i) (i32.const 3)))", f'(memory 1) (data (i32.const 0) "{data}")')
+
+
+def again(name, *arguments, more="", before=ALMOST, also=("drop",)):
+    return text_of([name, *also], f"(drop (call ${name} {' '.join(arguments)}))", more, before)
+
+
+def number_of(room, serial):
+    return f"(i64.const {room * SECOND + serial})"
+
+
+def tile_of(x, y):
+    return f"(i32.const {x})", f"(i32.const {y})"
+
+
+ROOM, ROAD, TILE = "(i32.const 2)", "(i32.const 8)", tile_of(20, 20)
+FIFTY, ONE = ("(i32.const 0)", "(i32.const 50)"), ("(i32.const 0)", "(i32.const 1)")
+ASKING = {
+    "create_site, its entry again": (again("create_site", ROOM, *TILE, ROAD), ALMOST_FILLING),
+    "create_site, for which there is no entry left": (again("create_site", ROOM, *TILE, ROAD, before=FILL), FILLING),
+    "create_site beside 99 others": (again("create_site", ROOM, *TILE, ROAD, before=SITES, also=()), None),
+    "create_site of 99, any of them again": (again("create_site", ROOM, f"(i32.add (i32.const 1) (i32.rem_u {SCRAMBLED} (i32.const 9)))", f"(i32.add (i32.const 10) (i32.rem_u (local.get $i) (i32.const 9)))", ROAD, before=SITES, also=()), None),
+    "create_site of 99 whose keys collide, again": (sites_again(colliding(99)), None),
+    "create_site, one too many of a kind": (again("create_site", ROOM, *TILE, "(i32.const 6)", before="", also=()), None),
+    "create_site on any tile of any room": (again("create_site", f"(i32.rem_u {SCRAMBLED} (i32.const 300))", f"(i32.and {SCRAMBLED} (i32.const 63))", f"(i32.and (local.get $i) (i32.const 63))", ROAD, before="", also=()), None),
+    "create_site in a room with 2,048 creeps": (again("create_site", "(i32.const 0)", f"(i32.and {SCRAMBLED} (i32.const 31))", "(i32.const 20)", "(i32.const 4)", before="", also=()), None),
+    "remove_site of what is none": (again("remove_site", id_of(SCRAMBLED_ENTRY), before="", also=()), None),
+    "claim_controller, its entry again": (again("claim_controller", number_of(3, 101), number_of(3, 100)), ALMOST_FILLING),
+    "claim_controller, for which there is no entry left": (again("claim_controller", number_of(3, 101), number_of(3, 100), before=FILL), FILLING),
+    "claim_controller of an own one": (again("claim_controller", number_of(3, 101), number_of(2, 100), before="", also=()), None),
+    "spawn_creep of 50 parts, its entry again": (again("spawn_creep", number_of(2, 101), *FIFTY, more=BODY), ALMOST_FILLING),
+    "spawn_creep, for which there is no entry left": (again("spawn_creep", number_of(2, 101), *FIFTY, more=BODY, before=FILL), FILLING),
+    "spawn_creep of 50 parts, the last of which is none": (again("spawn_creep", number_of(2, 101), "(i32.const 1)", "(i32.const 50)", more=BODY, before="", also=()), None),
+    "spawn_creep of one part, its entry again": (again("spawn_creep", number_of(2, 101), *ONE, more=BODY), ALMOST_FILLING),
 }
 
 
@@ -412,6 +502,22 @@ def costly(bench):
         print(f"{name:38}{used:13,.0f}{tick * 1e3:10.2f}{each:10.2f}{each / plain:10.2f}", flush=True)
 
 
+def asking(bench):
+    """The calls that ask how much there is, beside a plain loop."""
+    print(f"{'module':52}{'instructions':>13}{'tick ms':>10}{'ns each':>10}{'of plain':>10}")
+    first = built()
+    bare = {None: bench.tick(first, upload_entry(0, 1, EMPTY), 10)}
+    plain = None
+    for name, (text, filling) in {"plain": (machine.ORDINARY["plain"], None), **ASKING}.items():
+        if filling not in bare:
+            bare[filling] = bench.tick(first, upload_entry(0, 1, bench.module(filling)), 5)
+        (rest, paid), (tick, used) = bare[filling], bench.tick(first, upload_entry(0, 1, bench.module(text)), 5)
+        assert used == 10_000 * UNITS, f"{name}: used {used}"
+        each = (tick - rest) * 1e9 / (used - (paid if filling else 0))
+        plain = plain or each
+        print(f"{name:52}{used:13,.0f}{tick * 1e3:10.2f}{each:10.2f}{each / plain:10.2f}", flush=True)
+
+
 def dropping(number, creeps):
     """A module of a list of drops, of each creep of the player in the crowded world."""
     ids = [place // 2000 * SECOND + place % 2000 + 1 for place in range((number - 1) * creeps, number * creeps)]
@@ -480,6 +586,7 @@ def main():
         loops(bench, machine_at(program))
         crowds(bench)
         costly(bench)
+        asking(bench)
         cheap(bench)
         uploads(bench)
 

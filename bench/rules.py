@@ -1,10 +1,9 @@
 """Which rules of docs/formats.md a world breaks: for the worlds that checks and measures make, and for those that a tick leaves."""
 
-from game import BUILDINGS, DOWNGRADES, HITS, KINDS, LEVELS, MOST_PILE, MOST_POINTS, MOST_RESERVED, OBSTRUCTING, SECOND, TOTALS, capacity, hits_max
+from game import DOWNGRADES, FIXED, HITS, KINDS, LEVELS, MOST_PILE, MOST_POINTS, MOST_RESERVED, MOST_SITES, OBSTRUCTING, SECOND, TOTALS, capacity, hits_max, lifetime
 from worlds import CORNERS, account_of, full, objects_of
 
 OWNED = ("creep", "spawn", "extension", "storage", "site")
-FIXED = ("source", "controller", *BUILDINGS, "site")
 
 
 def broken(it):
@@ -36,7 +35,7 @@ def of_counts(it):
             yield f"PlayerTwice {account['player']}"
         if account["points"] > MOST_POINTS:
             yield f"Points {account['player']}"
-        if sum(one["kind"] == "site" and one["owner"] == account["player"] for one in objects_of(it)) > 100:
+        if sum(one["kind"] == "site" and one["owner"] == account["player"] for one in objects_of(it)) > MOST_SITES:
             yield f"Sites {account['player']}"
 
 
@@ -85,9 +84,8 @@ def is_controller(one, _):
 
 
 def is_creep(one, objects):
-    most = 600 if "claim" in one["body"] else 1500
     fields = only(one, "owner", "body", "hits", "energy", "timer", "extra") and 1 <= len(one["body"]) <= 50
-    return fields and 1 <= one["hits"] <= hits_max(one) and one["energy"] <= capacity(one, objects) and 1 <= one["timer"] <= most and one["extra"] <= 500
+    return fields and 1 <= one["hits"] <= hits_max(one) and one["energy"] <= capacity(one, objects) and 1 <= one["timer"] <= lifetime(one["body"]) and one["extra"] <= 500
 
 
 def is_spawn(one, _):

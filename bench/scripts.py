@@ -3,12 +3,30 @@
 The answers of the host's calls stand here by a writing of the table in docs/players.md that shares nothing with the program.
 """
 
-import math
 import struct
 
-from game import BUILDINGS, FULL, INVALID, KINDS, NOT_FOUND, PARTS, capacity, hits_max, part_hits, place_of, refusal
+from game import (
+    BUILDINGS,
+    FULL,
+    GLOBAL_LEVEL_NOT_ENOUGH,
+    INVALID,
+    KINDS,
+    MOST_PARTS,
+    NOT_FOUND,
+    PARTS,
+    capacity,
+    first_failing,
+    global_level,
+    hits_max,
+    of_removal,
+    of_site,
+    of_spawn,
+    part_hits,
+    place_of,
+    refusal,
+)
 from modules import HOST_CALLS, I32, leb, player_module, signed_leb
-from worlds import UNIT, Run, account_of, allowance
+from worlds import UNIT, Run, account_of, allowance, objects_of, part_bytes
 
 PAGE = 1 << 16
 MOST_TEXT = 65_536
@@ -27,6 +45,14 @@ def gives_sight(one, player):
     return one["owner"] == player and (one["kind"] in ("creep", "controller") or one["kind"] in BUILDINGS)
 
 
+def body_in(memory, at, length):
+    """The parts in a span of a memory, where each byte is the number of one. None where one isn't, or the span passes the end, or has too many."""
+    found = memory[at : at + length]
+    if length > MOST_PARTS or at + length > len(memory) or not all(1 <= number <= len(PARTS) for number in found):
+        return None
+    return [PARTS[number - 1] for number in found]
+
+
 class Desk:
     """What answers the calls of a player: what he sees, what he wants so far, and his memory text."""
 
@@ -37,6 +63,7 @@ class Desk:
         self.objects = sorted(((index, one) for index in self.rooms for one in world["rooms"][index]["objects"]), key=lambda seen: seen[1]["id"])
         self.places = {one["id"]: place for place, (_, one) in enumerate(self.objects)}
         self.text = bytes.fromhex(self.account["memory"])
+        self.sites = sum(one["kind"] == "site" and one["owner"] == player for one in objects_of(world))
         self.entries = {}
 
     def answer(self, name, arguments, memory):
@@ -58,7 +85,7 @@ class Desk:
         return self.account["points"]
 
     def answer_level(self, _):
-        return 1 + math.isqrt(self.account["points"] // 1_000_000)
+        return global_level(self.account["points"])
 
     def answer_rooms(self, _):
         return len(self.rooms)
@@ -116,16 +143,28 @@ class Desk:
     def seen(self, id):
         return self.objects[self.places[id]] if id in self.places else None
 
-    def acted(self, name, id, target=0, amount=0):
-        actor = self.seen(id)
-        objects = self.world["rooms"][actor[0]]["objects"] if actor else []
-        code = refusal(name, self.player, actor, self.seen(target), amount, max(1, amount), objects)
+    def room_of(self, id):
+        """What stands in the room of an object that is seen."""
+        seen = self.seen(id)
+        return self.world["rooms"][seen[0]]["objects"] if seen else []
+
+    def recorded(self, code, name, actor, *wanted):
+        """What is wanted is recorded where no check of the call failed and the record takes it."""
         if code:
             return code
-        if (name, id) not in self.entries and len(self.entries) == MOST_ENTRIES:
+        if (name, actor) not in self.entries and len(self.entries) == MOST_ENTRIES:
             return FULL
-        self.entries[name, id] = target, amount
+        self.entries[name, actor] = wanted
         return 0
+
+    def others(self, name, actor):
+        """What is recorded for other actors of an action, by them."""
+        return {it: wanted for (other, it), wanted in self.entries.items() if other == name and it != actor}
+
+    def acted(self, name, id, target=0, amount=0, further=()):
+        """A call of a creep, which may have further checks that its rule hasn't."""
+        code = refusal(name, self.player, self.seen(id), self.seen(target), amount, max(1, amount), self.room_of(id))
+        return self.recorded(code or first_failing(further), name, id, target, amount)
 
     def answer_drop(self, _, id, amount):
         return self.acted("drop", id, amount=amount)
@@ -169,6 +208,13 @@ class Desk:
     def answer_suicide(self, _, id):
         return self.acted("suicide", id)
 
+    def answer_claim_controller(self, _, id, target):
+        """His controllers, and those that other creeps of his are to claim, have to be fewer than his global level."""
+        owned = sum(one["kind"] == "controller" and one["owner"] == self.player for _, one in self.objects)
+        held = owned + len(self.others("claim_controller", id))
+        is_able = held < global_level(self.account["points"])
+        return self.acted("claim_controller", id, target, further=((is_able, GLOBAL_LEVEL_NOT_ENOUGH),))
+
     def answer_upgrade(self, _, id, target):
         return self.acted("upgrade", id, target)
 
@@ -177,6 +223,24 @@ class Desk:
 
     def answer_attack_controller(self, _, id, target):
         return self.acted("attack_controller", id, target)
+
+    def answer_create_site(self, _, index, x, y, kind):
+        if index not in self.rooms:
+            return NOT_FOUND
+        tile = 2500 * index + 50 * y + x
+        others = self.others("create_site", tile)
+        recorded = sum(other // 2500 == index and number == kind for other, (_, number) in others.items())
+        code = first_failing(of_site(self.player, kind, x, y, self.world["rooms"][index], recorded, self.sites + len(others)))
+        return self.recorded(code, "create_site", tile, 0, kind)
+
+    def answer_remove_site(self, _, id):
+        seen = self.seen(id)
+        return self.recorded(first_failing(of_removal(self.player, seen and seen[1])), "remove_site", id, 0, 0)
+
+    def answer_spawn_creep(self, memory, id, at, length):
+        seen, body = self.seen(id), body_in(memory, at % (1 << 32), length % (1 << 32))
+        code = first_failing(of_spawn(self.player, seen and seen[1], body, self.room_of(id)))
+        return self.recorded(code, "spawn_creep", id, 0, 0, body)
 
     def answer_move(self, _, id, direction):
         return self.acted("move", id, amount=direction)
@@ -346,10 +410,40 @@ class Machine:
             raise Trapped(1)
 
 
+class Body:
+    """Bytes that a call finds in the memory: the parts of a creep, or numbers of which some are none."""
+
+    def __init__(self, *parts):
+        self.content = b"".join(part_bytes([it]) if it in PARTS else bytes([it]) for it in parts)
+
+    def __repr__(self):
+        return f"Body({self.content.hex()})"
+
+
+def laid_out(calls, at):
+    """Calls with the addresses and the lengths of their bodies, which stand in the memory from here on, and the bytes of these."""
+    places, content, found = {}, b"", []
+    for name, *arguments in calls:
+        for place, it in enumerate(arguments):
+            if not isinstance(it, Body):
+                continue
+            if it.content not in places:
+                places[it.content] = at + len(content)
+                content += it.content
+            arguments[place : place + 1] = [places[it.content], len(it.content)]
+        found.append((name, *arguments))
+    return found, content
+
+
 class Table(Script):
-    """A module that makes a list of calls, keeps the answer of each, and leaves them all as its memory text."""
+    """A module that makes a list of calls, keeps the answer of each, and leaves them all as its memory text. Behind the answers stand the bodies that
+    calls are given."""
 
     def __init__(self, calls, **others):
-        self.listed = list(calls)
+        calls = list(calls)
+        end = 8 * len(calls)
+        self.listed, bodies = laid_out(calls, end)
+        if bodies:
+            others = {"data": (end, bodies), "pages": -(-(end + len(bodies)) // PAGE), **others}
         code = [instruction for place, it in enumerate(self.listed) for instruction in kept(8 * place, *it)]
-        super().__init__([*code, *unkept("memory_write", 0, 8 * len(self.listed))], **others)
+        super().__init__([*code, *unkept("memory_write", 0, end)], **others)

@@ -3,7 +3,8 @@
 It is a second writing of the rules in docs/formats.md, as bench/game.py is, which shares nothing with the program.
 """
 
-from game import BUILDINGS, DOWNGRADES, Course, full_timer, live, source_room
+from game import BUILDINGS, DIRECTIONS, DOWNGRADES, Course, full_timer, hits_max, lifetime, live, payers, source_room
+from movement import ahead, is_open, tile_of
 
 LOSSES = {"container": 5000, "road": 100}
 OF_A_SPAWN = 300
@@ -47,9 +48,28 @@ def filled(course, index, one):
     """A spawn gains 1 where the spawns and extensions of its owner hold less together than one spawn may."""
     if one["kind"] != "spawn" or one["energy"] >= OF_A_SPAWN:
         return
-    others = course.rooms[index]["objects"]
-    held = sum(it["energy"] for it in others if it["kind"] in ("spawn", "extension") and it["owner"] == one["owner"])
+    held = sum(it["energy"] for it in payers(one["owner"], course.rooms[index]["objects"]))
     one["energy"] += held < OF_A_SPAWN
+
+
+def tile_round(place, spawn):
+    """The first tile round a spawn, from the top clockwise, that is no wall and has neither a creep nor what lets none by; None without one."""
+    creeps = {tile_of(one) for one in place["objects"] if one["kind"] == "creep"}
+    tiles = [ahead(spawn, direction) for direction in DIRECTIONS]
+    return next((tile for tile in tiles if tile and is_open(place, *tile) and tile not in creeps), None)
+
+
+def hatched(course, index, one):
+    """The timer of a spawn falls. In its last tick the creep comes, where there is a tile for it, and else the spawn waits."""
+    if one["kind"] != "spawn" or one["timer"] == 0:
+        return
+    if one["timer"] > 1:
+        one["timer"] -= 1
+        return
+    tile, body = tile_round(course.rooms[index], one), one["body"]
+    if tile:
+        one.update(timer=0, body=[])
+        course.make(index, "creep", *tile, owner=one["owner"], body=body, hits=hits_max({"kind": "creep", "body": body}), timer=lifetime(body))
 
 
 def lapsed(_, __, one):
@@ -100,7 +120,7 @@ def dwindled(course, index, one):
             course.remove(index, one)
 
 
-STEPS = (struck, unloaded, aged, recovered, filled, lapsed, renewed, weathered, dwindled)
+STEPS = (struck, unloaded, aged, recovered, filled, hatched, lapsed, renewed, weathered, dwindled)
 
 
 def settled(rooms, harm):

@@ -1,7 +1,7 @@
 """Worlds for the checks: the world file, the journal's contents, the tick and the printed lines.
 
 It is a second, slow writing of docs/formats.md, which shares nothing with the program. A world is what its file
-says, as Python has it from JSON. What creeps do in a tick stands in bench/game.py and bench/movement.py, and the end of
+says, as Python has it from JSON. What players do in a tick stands in bench/game.py and bench/movement.py, and the end of
 a tick in bench/upkeep.py.
 """
 
@@ -118,7 +118,7 @@ def object_bytes(one):
         one["other"],
         one["other_ticks"],
         len(one["body"]),
-    ) + bytes(1 + PARTS.index(part) for part in one["body"])
+    ) + part_bytes(one["body"])
 
 
 def room_bytes(index, place):
@@ -143,9 +143,17 @@ def upload_bytes(player, result, content):
     return struct.pack("<IBI", player, RESULTS.index(result), len(content)) + content
 
 
+def part_bytes(body):
+    return bytes(1 + PARTS.index(part) for part in body)
+
+
+def entry_bytes(action, actor, target, amount, body=()):
+    return struct.pack("<BQQQB", action, actor, target, amount, len(body)) + part_bytes(body)
+
+
 def run_bytes(run):
-    numbered = sorted((ACTIONS[name].number, creep, *wanted) for (name, creep), wanted in run.entries.items())
-    entries = [struct.pack("<BQQQB", *entry, 0) for entry in numbered]
+    numbered = sorted((ACTIONS[name].number, actor, *wanted) for (name, actor), wanted in run.entries.items())
+    entries = [entry_bytes(*entry) for entry in numbered]
     return struct.pack("<IBBQ", run.player, OUTCOMES.index(run.outcome), run.trap, run.used) + listed(entries)
 
 
@@ -236,7 +244,7 @@ def read_tick(content):
 
 
 class Run:
-    """What a player's module did in a tick: `entries` has the target and the amount by action and creep."""
+    """What a player's module did in a tick: `entries` has the target, the amount and, where a spawn makes a creep, the body, by action and actor."""
 
     def __init__(self, player, outcome, used, memory, entries=None, trap=0):
         self.player, self.outcome, self.used, self.trap = player, outcome, used, trap
@@ -280,12 +288,12 @@ def acted(it, runs, harm=None):
     wanted = [(run.player, counting(run.entries)) for run in sorted(runs, key=lambda run: run.player)]
     for action in ACTIONS:
         for player, entries in wanted:
-            for name, creep in sorted(key for key in entries if key[0] == action):
-                target, amount = entries[name, creep]
+            for name, actor in sorted(key for key in entries if key[0] == action):
+                target, amount, *body = entries[name, actor]
                 if name == "move":
-                    moves.append((player, creep, amount))
+                    moves.append((player, actor, amount))
                     continue
-                effect = course.act(player, name, creep, target, amount)
+                effect = course.act(player, name, actor, target, amount, *body)
                 done[name, effect] = done.get((name, effect), 0) + 1
     stepping = len(moved(course, moves))
     done |= {("move", effect): count for effect, count in ((True, stepping), (False, len(moves) - stepping)) if count}

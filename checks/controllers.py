@@ -6,23 +6,22 @@ It runs behind `rt ci`, which builds crates/world_server/out/world_server. First
 the program and bench/game.py have to meet; then what follows in the tick after a controller is lost, the points of players, all sets of
 actions with an attack on a controller, all calls over controllers of all sorts, and random worlds of controllers of all levels, of which every
 object and every account is compared after each tick. With --model no program is run, and bench/game.py alone is held against the rooms that are
-worked out. No call claims a controller yet, so what the rule of it does is looked at in bench/game.py alone.
+worked out. Calls of claims are made in checks/colonies.py: here it is looked at what bench/game.py alone makes of entries for them, also of such as
+no call makes.
 """
 
 import itertools
 import os
 import random
-import struct
 import sys
 
 TOP = os.path.dirname(os.path.dirname(os.path.abspath(__file__)))
 sys.path.insert(0, os.path.join(TOP, "bench"))
 import compared_runs  # noqa: E402
 from checked_program import Checks  # noqa: E402
-from drawn_runs import count_into, note_counts, play_drawn  # noqa: E402
+from drawn_runs import call_of, count_into, note_counts, play_drawn  # noqa: E402
 from game import (  # noqa: E402
     ACTIONS,
-    DIRECTIONS,
     DOWNGRADES,
     FULL,
     INVALID_TARGET,
@@ -35,35 +34,39 @@ from game import (  # noqa: E402
     SECOND,
     controller_of,
     counting,
-    distance,
     live,
     thing,
 )
 from scripts import MOST_ENTRIES, Table  # noqa: E402
-from worked_rooms import FIRST_NEW, Case, check_cases, container, creep, with_ids  # noqa: E402
+from worked_rooms import (  # noqa: E402
+    EAST,
+    FIRST_NEW,
+    MIDDLE,
+    NORTH,
+    SOUTH,
+    WEST,
+    Case,
+    Turn,
+    answers_of,
+    check_cases,
+    check_turns,
+    container,
+    controller,
+    creep,
+    reserved,
+    source,
+    with_ids,
+)
 from worlds import Run, Upload, account_of, objects_of, room, ticked, world  # noqa: E402
 
 checks = Checks(__file__, "--model" not in sys.argv[1:])
 CONTROLS = ["upgrade", "reserve", "attack_controller"]
 PLAYERS = [{"player": number, "limit": 500, "points": points} for number, points in ((1, 0), (2, 77), (3, 1 << 40))]
 MOST = 2**53
-MIDDLE, EAST, WEST, NORTH, SOUTH = (10, 10), (11, 10), (9, 10), (10, 9), (10, 11)
 
 
 def play(name, first, ticks, uploads, said=None, **others):
     return compared_runs.play(checks, name, first, ticks, uploads, said, **others)
-
-
-def controller(owner=0, level=0, timer=0, serial=1, **fields):
-    return thing("controller", serial, *MIDDLE, owner=owner, extra=level, timer=timer, **fields)
-
-
-def reserved(player, ticks, serial=1):
-    return controller(serial=serial, other=player, other_ticks=ticks)
-
-
-def source(serial, x, y, **fields):
-    return thing("source", serial, x, y, **{"energy": 1500, **fields})
 
 
 # ---- rooms that are worked out by hand
@@ -321,26 +324,9 @@ def check_worked():
 # ---- what follows in the next tick
 
 
-class Turn:
-    """The calls of a player in a tick, each with its answer."""
-
-    def __init__(self, player, *calls):
-        self.player, self.calls = player, calls
-
-
-def check_turns(name, objects, *turns, fields=None):
+def turned(name, objects, *turns, fields=None):
     """A room in which players call in the ticks from 0 on. After the last tick the fields of objects have these values."""
-    first = world(room("E0S0", FIRST_NEW, *objects), players=PLAYERS)
-    tables = [(tick, turn, Table([call for *call, _ in turn.calls])) for tick, row in enumerate(turns) for turn in row]
-    steps = play(name, first, len(turns), [Upload(tick, turn.player, table) for tick, turn, table in tables])
-    faults = []
-    for tick, turn, table in tables:
-        answers = struct.unpack(f"<{len(table.listed)}q", bytes.fromhex(account_of(steps[tick].world, turn.player)["memory"]))
-        faults += [f"tick {tick}: {call} answered {got} and not {wanted}" for (*call, wanted), got in zip(turn.calls, answers) if got != wanted]
-    after = {one["id"]: one for one in objects_of(steps[-1].world)}
-    for id, wanted in (fields or {}).items():
-        faults += [f"{field} of {id} is {after[id][field]} and not {value}" for field, value in wanted.items() if after[id][field] != value]
-    checks.note(f"{name}: answers and fields", faults)
+    check_turns(checks, name, world(room("E0S0", FIRST_NEW, *objects), players=PLAYERS), *turns, fields=fields)
 
 
 def check_extensions():
@@ -349,11 +335,11 @@ def check_extensions():
         near = [controller(1, level, 1), thing("extension", 2, 5, 5, owner=1, energy=10), creep(3, 5, 6, "carry*9", energy=400)]
         first, second = (Turn(1, ("get", 1, 9, capacity), ("transfer", 3, 2, 0, answer)) for capacity, answer in ((2 * more, 0), (more, FULL)))
         # (an extension that holds more than it may keeps it)
-        check_turns(f"an extension as level {level} is lost", near, [first], [second], fields={2: {"energy": 2 * more}, 1: {"extra": level - 1}})
+        turned(f"an extension as level {level} is lost", near, [first], [second], fields={2: {"energy": 2 * more}, 1: {"extra": level - 1}})
     rising = [controller(1, 6, 300, progress=3_644_999), thing("extension", 2, 5, 5, owner=1, energy=50)]
     rising += [creep(3, *WEST, "work carry", energy=9), creep(4, 5, 6, "carry", energy=50)]
     first = Turn(1, ("upgrade", 3, 1, 0), ("transfer", 4, 2, 0, FULL))
-    check_turns("an extension as level 7 is reached", rising, [first], [Turn(1, ("get", 1, 9, 100), ("transfer", 4, 2, 0, 0))], fields={2: {"energy": 100}})
+    turned("an extension as level 7 is reached", rising, [first], [Turn(1, ("get", 1, 9, 100), ("transfer", 4, 2, 0, 0))], fields={2: {"energy": 100}})
 
 
 def check_owners():
@@ -362,14 +348,14 @@ def check_owners():
     work, looks = creep(3, 10, 13, "work carry", energy=30), [("get", 0, field) for field in (11, 10, 5)]
     before = Turn(1, ("upgrade", 3, 1, 0), *[(*look, value) for look, value in zip(looks, (1, 1, 1))])
     after = Turn(1, ("upgrade", 3, 1, 0), *[(*look, value) for look, value in zip(looks, (1, 100, 1))])
-    check_turns("an owner upgrades in the last tick", [controller(1, 1, 1), work], [before], [after], fields={1: {"progress": 2, "timer": 199}})
+    turned("an owner upgrades in the last tick", [controller(1, 1, 1), work], [before], [after], fields={1: {"progress": 2, "timer": 199}})
     attack = Turn(2, ("attack_controller", 4, 1, 0))
     lost = Turn(1, ("upgrade", 3, 1, NOT_OWNER), *[(*look, 0) for look in looks])
     free = Turn(2, ("attack_controller", 4, 1, INVALID_TARGET), ("reserve", 4, 1, 0))
     attacker, taken = creep(4, *WEST, "claim*2", 2), {1: {"other": 2, "other_ticks": 2, "progress": 0}}
-    check_turns("an owner who is attacked in the last tick", [controller(1, 1, 1), work, attacker], [before, attack], [lost, free], fields=taken)
+    turned("an owner who is attacked in the last tick", [controller(1, 1, 1), work, attacker], [before, attack], [lost, free], fields=taken)
     alone = [controller(1, 1, 1), thing("site", 2, 5, 5, owner=1, extra=8)]
-    check_turns("a room that is out of sight", alone, [Turn(1, ("rooms", 1), ("count", 2))], [Turn(1, ("rooms", 0), ("count", 0), ("find", 1, NOT_FOUND))])
+    turned("a room that is out of sight", alone, [Turn(1, ("rooms", 1), ("count", 2))], [Turn(1, ("rooms", 0), ("count", 0), ("find", 1, NOT_FOUND))])
 
 
 def check_harvests():
@@ -377,11 +363,11 @@ def check_harvests():
     for whose, it in (("owner's", controller(2, 1, 1)), ("reserver's", reserved(2, 1))):
         digger = [it, source(2, 5, 5, energy=100), creep(3, 5, 6, "work carry")]
         refused, done = Turn(1, ("get", 1, 9, 3000), ("harvest", 3, 2, NOT_OWNER)), Turn(1, ("get", 1, 9, 1500), ("harvest", 3, 2, 0))
-        check_turns(f"a harvest after the {whose} time", digger, [refused], [done], fields={2: {"energy": 98}, 3: {"energy": 2}})
+        turned(f"a harvest after the {whose} time", digger, [refused], [done], fields={2: {"energy": 98}, 3: {"energy": 2}})
     reserver, digger = creep(4, *WEST, "claim", 2), [controller(), source(2, 5, 5, energy=100), creep(3, 5, 6, "work carry")]
     first = [Turn(1, ("harvest", 3, 2, 0)), Turn(2, ("reserve", 4, 1, 0))]
     second = [Turn(1, ("harvest", 3, 2, NOT_OWNER)), Turn(2, ("reserve", 4, 1, 0))]
-    check_turns("a harvest as a reservation begins", [*digger, reserver], first, second, fields={2: {"energy": 98}, 1: {"other": 2, "other_ticks": 1}})
+    turned("a harvest as a reservation begins", [*digger, reserver], first, second, fields={2: {"energy": 98}, 1: {"other": 2, "other_ticks": 1}})
 
 
 # ---- points
@@ -412,7 +398,7 @@ def check_points():
     steps = play("points of seven players in several rooms", first, 3, uploads)
     got = {number: account_of(steps[0].world, number)["points"] for number in before}
     checks.note("the points after the tick", [] if got == after else [f"{got} and not {after}"])
-    seen = {number: struct.unpack("<2q", bytes.fromhex(account_of(steps[1].world, number)["memory"])) for number in before}
+    seen = {number: answers_of(steps[1], number, 2) for number in before}
     levels = {1: 1, 2: 94_907, 3: 94_907, 4: 94_907, 5: 94_907, 6: 2, 7: 2}
     wanted = {number: (points, levels[number]) for number, points in after.items()}
     checks.note("what players see of their points", [] if seen == wanted else [f"{seen} and not {wanted}"])
@@ -422,7 +408,7 @@ def check_points():
     play("the lines of an upgrade", first, 2, [Upload(0, 1, Table([("upgrade", 2, 1)]))], said)
 
 
-# ---- claims, which no call makes yet
+# ---- entries for claims, also such as no call makes
 
 
 def claims(*entries, before=None, **others):
@@ -530,7 +516,7 @@ def check_calls():
     seen = set()
     for step, table in zip(steps, tables):
         for number in (1, 2, 3):
-            answers = struct.unpack(f"<{len(table)}q", bytes.fromhex(account_of(step.world, number)["memory"]))
+            answers = answers_of(step, number, len(table))
             seen |= {(name, answer) for (name, *_), answer in zip(table, answers)}
     for name in CONTROLS:
         wanted = {0, NOT_FOUND, NOT_OWNER, NO_BODYPART, INVALID_TARGET, NOT_IN_RANGE} | ({NOT_ENOUGH} if name == "upgrade" else set())
@@ -554,7 +540,7 @@ def check_full_record():
     rest = [("reserve", *[one["id"] for one in reversed(free)]), ("attack_controller", *[one["id"] for one in reversed(held)]), *left[:2]]
     rest += [calls[0], ("upgrade", 2, SECOND + 1), calls[-1]]
     steps = play("a record of 4,096 upgrades", world(*rooms, players=PLAYERS), 1, [Upload(0, 1, Table([*calls, *rest]))])
-    answers = struct.unpack(f"<{len(calls) + len(rest)}q", bytes.fromhex(account_of(steps[0].world, 1)["memory"]))
+    answers = answers_of(steps[0], 1, len(calls) + len(rest))
     wanted = (*[0] * MOST_ENTRIES, FULL, FULL, FULL, FULL, 0, NOT_IN_RANGE, 0)
     checks.note("what a full record answers", [] if answers == wanted else [f"{answers[MOST_ENTRIES:]} and not {wanted[MOST_ENTRIES:]}"])
     # (a creep puts 1 into it, and a controller of level 8 takes 15 of the 48 that are put into others)
@@ -617,14 +603,6 @@ class Draw:
         players = [{"player": number, "limit": 500, "points": most} for number, most in points.items()]
         return world(*[self.room(index) for index in range(rooms)], players=players)
 
-    def call(self, name, one, around):
-        """A call of a creep with a target in its reach, or None where there is none."""
-        action, amounts = ACTIONS[name], {"drop": (0,), "move": (self.random.choice(list(DIRECTIONS)),)}
-        if not action.targets:
-            return (name, one["id"], *amounts.get(name, ()))
-        fit = [it["id"] for it in around if it["kind"] in action.targets and distance(it, one) <= action.reach and (it is not one or action.itself)]
-        return (name, one["id"], self.random.choice(fit), *((0,) if name in ("transfer", "withdraw") else ())) if fit else None
-
     def names(self, one):
         """What a creep does: mostly what is done with controllers."""
         rest = ("transfer", "withdraw", "harvest", "repair", "heal", "ranged_heal", "dismantle", "attack", "drop", "ranged_mass_attack")
@@ -637,7 +615,7 @@ class Draw:
         for place in it["rooms"]:
             for one in place["objects"]:
                 if one["kind"] == "creep" and one["owner"] == number:
-                    found += [call for call in (self.call(name, one, place["objects"]) for name in self.names(one)) if call]
+                    found += [call for call in (call_of(self.random, name, one, place["objects"]) for name in self.names(one)) if call]
         found += [(self.random.choice(CONTROLS), self.random.choice(everything), self.random.choice(everything)) for _ in range(10)]
         self.random.shuffle(found)
         return found

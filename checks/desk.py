@@ -417,13 +417,10 @@ def function_of(kind=1):
     return b"\0" + leb(kind)
 
 
-LATER = "claim_controller create_site remove_site spawn_creep"
-
-
 def import_refusals():
     """Imports that name no call, and those that name one and are of another kind or type."""
     calls = list(HOST_CALLS.items())
-    for name in (*LATER.split(), "", "Tick", "ticks", "tic", "memory", "loop"):
+    for name in ("", "Tick", "ticks", "tic", "memory", "loop", "claim", "create_sites", "spawn"):
         yield Refused("UnknownImport", importing(name, function_of(), [func_type(I64 + I64, I32)]))
     for name, (params, result) in calls:
         other = I64 if result == I32 else I32

@@ -605,7 +605,7 @@ class Draw:
 
     def names(self, one):
         """What a creep does: mostly what it has parts for."""
-        others = [name for name, action in ACTIONS.items() if name not in ("suicide", "move") and "controller" not in action.targets]
+        others = [name for name, action in ACTIONS.items() if name not in ("suicide", "move") and action.actor == "creep" and "controller" not in action.targets]
         able = [name for name in others if not ACTIONS[name].part or live(one, ACTIONS[name].part)]
         names = self.random.sample(able, min(len(able), self.random.choice((1, 2, 2, 3))))
         return names + ["move"] * self.chance(0.5) + ["suicide"] * self.chance(0.015)

@@ -184,15 +184,35 @@ def call_codes():
     parts, ranges, _ = action_tables()
     further, codes = further_codes(text, names), {}
     for action, (name, params, _) in defined_actions().items():
+        if action in OF_NO_CREEP:
+            codes[name] = codes_of_no_creep(action) + record_codes()
+            continue
         order = codes_in(block_of(text, "creep_checks"), names)
         # (an amount that the call doesn't take is 0, which is not negative)
         order += codes_in(block_of(text, "amount_checks"), names) if "I32" in params else []
         order += codes_in(block_of(text, "part_checks"), names) if action in parts else []
         order += codes_in(block_of(text, "target_checks"), names) if action in ranges else []
-        replies = text_of("crates/host_calls/specs/Replies.antt")
-        order += further.get(action, []) + codes_in(block_of(replies, "record_checks"), re.search(CODE_NAMES, replies)[1].split(", "))
-        codes[name] = order
+        codes[name] = order + further.get(action, []) + record_codes()
     return codes
+
+
+def record_codes():
+    """The code of the last check of each call of an action."""
+    replies = text_of("crates/host_calls/specs/Replies.antt")
+    return codes_in(block_of(replies, "record_checks"), re.search(CODE_NAMES, replies)[1].split(", "))
+
+
+# The actions of which no creep is the actor: the file of definitions with their checks, and the definitions there in their order. The
+# first check of a new site, that the room is seen, is the desk's.
+OF_NO_CREEP = {"CreateSite": ("Sites", ["room_checks", "tile_checks"]), "RemoveSite": ("Sites", ["removal_checks"]), "SpawnCreep": ("Spawns", ["spawn_checks"])}
+
+
+def codes_of_no_creep(action):
+    file, blocks = OF_NO_CREEP[action]
+    text = text_of(f"crates/world_rules/specs/{file}.antt")
+    names = re.search(CODE_NAMES, text)[1].split(", ")
+    room = re.findall(r"^site_code_in desk wish x y None = (\w+)$", text_of("crates/host_calls/specs/Replies.antt"), re.M) if action == "CreateSite" else []
+    return room + [code for block in blocks for code in codes_in(block_of(text, block), names)]
 
 
 def answered_codes():
@@ -344,6 +364,7 @@ def check_actions(text):
     note("the table of sites", differ("sites", [[name, *map(whole, numbers_)] for name, *numbers_ in rows], wanted))
     check_powers(text)
     check_levels(text)
+    check_spawning(text)
     check_overruling(text)
     check_steps(text)
 
@@ -418,6 +439,29 @@ def check_levels(text):
     wanted = [[level, total, time] for level, (total, time) in enumerate(zip([*totals, None], times, strict=True), 1)]
     rows = table_under(text, "| Level | The next wants | Time |")
     note("the table of levels", differ("levels", [[whole(level), whole(total) if total else None, whole(time)] for level, total, time in rows], wanted))
+
+
+def check_spawning(text):
+    """The tables of parts and of what a level allows say what the definitions do, and so do the sentences on new creeps and on sites."""
+    bodies, spawns = text_of("crates/game_tables/specs/Bodies.antt"), text_of("crates/world_rules/specs/Spawns.antt")
+    costs, known = (numbers([f"crates/game_tables/specs/{it}.antt"], name) for it, name in (("Bodies", "part_cost"), ("Numbers", "part_number")))
+    rows = table_under(text, "| Part | Its number | Costs | In a tick, while it has hits |")
+    note("the table of parts", differ("parts", {name.upper(): (int(number), int(cost)) for name, number, cost, _ in rows}, {it: (known[it], costs[it]) for it in known}))
+    counts = dict(re.findall(r"^counts ([A-Z]\w+) = ([\d ∷]+)∷ \[\]$", text_of("crates/game_tables/specs/Levels.antt"), re.M))
+    wanted = [list(row) for row in zip(*[[int(it) for it in counts[kind].split("∷")] for kind in ("Spawn", "Extension", "Storage", "Container", "Road")])]
+    rows = table_under(text, "| Room's level | Spawns | Extensions | Storages | Containers | Roads |")
+    note("the table of what a level allows", differ("counts", [[whole(it) for it in row] for row in rows], [[level, *row] for level, row in enumerate(wanted)]))
+    claiming, others = (f"{int(it):,}" for it in re.search(r"has_part Claim parts then (\d+) else (\d+)", bodies).groups())
+    most, sites = defined_number("game_tables/specs/Bodies.antt", "most_parts"), defined_number("game_tables/specs/Limits.antt", "most_sites")
+    ticks = re.search(r"timer = (\d+) \* length body", spawns)[1]
+    sentences = [
+        f"A spawn takes {ticks} ticks for each part",
+        f"It lives {others} ticks, with a claim part in its body {claiming}.",
+        f"A body is a list of 1 to {most} parts.",
+        f"A player has {sites} sites at most in all rooms together.",
+        f"are fewer than {sites} | -8 |",
+    ]
+    note_sentences(text, sentences)
 
 
 def check_overruling(text):
@@ -544,7 +588,7 @@ def check_streams(folder):
     check_outputs(folder, stream((0, 1, one)))
     status, out, _ = streamed(["--help"], folder)
     note("the help of upload_stream.py", differ("status", status, 0), None if b"TICK:PLAYER:FILE" in out else f"said {out!r}")
-    samples = {"one_player": ["dropper"], "harvest": ["harvester"], "walk": ["walker"], "fight": ["guard", "raider"]}
+    samples = {"one_player": ["dropper"], "harvest": ["harvester"], "walk": ["walker"], "fight": ["guard", "raider"], "colonies": ["colony", "colony"]}
     for name, players in samples.items():
         wanted = stream(*[(0, number, bytes_of(f"players/{player}.wasm")) for number, player in enumerate(players, 1)])
         note(f"worlds/{name}.uploads has players/{'.wasm and players/'.join(players)}.wasm", differ("stream", bytes_of(f"worlds/{name}.uploads"), wanted))
@@ -1218,7 +1262,9 @@ void loop(void) {
     sum += screeps_heal(1, 2) + screeps_ranged_heal(1, 2) + screeps_dismantle(1, 2) + screeps_attack(1, 2);
     sum += screeps_harvest(1, 2) + screeps_repair(1, 2) + screeps_build(1, 2);
     sum += screeps_ranged_mass_attack(1) + screeps_ranged_attack(1, 2) + screeps_suicide(1) + screeps_upgrade(1, 2);
-    sum += screeps_reserve(1, 2) + screeps_attack_controller(1, 2) + screeps_move(1, DIRECTION_TOP_LEFT);
+    sum += screeps_claim_controller(1, 2) + screeps_reserve(1, 2) + screeps_attack_controller(1, 2);
+    sum += screeps_create_site(0, 1, 2, KIND_ROAD) + screeps_remove_site(1) + screeps_spawn_creep(1, text, 3);
+    sum += screeps_move(1, DIRECTION_TOP_LEFT);
 }
 """
 

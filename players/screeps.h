@@ -19,15 +19,18 @@
  * something answers CODE_OK where it was recorded. Any other code says that nothing was recorded or changed. */
 enum {
     CODE_OK = 0,
-    CODE_NOT_OWNER = -1,            /* it isn't the player's */
-    CODE_NOT_FOUND = -5,            /* no such object is in sight */
-    CODE_NOT_ENOUGH_RESOURCES = -6, /* there isn't so much energy */
-    CODE_INVALID_TARGET = -7,       /* no such target is in sight, or it is none for this */
-    CODE_FULL = -8,                 /* there isn't so much room, or 4,096 intents are recorded in this tick */
-    CODE_NOT_IN_RANGE = -9,         /* the target is too far away */
-    CODE_INVALID_ARGS = -10,        /* an argument is out of its range */
-    CODE_TIRED = -11,               /* the creep is still tired of its last step */
-    CODE_NO_BODYPART = -12          /* the creep has no part for it that has hits */
+    CODE_NOT_OWNER = -1,               /* it isn't the player's */
+    CODE_BUSY = -4,                    /* the spawn makes a creep already */
+    CODE_NOT_FOUND = -5,               /* no such object or room is in sight */
+    CODE_NOT_ENOUGH_RESOURCES = -6,    /* there isn't so much energy */
+    CODE_INVALID_TARGET = -7,          /* no such target is in sight, or it is none for this; or a tile is none for this */
+    CODE_FULL = -8,                    /* there isn't so much room, or 4,096 intents are recorded in this tick */
+    CODE_NOT_IN_RANGE = -9,            /* the target is too far away */
+    CODE_INVALID_ARGS = -10,           /* an argument is out of its range */
+    CODE_TIRED = -11,                  /* the creep is still tired of its last step */
+    CODE_NO_BODYPART = -12,            /* the creep has no part for it that has hits */
+    CODE_ROOM_LEVEL_NOT_ENOUGH = -14,  /* the level of the room allows no such building, or no more of them */
+    CODE_GLOBAL_LEVEL_NOT_ENOUGH = -15 /* the player's global level allows no further controller */
 };
 
 /* ---- The player and the tick */
@@ -96,12 +99,12 @@ enum {
     FIELD_HITS_MAX = 7,
     FIELD_ENERGY = 8,       /* a creep's load is its energy */
     FIELD_CAPACITY = 9,     /* the most energy that it holds */
-    FIELD_TIMER = 10,       /* ticks: a source's to its renewal, a creep's to its end, a controller's to its downgrade */
+    FIELD_TIMER = 10,       /* ticks: a source's to its renewal, a creep's to its end, a controller's to its downgrade, a spawn's to its creep */
     FIELD_EXTRA = 11,       /* a controller's level, a creep's fatigue, the kind that a site becomes */
     FIELD_PROGRESS = 12,    /* of a controller to its next level, of a site to its building */
     FIELD_OTHER = 13,       /* who reserves a controller, or 0 */
     FIELD_OTHER_TICKS = 14, /* and for how many ticks */
-    FIELD_PARTS = 15,       /* how many parts its body has */
+    FIELD_PARTS = 15,       /* how many parts its body has, of a spawn the body of the creep that it makes */
     FIELD_PART = 100        /* FIELD_PART + i is part i, for i from 0 and below FIELD_PARTS */
 };
 
@@ -122,16 +125,18 @@ enum {
     KIND_SITE = 10 /* a building to come */
 };
 
+/* The parts of a creep, with what each costs. */
 enum {
-    PART_MOVE = 1,
-    PART_WORK = 2,
-    PART_CARRY = 3,
-    PART_ATTACK = 4,
-    PART_RANGED_ATTACK = 5,
-    PART_TOUGH = 6,
-    PART_HEAL = 7,
-    PART_CLAIM = 8
+    PART_MOVE = 1,          /* 50 */
+    PART_WORK = 2,          /* 100 */
+    PART_CARRY = 3,         /* 50 */
+    PART_ATTACK = 4,        /* 80 */
+    PART_RANGED_ATTACK = 5, /* 150 */
+    PART_TOUGH = 6,         /* 10 */
+    PART_HEAL = 7,          /* 250 */
+    PART_CLAIM = 8          /* 600 */
 };
+
 
 /* ---- The memory text: the only thing of a player that lasts from tick to tick, any bytes, at most MEMORY_MOST */
 
@@ -221,6 +226,11 @@ SCREEPS_CALL(ranged_attack) int screeps_ranged_attack(long long creep, long long
 /* The creep dies at the end of the tick, and what it carries falls on its tile. What comes below it does no more. */
 SCREEPS_CALL(suicide) int screeps_suicide(long long creep);
 
+/* Takes a controller within 1 tile for the player, who owns it from then on, at level 1. Or CODE_NO_BODYPART, CODE_INVALID_TARGET
+ * (somebody owns it, or another reserves it, too), CODE_GLOBAL_LEVEL_NOT_ENOUGH (he owns as many as his global level already, those that
+ * other creeps of his are to claim in this tick counted). */
+SCREEPS_CALL(claim_controller) int screeps_claim_controller(long long creep, long long target);
+
 /* Puts energy into an own controller within 3 tiles: 1 for each WORK part, as far as it carries that; one of level 8 takes 15 in a tick.
  * Each is a point, and one of what the next level wants; and the controller's time gets longer by 100 ticks. Or CODE_NO_BODYPART,
  * CODE_NOT_OWNER (the controller isn't the player's too), CODE_NOT_ENOUGH_RESOURCES (it carries nothing). */
@@ -233,6 +243,27 @@ SCREEPS_CALL(reserve) int screeps_reserve(long long creep, long long target);
 /* Takes from another player's controller within 1 tile 300 ticks of its time for each CLAIM part, or from his reservation 1 tick; 1 tick
  * is left. Or CODE_NO_BODYPART, CODE_INVALID_TARGET (no other player owns or reserves it, too). */
 SCREEPS_CALL(attack_controller) int screeps_attack_controller(long long creep, long long target);
+
+/* ---- What a player does without a creep */
+
+/* Makes a site for a building of a kind, KIND_SPAWN to KIND_ROAD, on a tile of a room in sight that is not at the border, x and y 1 to 48.
+ * Creeps build it. Or CODE_NOT_FOUND (the room is not in sight), CODE_INVALID_ARGS (another tile or kind), CODE_NOT_OWNER (another player owns
+ * or reserves the room's controller), CODE_ROOM_LEVEL_NOT_ENOUGH (a spawn, an extension or a storage where the controller isn't the player's;
+ * or the room has as many of the kind as its level allows, with sites, and with those recorded in this tick), CODE_INVALID_TARGET (a
+ * wall, or a source, a controller, a building or a site stands there, or a creep where the building would obstruct), CODE_FULL (the
+ * player has 100 sites, with those recorded in this tick; or 4,096 intents are recorded). */
+SCREEPS_CALL(create_site) int screeps_create_site(int room, int x, int y, int kind);
+
+/* Takes an own site away, with the work that is in it. Or CODE_NOT_FOUND (no site), CODE_NOT_OWNER, CODE_FULL. */
+SCREEPS_CALL(remove_site) int screeps_remove_site(long long site);
+
+/* A spawn of the player begins a creep of a body: so many bytes from an address on, each the number of a part, 1 to 50 of them.
+ * The own spawns and extensions of the room pay for it, and it comes after 3 ticks for each part. Or CODE_NOT_FOUND (no spawn),
+ * CODE_NOT_OWNER, CODE_BUSY (it makes a creep), CODE_INVALID_ARGS (no parts, too many, a byte that is none, or bytes that pass the end of the
+ * module's memory), CODE_NOT_ENOUGH_RESOURCES (those hold less than it costs), CODE_FULL. */
+SCREEPS_CALL(spawn_creep) int screeps_spawn_creep(long long spawn, const void *parts, unsigned length);
+
+/* ---- How a creep steps */
 
 /* Steps onto the tile that lies in a direction, after all that creeps do besides. What is no tile of the room, a wall, or one
  * with a source, a controller, a spawn, an extension or a storage is not refused here, and then the creep stays; so it does

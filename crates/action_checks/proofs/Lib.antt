@@ -1,1 +1,3 @@
+pub mod Allowed
 pub mod Passing
+pub mod Towards

@@ -49,9 +49,9 @@ done_where_all (check ∷ later) holds =
     let both = and_parts check.0 (all_hold later) holds in
     cond-true _ _ _ both.0 ∙ done_where_all later both.1
 
--- ---- no check of an action has the code Done
+-- ---- no check has the code Done
 
-abbrev HaveCodes : List Check → Type 0
+abbrev pub HaveCodes : List Check → Type 0
 HaveCodes list = AllByRecursion (λ (check : Check). check.1 ≢ Done) list
 
 have_both : (early late : List Check) → HaveCodes early → HaveCodes late → HaveCodes (early ++ late)
@@ -74,7 +74,7 @@ further_codes Pickup scene = (λ e. cc, tt)
 further_codes Harvest scene = (λ e. cc, (λ e. cc, tt))
 further_codes Repair scene = (λ e. cc, tt)
 further_codes Build scene = (λ e. cc, (λ e. cc, (λ e. cc, tt)))
-further_codes ClaimController scene = (λ e. cc, tt)
+further_codes ClaimController scene = (λ e. cc, (λ e. cc, tt))
 further_codes Upgrade scene = (λ e. cc, (λ e. cc, tt))
 further_codes Reserve scene = (λ e. cc, tt)
 further_codes AttackController scene = (λ e. cc, tt)
@@ -89,7 +89,7 @@ have_codes action scene =
     (target_codes (max_range action) action scene))
     (further_codes action scene)
 
-all_where_done : (list : List Check) → HaveCodes list → first_failing list ≡ Done → all_hold list ≡ true
+pub all_where_done : (list : List Check) → HaveCodes list → first_failing list ≡ Done → all_hold list ≡ true
 all_where_done [] have done = refl
 all_where_done (check ∷ later) have done =
     elim (cases_Bool check.0) [

@@ -1,2 +1,3 @@
 pub mod Scenes
+pub mod Plans
 pub mod inner

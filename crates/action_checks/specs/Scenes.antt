@@ -13,4 +13,6 @@ scene_view scene = record {
   around = unwrap_or (option_map (λ table. table.now.objects) scene.around) [];
   amount = scene.amount;
   least = scene.least;
+  claims = scene.claims;
+  level = scene.level;
 }

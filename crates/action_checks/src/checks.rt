@@ -25,6 +25,10 @@ pub struct Scene<'a> {
     pub amount: Option<u64>,
     /// How much there has to be at least.
     pub least: u64,
+    /// How many controllers the player owns, with those that his other creeps are to claim.
+    pub claims: u64,
+    /// The global level of the player.
+    pub level: u32,
 }
 
 /// The code of the first check that fails, and `Done` where all hold. It takes bounded time, but for the
@@ -135,7 +139,8 @@ fn check_further(action: Action, scene: &Scene) -> Result<(), Code>
         Action::Harvest => check_harvest(scene),
         Action::Repair => check_holds(1, scene.actor),
         Action::Build => check_build(scene),
-        Action::ClaimController | Action::Reserve => check_free(scene),
+        Action::ClaimController => check_claim(scene),
+        Action::Reserve => check_free(scene),
         Action::Upgrade => check_upgrade(scene),
         Action::AttackController => check_anothers(scene),
         Action::Move => check_rested(scene),
@@ -183,6 +188,18 @@ fn check_upgrade(scene: &Scene) -> Result<(), Code>
 {
     check_owned(scene)?;
     check_holds(1, scene.actor)
+}
+
+// The controller is free for the player, and he owns and wants fewer than his level.
+fn check_claim(scene: &Scene) -> Result<(), Code>
+    ensures { Passes result (further_checks Action.ClaimController (scene_view scene.now)) }
+{
+    check_free(scene)?;
+    if scene.claims < u64::from(scene.level) {
+        Ok(())
+    } else {
+        Err(Code::GlobalLevelNotEnough)
+    }
 }
 
 // Nobody owns the controller, and no other player reserves it.

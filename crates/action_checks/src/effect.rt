@@ -4,8 +4,7 @@ ghost use Rattle.room_terrain.specs.declared.terrain.Ground.{Ground};
 ghost use Rattle.object_store.specs.Tables.{find_object};
 ghost use Rattle.world_rules.specs.World.{shown};
 ghost use Rattle.world_rules.specs.RoomParts.{table_part};
-ghost use Rattle.world_rules.specs.Checks.{acting, both_of, holds_of, may_take_effect, parties};
-ghost use Rattle.action_checks.specs.inner.Passing.{placed_at};
+ghost use Rattle.world_rules.specs.Checks.{acting, both_of, holds_of, may_take_effect, parties, standing_at};
 
 use crate::checks::{Scene, all_hold};
 use game_tables::Action;
@@ -27,6 +26,8 @@ pub fn takes_effect(action: Action, room: &RoomTable, intent: &Intent) -> bool
         around: Some(room),
         amount: Some(intent.amount),
         least: 1,
+        claims: 0,
+        level: 1,
     };
     all_hold(action, &scene) && has_hits(scene.actor)
 }
@@ -64,10 +65,11 @@ fn both_of(creep: Option<&Object>, target: Option<&Object>) -> Option<(Object, O
     Some((*creep?, *target?))
 }
 
-// The object of an id in a room.
-fn standing(room: &RoomTable, id: u64) -> Option<Standing<'_>>
-    ensures { option_map shown result
-        ≡ option_map (placed_at room.now.index) (find_object id room.now.objects) }
+/// The object of an id in a room.
+pub fn standing(room: &RoomTable, id: u64) -> Option<Standing<'_>>
+    ensures part { (grounds : List Ground)
+        → option_map shown result ≡ standing_at (table_part grounds room.now) id }
+    ensures object { option_map (λ standing. standing.object.now) result ≡ find_object id room.now.objects }
 {
     match room.get(id) {
         Some(object) => Some(Standing {

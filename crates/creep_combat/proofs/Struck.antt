@@ -61,35 +61,6 @@ none_above id (object ∷ objects) above =
     let first : id < object.id = above.0 in
     cond-false _ _ _ (ne_eqb object.id id (λ e. omega (arith, e))) ∙ none_above id objects above.1
 
--- in a rising list, the last has the greatest id
-all_up_to : (first : Object) (objects : List Object) (last : Object) → IsRising (first ∷ objects) → slice_get (first ∷ objects) (length objects) ≡ Some last → AllByRecursion (λ o. o.id ≤ last.id) (first ∷ objects)
-all_up_to first [] last rise is = let same : first ≡ last = cc in let ids = ap (λ (o : Object). o.id) same in (omega (arith, ids), tt)
-all_up_to first (second ∷ objects) last rise is =
-    let rest = all_up_to second objects last rise.1 is in
-    let next : second.id ≤ last.id = rest.0 in
-    let above : first.id < second.id = rise.0.0 in
-    (omega (arith, next, above), rest)
-
-pub all_below_last : (objects : List Object) (last : Object) → IsRising objects → slice_get objects (length objects - 1) ≡ Some last → AllByRecursion (λ o. o.id ≤ last.id) objects
-all_below_last [] last rise is = tt
-all_below_last (first ∷ objects) last rise is =
-    let place : length objects ≡ suc (length objects) - 1 = omega arith in
-    all_up_to first objects last rise (ap (slice_get (first ∷ objects)) place ∙ is)
-
-pub all_under : (n bound : ℕ) (objects : List Object) → n < bound → AllByRecursion (λ o. o.id ≤ n) objects → AllByRecursion (λ o. o.id < bound) objects
-all_under n bound [] below all = tt
-all_under n bound (object ∷ objects) below all = let first : object.id ≤ n = all.0 in (omega (arith, first, below), all_under n bound objects below all.1)
-
-has_last : (first : Object) (objects : List Object) → slice_get (first ∷ objects) (length objects) ≡ None → ⊥
-has_last first [] is = cc
-has_last first (second ∷ objects) is = has_last second objects is
-
-pub none_without_last : (objects : List Object) → slice_get objects (length objects - 1) ≡ None → objects ≡ []
-none_without_last [] is = refl
-none_without_last (first ∷ objects) is =
-    let place : length objects ≡ suc (length objects) - 1 = omega arith in
-    absurd (has_last first objects (ap (slice_get (first ∷ objects)) place ∙ is))
-
 -- ---- the sum of the blows
 
 -- what the blows on these objects sum to for an id

@@ -28,23 +28,12 @@ pub fn mass_attack(room: &mut RoomTable, intent: &Intent)
 {
     // The objects rise by their ids, and no sum of what was done to them passes its most.
     let _objects = room.objects();
-    let _greatest = greatest_id(room);
+    let _greatest = room.greatest_id();
     let Some(creep) = acting(Action::RangedMassAttack, room, intent) else {
         return;
     };
     let live = creep.body.live(Part::RangedAttack, creep.hits);
     strike_all(room, &creep, live);
-}
-
-// The greatest id of the objects, and 0 where there are none. So no id is 2^64 or more.
-fn greatest_id(room: &RoomTable) -> u64
-    ensures { AllByRecursion (λ object. object.id ≤ result) room.now.objects }
-{
-    let _objects = room.objects();
-    match room.nth(room.len().saturating_sub(1)) {
-        Some(object) => object.id,
-        None => 0,
-    }
 }
 
 // How far a mass attack reaches.

@@ -2,16 +2,15 @@
 ghost use Rattle.std.specs.Prelude.{◌≡◌, ◌<◌, ℕ, Some, IfSome, not, option_and_then, option_map};
 ghost use Rattle.std.specs.List.{AllByRecursion};
 ghost use Rattle.room_terrain.specs.Tiles.{tile};
-ghost use Rattle.object_store.specs.Tables.{IsOnTile, is_obstructed};
+ghost use Rattle.object_store.specs.Tables.{IsOnTile};
 ghost use Rattle.world_rules.specs.RoomParts.{table_part};
-ghost use Rattle.world_rules.specs.Moves.{is_open, is_open_ground, mover_of, mover_towards, tile_towards, direction_of};
+ghost use Rattle.world_rules.specs.Moves.{mover_of, mover_towards};
 ghost use Rattle.creep_move.specs.inner.Arrivals.{as_mover, ComesFrom, IsStepOf};
 
-use action_checks::takes_effect;
+use action_checks::{ahead, is_open, takes_effect};
 use game_tables::Action;
 use intent_book::Intent;
-use object_store::{Ground, Object, Place, RoomTable, Terrain};
-use room_terrain::{Direction, step};
+use object_store::{Object, RoomTable, Terrain};
 
 /// A creep that would step from the tile of a number to another.
 #[derive(Clone, Copy)]
@@ -68,50 +67,4 @@ fn toward(terrain: &Terrain, room: &RoomTable, creep: &Object, number: u64) -> O
         y,
         from: tile_number(creep.x, creep.y),
     })
-}
-
-// The tile in the direction of a number, where it is in the room.
-fn ahead(x: u8, y: u8, number: u64) -> Option<(u8, u8)>
-    ensures ahead { result ≡ option_and_then (λ to. tile_towards to x y) (direction_of number) }
-    ensures inside { IfSome result (λ at. (at.0 < 50) × (at.1 < 50)) }
-{
-    let Some(to) = direction(number) else {
-        return None;
-    };
-    let at = Place { room: 0, x, y };
-    let Some(next) = step(at, to) else {
-        return None;
-    };
-    Some((next.x, next.y))
-}
-
-// The direction of a number.
-fn direction(number: u64) -> Option<Direction>
-    ensures { result ≡ direction_of number }
-{
-    if number > 8 {
-        return None;
-    }
-    Direction::of_number(number as u8)
-}
-
-// Whether a player's creep may stand on a tile.
-fn is_open(terrain: &Terrain, room: &RoomTable, player: u32, x: u8, y: u8) -> bool
-    requires column { x < 50 }
-    requires row { y < 50 }
-    ensures { result ≡ is_open (table_part terrain.now room.now) player (x, y) }
-{
-    // The objects rise by their ids, so that those of the room's part are those of its table.
-    let _rising = room.objects();
-    is_open_ground(terrain.at(x, y)) && !room.obstructed(x, y, player)
-}
-
-// Whether a creep can stand on a ground.
-fn is_open_ground(surface: Ground) -> bool
-    ensures { result ≡ is_open_ground (Some surface) }
-{
-    match surface {
-        Ground::Wall => false,
-        _ => true,
-    }
 }

@@ -121,7 +121,7 @@ further_moved action scene actor target around same_actor same_target same_aroun
 
 module _ (scene : Scene) (actor target : Option Placed) (around : List Object) (amount : Option ℕ) (same_actor : scene.actor ≡ actor) (same_around : scene.around ≡ around) (some : 1 ≤ scene.least) where
   abbrev again : Scene
-  again = record { player = scene.player; actor = actor; target = target; around = around; amount = amount; least = 1 }
+  again = record { player = scene.player; actor = actor; target = target; around = around; amount = amount; least = 1; claims = scene.claims; level = scene.level }
 
   -- with the same target
   beside : (action : Action) → scene.target ≡ target → all_hold (further_checks action scene) ≡ true → all_hold (further_checks action again) ≡ true

@@ -4,3 +4,5 @@ pub mod Levels
 pub mod Replying
 pub mod SeenStands
 pub mod Wanting
+pub mod Parts
+pub mod Planned

@@ -6,7 +6,7 @@ use Rattle.std.proofs.lemmas.List.{length-take}
 use Rattle.game_tables.specs.Codes.{code_number}
 use Rattle.game_tables.specs.Limits.{most_memory}
 use Rattle.game_tables.specs.declared.action.Action.{Action}
-use Rattle.game_tables.specs.declared.action.Action.TheVariants.{DropLoad, Transfer, Withdraw, Pickup, Heal, RangedHeal, Dismantle, Attack, Harvest, Repair, Build, RangedMassAttack, RangedAttack, Suicide, Upgrade, Reserve, AttackController, Move}
+use Rattle.game_tables.specs.declared.action.Action.TheVariants.{DropLoad, Transfer, Withdraw, Pickup, Heal, RangedHeal, Dismantle, Attack, Harvest, Repair, Build, RangedMassAttack, RangedAttack, Suicide, ClaimController, Upgrade, Reserve, AttackController, Move}
 use Rattle.game_tables.specs.declared.code.Code.{Code}
 use Rattle.game_tables.specs.declared.code.Code.TheVariants.{Done, InvalidArgs}
 use Rattle.intent_book.specs.declared.intent.Intent.{Intent}
@@ -15,7 +15,7 @@ use Rattle.host_calls.specs.declared.call.Call.{Call}
 use Rattle.host_calls.specs.declared.call.Call.TheVariants as call
 use Rattle.host_calls.specs.Calls.{call_at, row}
 use Rattle.host_calls.specs.Desks.{Desk, argument, unsigned_32}
-use Rattle.host_calls.specs.Replies.{Reply, act_code, act_reply, fits, read_reply, reply, reply_of, reply_to, told, wanted, wish_of, write_reply}
+use Rattle.host_calls.specs.Replies.{Reply, act_code, act_reply, body_in, claim_code, fits, read_reply, removal_code, removal_wish, reply, reply_of, reply_to, site_code, site_wish, spawn_code, spawn_wish, told, wanted, wish_of, write_reply}
 
 -- The memory behind a reply has the size and the limit of that before it.
 abbrev pub KeepsSize : Memory → Reply → Type 0
@@ -71,6 +71,15 @@ reply_of_size call.Reserve desk memory args =
     act_size Reserve desk memory (argument args 0) (argument args 1) (pos 0)
 reply_of_size call.AttackController desk memory args =
     act_size AttackController desk memory (argument args 0) (argument args 1) (pos 0)
+reply_of_size call.ClaimController desk memory args =
+    wanted_size desk memory (wish_of ClaimController desk.sight.account.player (argument args 0) (argument args 1) (pos 0)) (claim_code desk (argument args 0) (argument args 1))
+reply_of_size call.CreateSite desk memory args =
+    wanted_size desk memory (site_wish desk.sight.account.player (argument args 0) (argument args 1) (argument args 2) (argument args 3)) (site_code desk (argument args 0) (argument args 1) (argument args 2) (argument args 3))
+reply_of_size call.RemoveSite desk memory args =
+    wanted_size desk memory (removal_wish desk.sight.account.player (argument args 0)) (removal_code desk (argument args 0))
+reply_of_size call.SpawnCreep desk memory args =
+    let body = body_in memory (unsigned_32 (argument args 1)) (unsigned_32 (argument args 2)) in
+    wanted_size desk memory (spawn_wish desk.sight.account.player (argument args 0) body) (spawn_code desk (argument args 0) body)
 reply_of_size call.Move desk memory args =
     act_size Move desk memory (argument args 0) (pos 0) (argument args 1)
 reply_of_size _ desk memory args = (refl, refl)
@@ -151,6 +160,15 @@ reply_of_unchanged call.Reserve desk memory args =
     act_unchanged Reserve desk memory (argument args 0) (argument args 1) (pos 0)
 reply_of_unchanged call.AttackController desk memory args =
     act_unchanged AttackController desk memory (argument args 0) (argument args 1) (pos 0)
+reply_of_unchanged call.ClaimController desk memory args =
+    wanted_unchanged desk memory (wish_of ClaimController desk.sight.account.player (argument args 0) (argument args 1) (pos 0)) (claim_code desk (argument args 0) (argument args 1))
+reply_of_unchanged call.CreateSite desk memory args =
+    wanted_unchanged desk memory (site_wish desk.sight.account.player (argument args 0) (argument args 1) (argument args 2) (argument args 3)) (site_code desk (argument args 0) (argument args 1) (argument args 2) (argument args 3))
+reply_of_unchanged call.RemoveSite desk memory args =
+    wanted_unchanged desk memory (removal_wish desk.sight.account.player (argument args 0)) (removal_code desk (argument args 0))
+reply_of_unchanged call.SpawnCreep desk memory args =
+    let body = body_in memory (unsigned_32 (argument args 1)) (unsigned_32 (argument args 2)) in
+    wanted_unchanged desk memory (spawn_wish desk.sight.account.player (argument args 0) body) (spawn_code desk (argument args 0) body)
 reply_of_unchanged call.Move desk memory args =
     act_unchanged Move desk memory (argument args 0) (pos 0) (argument args 1)
 reply_of_unchanged _ desk memory args = λ _. (refl, refl)

@@ -14,7 +14,8 @@ all_calls =
     ∷ call.MemoryLength ∷ call.MemoryRead ∷ call.MemoryWrite ∷ call.DropLoad ∷ call.Transfer ∷ call.Withdraw
     ∷ call.Pickup ∷ call.Heal ∷ call.RangedHeal ∷ call.Dismantle ∷ call.Attack ∷ call.Harvest ∷ call.Repair
     ∷ call.Build ∷ call.RangedMassAttack ∷ call.RangedAttack ∷ call.Suicide
-    ∷ call.Upgrade ∷ call.Reserve ∷ call.AttackController ∷ call.Move ∷ []
+    ∷ call.ClaimController ∷ call.Upgrade ∷ call.Reserve ∷ call.AttackController
+    ∷ call.CreateSite ∷ call.RemoveSite ∷ call.SpawnCreep ∷ call.Move ∷ []
 
 -- the call of a number
 abbrev pub call_at : ℕ → Option Call
@@ -58,10 +59,17 @@ row call.Build = record { name = codes "build"; params = I64 ∷ I64 ∷ []; res
 row call.RangedMassAttack = record { name = codes "ranged_mass_attack"; params = I64 ∷ []; result = I32 }
 row call.RangedAttack = record { name = codes "ranged_attack"; params = I64 ∷ I64 ∷ []; result = I32 }
 row call.Suicide = record { name = codes "suicide"; params = I64 ∷ []; result = I32 }
+row call.ClaimController =
+    record { name = codes "claim_controller"; params = I64 ∷ I64 ∷ []; result = I32 }
 row call.Upgrade = record { name = codes "upgrade"; params = I64 ∷ I64 ∷ []; result = I32 }
 row call.Reserve = record { name = codes "reserve"; params = I64 ∷ I64 ∷ []; result = I32 }
 row call.AttackController =
     record { name = codes "attack_controller"; params = I64 ∷ I64 ∷ []; result = I32 }
+row call.CreateSite =
+    record { name = codes "create_site"; params = I32 ∷ I32 ∷ I32 ∷ I32 ∷ []; result = I32 }
+row call.RemoveSite = record { name = codes "remove_site"; params = I64 ∷ []; result = I32 }
+row call.SpawnCreep =
+    record { name = codes "spawn_creep"; params = I64 ∷ I32 ∷ I32 ∷ []; result = I32 }
 row call.Move = record { name = codes "move"; params = I64 ∷ I32 ∷ []; result = I32 }
 
 -- The signature is that of the call.

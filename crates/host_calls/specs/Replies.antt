@@ -1,10 +1,15 @@
 -- What each call answers, and what it changes.
-use Rattle.std.specs.Prelude.{◌≡◌, ℕ, ◌+◌, ◌&&◌, ℤ, pos, ◌+ℤ◌, ◌*ℤ◌, nat_le, nat_eq, Bool, if◌then◌else◌, List, [], ◌∷◌, ◌++◌, length, Option, Some, None, option_map, option_and_then, slice_get}
+use Rattle.std.specs.Prelude.{◌≡◌, ℕ, ◌+◌, ◌*◌, ◌==◌, ◌&&◌, nat_lt, ℤ, pos, ◌+ℤ◌, ◌*ℤ◌, nat_le, nat_eq, Bool, if◌then◌else◌, List, [], ◌∷◌, ◌++◌, length, Option, Some, None, option_map, option_and_then, slice_get}
+use Rattle.std.specs.List.{find}
 use Rattle.std.specs.Option.{unwrap_or}
 use Rattle.game_tables.specs.Codes.{code_number}
+use Rattle.game_tables.specs.Bodies.{most_parts}
 use Rattle.game_tables.specs.Limits.{most_memory}
 use Rattle.game_tables.specs.declared.action.Action.{Action}
-use Rattle.game_tables.specs.declared.action.Action.TheVariants.{DropLoad, Transfer, Withdraw, Pickup, Heal, RangedHeal, Dismantle, Attack, Harvest, Repair, Build, RangedMassAttack, RangedAttack, Suicide, Upgrade, Reserve, AttackController, Move}
+use Rattle.game_tables.specs.declared.action.Action.TheVariants.{DropLoad, Transfer, Withdraw, Pickup, Heal, RangedHeal, Dismantle, Attack, Harvest, Repair, Build, RangedMassAttack, RangedAttack, Suicide, ClaimController, Upgrade, Reserve, AttackController, CreateSite, RemoveSite, SpawnCreep, Move}
+use Rattle.game_tables.specs.Numbers.{part_number}
+use Rattle.game_tables.specs.declared.kind.Part.{Part}
+use Rattle.game_tables.specs.declared.kind.Part.TheVariants as parts
 use Rattle.game_tables.specs.declared.code.Code.{Code}
 use Rattle.game_tables.specs.declared.code.Code.TheVariants.{Done, NotFound, Full, InvalidArgs}
 use Rattle.room_terrain.specs.Tiles.{ground_number}
@@ -12,6 +17,10 @@ use Rattle.room_terrain.specs.declared.name.RoomName.{RoomName}
 use Rattle.object_store.specs.declared.object.Object.{Object}
 use Rattle.world_rules.specs.World.{Placed}
 use Rattle.world_rules.specs.Checks.{Check, Scene, checks, first_failing, least_of}
+use Rattle.world_rules.specs.Sites.{Plan, removal_checks, site_checks}
+use Rattle.world_rules.specs.Spawns.{spawn_checks}
+use Rattle.counted_record.specs.Others.{others_in, others_of}
+use Rattle.sight_census.specs.Censuses.{census_of}
 use Rattle.visible_view.specs.Sights.{SeenRoom, Sight}
 use Rattle.visible_view.specs.Fields.{field_at, ground_at, objects_at, place_of, room_at}
 use Rattle.intent_book.specs.Records.{accepts, put_last}
@@ -140,6 +149,8 @@ scene_seen sight id target amount = record {
   around = objects_around sight (seen sight id);
   amount = amount_of amount;
   least = least_of (amount_of amount);
+  claims = 0;
+  level = 1;
 }
 
 -- what every call checks last: that the record takes the entry
@@ -239,6 +250,132 @@ attack_controller_reply desk memory id target = act_reply AttackController desk 
 abbrev pub move_reply : Desk → Memory → ℤ → ℤ → Reply
 move_reply desk memory id direction = act_reply Move desk memory id (pos 0) direction
 
+-- ---- claims
+
+-- What the checks of a claim read beside: the controllers that the player owns and those that other creeps of
+-- his are to claim, and his global level.
+abbrev pub claim_seen : Desk → ℤ → ℤ → Scene
+claim_seen desk id target = record (scene_seen desk.sight id target (pos 0)) {
+  claims = (census_of desk.sight).controllers
+      + length (others_of ClaimController (id_of id) desk.book.entries);
+  level = global_level desk.sight.account.points;
+}
+
+abbrev pub claim_code : Desk → ℤ → ℤ → Code
+claim_code desk id target =
+    first_failing
+    (checks ClaimController (claim_seen desk id target)
+    ++ record_checks desk (wish_of ClaimController desk.sight.account.player id target (pos 0)))
+
+abbrev pub claim_reply : Desk → Memory → ℤ → ℤ → Reply
+claim_reply desk memory id target =
+    wanted desk memory (wish_of ClaimController desk.sight.account.player id target (pos 0))
+    (claim_code desk id target)
+
+-- ---- sites
+
+-- a number of an argument, and 0 where it is negative
+abbrev pub number_of : ℤ → ℕ
+number_of value = unwrap_or (amount_of value) 0
+
+-- a coordinate of a tile of a room, and else 0, where no site may be
+abbrev pub coordinate_of : ℤ → ℕ
+coordinate_of value = if nat_lt (number_of value) 50 then number_of value else 0
+
+-- what a call for a site wants: the actor is the tile, and the amount the number of the kind
+abbrev pub site_wish : ℕ → ℤ → ℤ → ℤ → ℤ → Intent
+site_wish player room x y kind = record {
+  player = player;
+  action = CreateSite;
+  actor = number_of room * 2500 + coordinate_of y * 50 + coordinate_of x;
+  target = 0;
+  amount = number_of kind;
+  body = [];
+}
+
+-- what its checks read: the room as it is seen, and what the record has for other tiles
+abbrev pub plan_seen : Desk → Intent → ℤ → ℤ → SeenRoom → Plan
+plan_seen desk wish x y room = record {
+  player = desk.sight.account.player;
+  x = coordinate_of x;
+  y = coordinate_of y;
+  number = wish.amount;
+  grounds = room.grounds;
+  around = objects_at desk.sight room.index;
+  recorded = length (others_in wish.actor wish.amount desk.book.entries);
+  sites = desk.sight.sites + length (others_of CreateSite wish.actor desk.book.entries);
+}
+
+abbrev pub site_code_in : Desk → Intent → ℤ → ℤ → Option SeenRoom → Code
+site_code_in desk wish x y None = NotFound
+site_code_in desk wish x y (Some room) =
+    first_failing (site_checks (plan_seen desk wish x y room) ++ record_checks desk wish)
+
+abbrev pub site_code : Desk → ℤ → ℤ → ℤ → ℤ → Code
+site_code desk room x y kind =
+    site_code_in desk (site_wish desk.sight.account.player room x y kind) x y (seen_room desk room)
+
+abbrev pub site_reply : Desk → Memory → ℤ → ℤ → ℤ → ℤ → Reply
+site_reply desk memory room x y kind =
+    wanted desk memory (site_wish desk.sight.account.player room x y kind) (site_code desk room x y kind)
+
+abbrev pub removal_wish : ℕ → ℤ → Intent
+removal_wish player id =
+    record { player = player; action = RemoveSite; actor = id_of id; target = 0; amount = 0; body = [] }
+
+abbrev pub removal_code : Desk → ℤ → Code
+removal_code desk id =
+    first_failing
+    (removal_checks desk.sight.account.player (seen desk.sight id)
+    ++ record_checks desk (removal_wish desk.sight.account.player id))
+
+abbrev pub removal_reply : Desk → Memory → ℤ → Reply
+removal_reply desk memory id =
+    wanted desk memory (removal_wish desk.sight.account.player id) (removal_code desk id)
+
+-- ---- creeps that spawns make
+
+-- the part of a number
+abbrev pub part_of : ℕ → Option Part
+part_of number =
+    find (λ part. part_number part == number)
+    (parts.Move ∷ parts.Work ∷ parts.Carry ∷ parts.Attack ∷ parts.RangedAttack ∷ parts.Tough ∷ parts.Heal
+    ∷ parts.Claim ∷ [])
+
+-- the parts of a span of bytes, where each is the number of one
+abbrev pub parts_of : List ℕ → Option (List Part)
+parts_of [] = Some []
+parts_of (byte ∷ later) =
+    option_and_then (λ part. option_map (λ others. part ∷ others) (parts_of later)) (part_of byte)
+
+-- the body in a span of the module's memory: there is none where the span passes its end or is of more bytes
+-- than a body may have
+abbrev pub body_in : Memory → ℕ → ℕ → Option (List Part)
+body_in memory at n =
+    if nat_le n most_parts && fits memory at n then parts_of (span memory at n) else None
+
+abbrev pub spawn_wish : ℕ → ℤ → Option (List Part) → Intent
+spawn_wish player id body = record {
+  player = player;
+  action = SpawnCreep;
+  actor = id_of id;
+  target = 0;
+  amount = 0;
+  body = unwrap_or body [];
+}
+
+abbrev pub spawn_code : Desk → ℤ → Option (List Part) → Code
+spawn_code desk id body =
+    let spawn : Option Placed = seen desk.sight id in
+    first_failing
+    (spawn_checks desk.sight.account.player spawn (objects_around desk.sight spawn) body
+    ++ record_checks desk (spawn_wish desk.sight.account.player id body))
+
+abbrev pub spawn_reply : Desk → Memory → ℤ → ℕ → ℕ → Reply
+spawn_reply desk memory id at n =
+    let body : Option (List Part) = body_in memory at n in
+    wanted desk memory (spawn_wish desk.sight.account.player id body) (spawn_code desk id body)
+
 -- ---- all calls
 
 abbrev pub reply_of : Call → Desk → Memory → List ℤ → Reply
@@ -277,10 +414,16 @@ reply_of call.RangedMassAttack desk memory args = mass_attack_reply desk memory 
 reply_of call.RangedAttack desk memory args =
     ranged_attack_reply desk memory (argument args 0) (argument args 1)
 reply_of call.Suicide desk memory args = suicide_reply desk memory (argument args 0)
+reply_of call.ClaimController desk memory args = claim_reply desk memory (argument args 0) (argument args 1)
 reply_of call.Upgrade desk memory args = upgrade_reply desk memory (argument args 0) (argument args 1)
 reply_of call.Reserve desk memory args = reserve_reply desk memory (argument args 0) (argument args 1)
 reply_of call.AttackController desk memory args =
     attack_controller_reply desk memory (argument args 0) (argument args 1)
+reply_of call.CreateSite desk memory args =
+    site_reply desk memory (argument args 0) (argument args 1) (argument args 2) (argument args 3)
+reply_of call.RemoveSite desk memory args = removal_reply desk memory (argument args 0)
+reply_of call.SpawnCreep desk memory args =
+    spawn_reply desk memory (argument args 0) (unsigned_32 (argument args 1)) (unsigned_32 (argument args 2))
 reply_of call.Move desk memory args = move_reply desk memory (argument args 0) (argument args 1)
 
 -- the reply to a call with as many arguments as its type has, and to any other

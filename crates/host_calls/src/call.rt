@@ -35,13 +35,17 @@ pub enum Call {
     RangedMassAttack,
     RangedAttack,
     Suicide,
+    ClaimController,
     Upgrade,
     Reserve,
     AttackController,
+    CreateSite,
+    RemoveSite,
+    SpawnCreep,
     Move,
 }
 
-static CALLS: [Call; 34] = [
+static CALLS: [Call; 38] = [
     Call::Tick,
     Call::Me,
     Call::Allowance,
@@ -72,9 +76,13 @@ static CALLS: [Call; 34] = [
     Call::RangedMassAttack,
     Call::RangedAttack,
     Call::Suicide,
+    Call::ClaimController,
     Call::Upgrade,
     Call::Reserve,
     Call::AttackController,
+    Call::CreateSite,
+    Call::RemoveSite,
+    Call::SpawnCreep,
     Call::Move,
 ];
 

@@ -3,18 +3,25 @@ ghost use Rattle.std.specs.Prelude.{◌≡◌, ◌≤◌, [], length, IfOk};
 ghost use Rattle.world_rules.specs.Checks.{first_failing as failing};
 ghost use Rattle.game_tables.specs.Codes.{code_number};
 ghost use Rattle.game_tables.specs.Limits.{most_memory};
-ghost use Rattle.host_calls.specs.Replies.{act_code, answers, or_code as or_else, read_reply, record_checks, reply, reply_of, wish_of as wanted, write_reply};
+ghost use Rattle.std.specs.Prelude.{pos, option_map};
+ghost use Rattle.game_tables.specs.declared.action.Action.TheVariants.{ClaimController};
+ghost use Rattle.world_rules.specs.World.{shown};
+ghost use Rattle.action_checks.specs.Plans.{held_for};
+ghost use Rattle.host_calls.specs.Replies.{act_code, answers, body_in as body_read, claim_code, objects_around, or_code as or_else, read_reply, record_checks, removal_code as code_of_removal, removal_wish as wanted_removal, reply, reply_of, site_code as code_of_site, site_wish as wanted_site, spawn_code as code_of_creep, spawn_wish as wanted_creep, wish_of as wanted, write_reply};
 ghost use Rattle.host_calls.specs.inner.Wishes.{named, recorded};
 
 use crate::call::Call;
-use crate::number::{answer_of, argument, level_of, name_number, unsigned_32};
-use crate::seen::{allowance, field, ground, place, room_index, room_name};
+use crate::making::{body_in, plan_seen, removal_wish, site_wish, spawn_wish};
+use crate::number::{answer_of, argument, id_of, level_of, name_number, unsigned_32};
+use crate::seen::{allowance, field, ground, place, room_index, room_name, standing};
 use crate::signatures::parameters;
 use crate::wish::{scene_seen, wish_of};
-use action_checks::first_failing;
-use game_tables::{Action, Code, most_memory};
+use action_checks::{Scene, first_failing, removal_code, site_code, spawning_code};
+use counted_record::CountedRecord;
+use game_tables::{Action, Body, Code, most_memory};
 use intent_book::{Intent, Recorded};
-use object_store::{Bytes, RoomName};
+use object_store::{Bytes, RoomName, Standing};
+use sight_census::Census;
 pub use std::alloc::AllocError as NoMemory;
 use std::alloc::Global;
 use std::marker::Model;
@@ -33,13 +40,15 @@ use wasm_store::Pages;
 pub struct Desk<'a, 'v> {
     view: &'a View<'v>,
     level: u32,
-    book: Recorded,
+    book: CountedRecord,
+    census: Census,
     memory: Vec<u8>,
 }
 
 impl<'a, 'v> Model for Desk<'a, 'v> {
     ghost use Rattle.std.specs.Prelude.{◌≡◌, ◌≤◌, length, vec_capacity};
     ghost use Rattle.game_tables.specs.Limits.{most_memory};
+    ghost use Rattle.sight_census.specs.Censuses.{census_of};
     ghost use Rattle.host_calls.specs.Desks.{Desk, global_level};
 
     ghost Value = { Desk };
@@ -48,7 +57,7 @@ impl<'a, 'v> Model for Desk<'a, 'v> {
 
     ghost invariant = { λ d. (d.book.player ≡ d.view.now.account.player)
         × (d.level ≡ global_level d.view.now.account.points) × (length d.memory.items ≤ most_memory)
-        × (most_memory ≤ vec_capacity d.memory) };
+        × (most_memory ≤ vec_capacity d.memory) × (d.census ≡ census_of d.view.now) };
 }
 
 impl<'a, 'v> Desk<'a, 'v> {
@@ -73,7 +82,8 @@ impl<'a, 'v> Desk<'a, 'v> {
         Ok(Desk {
             view,
             level: level_of(view.account().points),
-            book: Recorded::reserve(alloc, player)?,
+            book: CountedRecord::reserve(alloc, player)?,
+            census: Census::of(alloc, view)?,
             memory: text,
         })
     }
@@ -99,9 +109,10 @@ impl<'a, 'v> Desk<'a, 'v> {
             view: _,
             level: _,
             book,
+            census: _,
             memory,
         } = self;
-        (book, Bytes::from_vec(memory))
+        (book.into_recorded(), Bytes::from_vec(memory))
     }
 
     // Answers a call with as many arguments as its type has.
@@ -143,9 +154,18 @@ impl<'a, 'v> Desk<'a, 'v> {
             Call::RangedMassAttack => told(self.act(Action::RangedMassAttack, first, 0, 0)),
             Call::RangedAttack => told(self.act(Action::RangedAttack, first, second, 0)),
             Call::Suicide => told(self.act(Action::Suicide, first, 0, 0)),
+            Call::ClaimController => told(self.claim(first, second)),
             Call::Upgrade => told(self.act(Action::Upgrade, first, second, 0)),
             Call::Reserve => told(self.act(Action::Reserve, first, second, 0)),
             Call::AttackController => told(self.act(Action::AttackController, first, second, 0)),
+            Call::CreateSite => told(self.create_site(first, second, third, argument(args, 3))),
+            Call::RemoveSite => told(self.remove_site(first)),
+            Call::SpawnCreep => told(self.spawn_creep(
+                first,
+                unsigned_32(second),
+                unsigned_32(third),
+                pages,
+            )),
             Call::Move => told(self.act(Action::Move, first, 0, second)),
         }
     }
@@ -203,6 +223,91 @@ impl<'a, 'v> Desk<'a, 'v> {
                 self.record(wish_of(action, player, id, target, amount))
             }
             code => code,
+        }
+    }
+
+    // Wants to claim a controller, where the checks hold of what is seen, and the player's controllers with those
+    // that other creeps of his are to claim are fewer than his level.
+    fn claim(&mut self, id: i64, target: i64) -> Code
+        ensures code { result ≡ claim_code self.old id target }
+        ensures desk { self.new ≡ recorded self.old
+            (wanted ClaimController self.old.sight.account.player id target (pos 0)) result }
+    {
+        let others = self.book.claims_of_others(id_of(id).unwrap_or(0));
+        let scene = Scene {
+            claims: u64::from(self.census.controllers()) + u64::from(others),
+            level: self.level,
+            ..scene_seen(self.view, id, target, 0)
+        };
+        match first_failing(Action::ClaimController, &scene) {
+            Code::Done => {
+                let player = self.view.account().player;
+                self.record(wish_of(Action::ClaimController, player, id, target, 0))
+            }
+            code => code,
+        }
+    }
+
+    // Wants a site on a tile of a room that is seen.
+    fn create_site(&mut self, room: i64, x: i64, y: i64, kind: i64) -> Code
+        ensures code { result ≡ code_of_site self.old room x y kind }
+        ensures desk { self.new ≡ recorded self.old
+            (wanted_site self.old.sight.account.player room x y kind) result }
+    {
+        let wish = site_wish(self.view.account().player, room, x, y, kind);
+        let Some(plan) = plan_seen(self.view, &self.census, &self.book, &wish, room, x, y) else {
+            return Code::NotFound;
+        };
+        match site_code(&plan) {
+            Code::Done => self.record(wish),
+            code => code,
+        }
+    }
+
+    // Wants a site of the player's that is seen to be removed.
+    fn remove_site(&mut self, id: i64) -> Code
+        ensures code { result ≡ code_of_removal self.old id }
+        ensures desk { self.new ≡ recorded self.old (wanted_removal self.old.sight.account.player id) result }
+    {
+        let player = self.view.account().player;
+        match removal_code(player, standing(self.view, id)) {
+            Code::Done => self.record(removal_wish(player, id)),
+            code => code,
+        }
+    }
+
+    // Wants a spawn to make a creep of the body in a span of the module's memory.
+    fn spawn_creep(&mut self, id: i64, at: u64, len: u64, pages: &Pages) -> Code
+        ensures code { result ≡ code_of_creep self.old id (body_read pages.now at len) }
+        ensures desk { self.new ≡ recorded self.old
+            (wanted_creep self.old.sight.account.player id (body_read pages.now at len)) result }
+    {
+        let player = self.view.account().player;
+        let body = body_in(pages, at, len);
+        let spawn = standing(self.view, id);
+        let held = self.held_around(spawn);
+        match spawning_code(player, spawn, held, body.as_ref()) {
+            Code::Done => self.record(spawn_wish(player, id, body)),
+            code => code,
+        }
+    }
+
+    // What the player's spawns and extensions hold in the room of an object that is seen.
+    fn held_around(&self, placed: Option<Standing>) -> u32
+        ensures { result ≡ held_for self.now.sight.account.player
+            (objects_around self.now.sight (option_map shown placed.entry)) }
+    {
+        let Some(standing) = placed else {
+            return 0;
+        };
+        let Some(place) = self.view.place(standing.room) else {
+            // Nothing stands in a room that is not seen.
+            let _table = self.view.table(standing.room);
+            return 0;
+        };
+        match self.census.room(place) {
+            Some(told) => told.held,
+            None => 0,
         }
     }
 }

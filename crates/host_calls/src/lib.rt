@@ -4,6 +4,7 @@
 mod call;
 mod desk;
 mod laws;
+mod making;
 mod number;
 mod seen;
 mod signatures;

@@ -4,7 +4,7 @@ ghost use Rattle.host_calls.specs.Calls.{AreSignatures, all_calls, call_at, row}
 
 use wasm_module::{HostSig, ValType};
 
-static SIGNATURES: [HostSig; 34] = [
+static SIGNATURES: [HostSig; 38] = [
     HostSig {
         name: "tick",
         params: &[],
@@ -156,6 +156,11 @@ static SIGNATURES: [HostSig; 34] = [
         result: Some(ValType::I32),
     },
     HostSig {
+        name: "claim_controller",
+        params: &[ValType::I64, ValType::I64],
+        result: Some(ValType::I32),
+    },
+    HostSig {
         name: "upgrade",
         params: &[ValType::I64, ValType::I64],
         result: Some(ValType::I32),
@@ -168,6 +173,21 @@ static SIGNATURES: [HostSig; 34] = [
     HostSig {
         name: "attack_controller",
         params: &[ValType::I64, ValType::I64],
+        result: Some(ValType::I32),
+    },
+    HostSig {
+        name: "create_site",
+        params: &[ValType::I32, ValType::I32, ValType::I32, ValType::I32],
+        result: Some(ValType::I32),
+    },
+    HostSig {
+        name: "remove_site",
+        params: &[ValType::I64],
+        result: Some(ValType::I32),
+    },
+    HostSig {
+        name: "spawn_creep",
+        params: &[ValType::I64, ValType::I32, ValType::I32],
         result: Some(ValType::I32),
     },
     HostSig {

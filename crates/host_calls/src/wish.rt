@@ -58,6 +58,8 @@ pub fn scene_of<'v>(
       around = unwrap_or (option_map (λ table. table.now.objects) around.entry) [];
       amount = amount_of amount;
       least = least_of (amount_of amount);
+      claims = 0;
+      level = 1;
     } }
 {
     let amount = index_32(amount).map(u64::from);
@@ -68,6 +70,8 @@ pub fn scene_of<'v>(
         around,
         amount,
         least: amount.unwrap_or(0).max(1),
+        claims: 0,
+        level: 1,
     }
 }
 

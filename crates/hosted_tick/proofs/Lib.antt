@@ -5,3 +5,4 @@ pub mod Judged
 pub mod Ran
 pub mod After
 pub mod Idle
+pub mod Players

@@ -40,7 +40,7 @@ pub runs_one : (world : World) (modules : Modules) (account : Account) (bytes : 
 runs_one world modules account bytes run some emits =
     subst (λ (b : Option (List ℕ)). BeginWith b (sight_of world account) (AreRuns world modules []) (run ∷ [])) (sym some) (run, [], refl, emits, refl)
 
-all_append : {A : Type 0} (P : A → Type 0) (xs ys : List A) → AllByRecursion P xs → AllByRecursion P ys → AllByRecursion P (xs ++ ys)
+pub all_append : {A : Type 0} (P : A → Type 0) (xs ys : List A) → AllByRecursion P xs → AllByRecursion P ys → AllByRecursion P (xs ++ ys)
 all_append P [] ys all more = more
 all_append P (x ∷ xs) ys all more = (all.0, all_append P xs ys all.1 more)
 

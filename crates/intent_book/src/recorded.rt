@@ -1,10 +1,12 @@
 // The record of what one player wants of a tick.
 ghost use Rattle.std.specs.Prelude.{◌≡◌, ◌≤◌, ◌↔◌, IsTrue, [], length, IfOk, if◌then◌else◌, slice_get, option_copied, IsPermutation, IsSortedByKey};
-ghost use Rattle.std.specs.List.{IsDistinct};
-ghost use Rattle.intent_book.specs.Records.{AreOf, accepts, entries_bound, place, place_cmp, put_last, same_place};
+ghost use Rattle.std.specs.List.{IsDistinct, list_any};
+ghost use Rattle.game_tables.specs.Actions.{action_number};
+ghost use Rattle.intent_book.specs.Records.{AreOf, accepts, entries_bound, place, place_eq, place_cmp, put_last, same_place};
 
 use crate::entries::{Entries, Kept, fresh, keep, next_kept, pour};
 use crate::intent::{Intent, Intents};
+use game_tables::Action;
 use indexmap::IndexMap;
 use std::alloc::{AllocError as NoMemory, Global};
 use std::marker::Model;
@@ -82,6 +84,15 @@ impl Recorded {
         }
         self.next = order + 1;
         true
+    }
+
+    /// Whether there is an entry of this action and actor.
+    pub fn holds(&self, action: Action, actor: u64) -> bool
+        ensures { result ≡ list_any (λ entry. place_eq (action_number action, actor) (place entry)) self.now.entries }
+    {
+        self.entries
+            .get_index_of(&(action.number(), actor))
+            .is_some()
     }
 
     /// The number of entries.

@@ -15,3 +15,4 @@ pub mod Rising
 pub mod Keyed
 pub mod Moved
 pub mod Capped
+pub mod Greatest

@@ -1,13 +1,13 @@
--- What obstructs a tile, kind by kind.
+-- What obstructs a tile, and what keeps sites off it, kind by kind.
 use Rattle.std.proofs.Common.{◌≡◌, ℕ, ◌==◌, ◌&&◌, ◌||◌, Bool, true, false, List, [], ◌∷◌, option_map, is_some, refl, ap, ◌∙◌}
 use Rattle.std.specs.List.{find, list_any}
-use Rattle.game_tables.specs.Kinds.{obstructs}
+use Rattle.game_tables.specs.Kinds.{obstructs, stands_fixed}
 use Rattle.game_tables.specs.Numbers.{kind_number}
 use Rattle.game_tables.specs.declared.kind.Kind.{Kind}
 use Rattle.game_tables.specs.declared.kind.Kind.TheVariants.{Source, Controller, Creep, Spawn, Extension, Storage, Container, Road, Pile, Site}
 use Rattle.game_tables.specs.declared.kind.Kind.TheVariants as kinds
 use Rattle.object_store.specs.declared.object.Object.{Object}
-use Rattle.object_store.specs.Tables.{first_on, is_obstructed}
+use Rattle.object_store.specs.Tables.{first_on, is_obstructed, is_on}
 use Rattle.object_store.specs.inner.Kept.{is_kind_on}
 
 -- the first of a kind on a tile is there exactly where one is there
@@ -76,3 +76,45 @@ any_kind x y player objects =
     ∙ ap (λ n. n || list_any e objects) (any_or (λ o. (a o || b o) || c o) d objects)
     ∙ any_or (λ o. ((a o || b o) || c o) || d o) e objects
     ∙ (λ i. list_any (λ o. one_obstructs x y o i) objects)
+
+-- ---- what keeps sites off
+
+-- the kinds that stand fixed
+fixed : (k : Kind) → (((obstructs k || is_of k Container) || is_of k Road) || is_of k Site) ≡ stands_fixed k
+fixed kinds.Source = refl
+fixed kinds.Controller = refl
+fixed kinds.Creep = refl
+fixed kinds.Spawn = refl
+fixed kinds.Extension = refl
+fixed kinds.Storage = refl
+fixed kinds.Container = refl
+fixed kinds.Road = refl
+fixed kinds.Pile = refl
+fixed kinds.Site = refl
+fixed kinds.Tower = refl
+fixed kinds.Rampart = refl
+fixed kinds.Wall = refl
+fixed kinds.Tombstone = refl
+
+spread_four : (b v w x y : Bool) → ((((b && v) || (b && w)) || (b && x)) || (b && y)) ≡ (b && (((v || w) || x) || y))
+spread_four true v w x y = refl
+spread_four false v w x y = refl
+
+one_fixed : (x y : ℕ) (o : Object) → (((((o.x == x) && (o.y == y) && obstructs o.kind) || is_kind_on x y Container o) || is_kind_on x y Road o) || is_kind_on x y Site o) ≡ (is_on x y o && stands_fixed o.kind)
+one_fixed x y o =
+    spread_four ((o.x == x) && (o.y == y)) (obstructs o.kind) (is_of o.kind Container) (is_of o.kind Road) (is_of o.kind Site)
+    ∙ ap (λ b. (o.x == x) && (o.y == y) && b) (fixed o.kind)
+
+-- What stands fixed on a tile obstructs, or is of one of three kinds.
+pub any_fixed : (x y player : ℕ) (objects : List Object)
+    → (((is_obstructed x y player objects || list_any (is_kind_on x y Container) objects) || list_any (is_kind_on x y Road) objects) || list_any (is_kind_on x y Site) objects)
+    ≡ list_any (λ o. is_on x y o && stands_fixed o.kind) objects
+any_fixed x y player objects =
+    let a : Object → Bool = λ o. (o.x == x) && (o.y == y) && obstructs o.kind in
+    let b : Object → Bool = is_kind_on x y Container in
+    let c : Object → Bool = is_kind_on x y Road in
+    let d : Object → Bool = is_kind_on x y Site in
+    ap (λ n. (n || list_any c objects) || list_any d objects) (any_or a b objects)
+    ∙ ap (λ n. n || list_any d objects) (any_or (λ o. a o || b o) c objects)
+    ∙ any_or (λ o. (a o || b o) || c o) d objects
+    ∙ (λ i. list_any (λ o. one_fixed x y o i) objects)

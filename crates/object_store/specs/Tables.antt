@@ -1,8 +1,8 @@
 -- The objects of a room as they are stored.
-use Rattle.std.specs.Prelude.{◌≡◌, ℕ, ◌<◌, ◌≤◌, ◌==◌, ◌&&◌, nat_lt, nat_le, if◌then◌else◌, List, [], ◌∷◌, ◌++◌, map, Bool, false, Option, Some, None, not}
+use Rattle.std.specs.Prelude.{◌≡◌, ℕ, ◌<◌, ◌≤◌, ◌==◌, ◌&&◌, nat_lt, nat_le, max, if◌then◌else◌, List, [], ◌∷◌, ◌++◌, map, Bool, false, Option, Some, None, not}
 use Rattle.std.specs.List.{AllByRecursion, find, filter, list_any}
 use Rattle.std.specs.FinMap.{remove}
-use Rattle.game_tables.specs.Kinds.{obstructs}
+use Rattle.game_tables.specs.Kinds.{obstructs, stands_fixed}
 use Rattle.game_tables.specs.Numbers.{kind_number}
 use Rattle.game_tables.specs.declared.kind.Kind.{Kind}
 use Rattle.object_store.specs.declared.object.Object.{Object}
@@ -29,6 +29,11 @@ find_object id = find (λ o. o.id == id)
 -- the object of the least id that is at least this one
 abbrev pub find_from : ℕ → List Object → Option Object
 find_from id = find (λ o. nat_le id o.id)
+
+-- the greatest id of the objects, and 0 where there are none
+abbrev pub greatest_id : List Object → ℕ
+greatest_id [] = 0
+greatest_id (object ∷ later) = max object.id (greatest_id later)
 
 -- An object of this id stands there.
 abbrev pub HasId : ℕ → List Object → Type 0
@@ -96,3 +101,8 @@ is_barred x y player objects = false
 -- players.
 abbrev pub is_obstructed : ℕ → ℕ → ℕ → List Object → Bool
 is_obstructed x y player objects = list_any (λ o. (o.x == x) && (o.y == y) && obstructs o.kind) objects
+
+-- The tile has no source, controller, building or site. Under the first rules it is the same for sites of all
+-- kinds.
+abbrev pub is_site_free : ℕ → ℕ → Kind → List Object → Bool
+is_site_free x y kind objects = not (list_any (λ o. is_on x y o && stands_fixed o.kind) objects)

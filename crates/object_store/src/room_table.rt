@@ -3,7 +3,7 @@ ghost use Rattle.std.specs.Prelude.{◌≡◌, ◌==◌, ◌<◌, ◌≤◌, ◌
 ghost use Rattle.std.specs.List.{HoldsAt, list_any};
 ghost use Rattle.std.specs.Map.Iter.{ShowsInOrder, deref};
 ghost use Rattle.object_store.specs.declared.object.Object.{Object};
-ghost use Rattle.object_store.specs.Tables.{Table, IsRising, IsOnTile, HasId, HasNoId, AreTalliesOf, cover_of, find_object, find_from, is_barred, is_obstructed, with_object, with_new, removed, first_on, first_on_from};
+ghost use Rattle.object_store.specs.Tables.{Table, IsRising, IsOnTile, HasId, HasNoId, AreTalliesOf, cover_of, find_object, find_from, greatest_id, is_barred, is_obstructed, is_site_free, with_object, with_new, removed, first_on, first_on_from};
 ghost use Rattle.object_store.specs.Tallies.{damaged, healed, no_tallies, tally_of};
 ghost use Rattle.object_store.specs.inner.Kept.{is_kind_on};
 ghost use Rattle.object_store.specs.inner.Owners.{Covers};
@@ -203,6 +203,18 @@ impl RoomTable {
         Some(&self.slots[*slot as usize])
     }
 
+    /// The greatest id of the objects, and 0 where there are none.
+    pub fn greatest_id(&self) -> u64
+        ensures { result ≡ greatest_id self.now.objects }
+    {
+        // The objects rise by their ids.
+        let _rising = self.objects();
+        match self.nth(self.len().saturating_sub(1)) {
+            Some(object) => object.id,
+            None => 0,
+        }
+    }
+
     /// The object of an id.
     pub fn get(&self, id: u64) -> Option<&Object>
         ensures { option_map (λ o. o.now) result ≡ find_object id self.now.objects }
@@ -274,6 +286,17 @@ impl RoomTable {
             | self.stands(x, y, Kind::Spawn)
             | self.stands(x, y, Kind::Extension)
             | self.stands(x, y, Kind::Storage)
+    }
+
+    /// Whether a site may be made on a tile, as far as sources, controllers, buildings and sites stand in its way.
+    /// Under the first rules it is the same for sites of all kinds.
+    pub fn site_free(&self, x: u8, y: u8, kind: Kind) -> bool
+        ensures { result ≡ is_site_free x y kind self.now.objects }
+    {
+        !(self.obstructed(x, y, 0)
+            | self.stands(x, y, Kind::Container)
+            | self.stands(x, y, Kind::Road)
+            | self.stands(x, y, Kind::Site))
     }
 
     // Whether an object of a kind stands on a tile.

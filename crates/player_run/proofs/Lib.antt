@@ -4,3 +4,6 @@ pub mod Judged
 pub mod Refusing
 pub mod Runs
 pub mod Emitting
+pub mod HostKept
+pub mod Replied
+pub mod Owned

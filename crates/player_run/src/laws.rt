@@ -1,5 +1,6 @@
 // Laws of runs.
 ghost use Rattle.std.specs.Prelude.{◌≡◌, ◌≢◌, ℕ, List};
+ghost use Rattle.intent_book.specs.Records.{AreOf};
 ghost use Rattle.intent_book.specs.declared.player_run.PlayerRun.{PlayerRun};
 ghost use Rattle.intent_book.specs.declared.refusal.Refusal.{Refusal};
 ghost use Rattle.intent_book.specs.declared.refusal.Refusal.TheVariants.{Memory};
@@ -16,6 +17,13 @@ pub fn emitted_once()
         → EmitsBy link sight other → one ≡ other }
     ensures bytes { (bytes : List ℕ) (sight : Sight) (one other : PlayerRun) → Emits bytes sight one
         → Emits bytes sight other → one ≡ other }
+{}
+
+/// Says that a player wants in his own name alone: each intent of a run is of the player who sees what the
+/// module was run on. It does nothing when it runs.
+pub fn emitted_in_own_name()
+    ensures { (bytes : List ℕ) (sight : Sight) (run : PlayerRun) → Emits bytes sight run
+        → AreOf sight.account.player run.intents }
 {}
 
 /// Says that bytes have one judgement: they are accepted with one program, or refused for one reason,

@@ -7,6 +7,6 @@ mod outcome;
 mod run;
 
 pub use admission::{Refusal, admit};
-pub use laws::{emitted_once, judged_once};
+pub use laws::{emitted_in_own_name, emitted_once, judged_once};
 pub use run::{NoMemory, run_player, run_player_among};
 pub use wasm_link::Linked;

@@ -15,7 +15,7 @@ use Rattle.world_rules.proofs.Keys.{once_of_sorted, find_left}
 use Rattle.world_rules.proofs.Each.{kept, each_is_at_once}
 use Rattle.room_commutes.specs.Allowed.{AreCreepsOnce}
 use Rattle.room_commutes.specs.Standing.{AreKeyed, KeepsIds, AreCreepsApart}
-use Rattle.room_commutes.proofs.Members.{Has, has_contained, all_has, filter_has, found_has}
+use Rattle.room_commutes.proofs.Members.{Has, has_contained, all_has, filter_has, found_has, has_found, map_has}
 use Rattle.room_commutes.proofs.Greatest.{winners_apart, free_for, movers_allowed}
 
 -- ---- what is found
@@ -34,8 +34,14 @@ first_none test (y ∷ list) is = elim (test y) as (λ b. test y ≡ b → cond 
   | false ↦ λ fails got. or_from (test y) (list_any test list) fails (first_none test list got)
 ] refl is
 
-stands_has : (part : RoomPart) (id : ℕ) (object : Object) → get part.objects id ≡ Some object → Has (values part.objects) object
+-- what stands in a part is among its values, and each of these stands in it
+pub stands_has : (part : RoomPart) (id : ℕ) (object : Object) → get part.objects id ≡ Some object → Has (values part.objects) object
 stands_has part id object is = found_has (entries part.objects) id object (sym (get-entries part.objects id) ∙ is)
+
+pub has_stands : (part : RoomPart) (object : Object) → Has (values part.objects) object → (id : ℕ) × (get part.objects id ≡ Some object)
+has_stands part object has =
+    let entry = map_has (λ (e : ℕ × Object). e.1) (entries part.objects) object has in
+    (entry.0.0, get-entries part.objects entry.0.0 ∙ has_found (entries part.objects) (once_of_sorted (entries part.objects) (entries_sorted part.objects)) entry.0 entry.1 ∙ ap Some entry.2)
 
 -- ---- what a step leaves of an object
 

@@ -1,13 +1,14 @@
 -- Objects stand under their ids: in a stored world, through the changes of a room, and through the rules in force.
-use Rattle.std.proofs.Common.{◌≡◌, ℕ, suc, ◌+◌, ◌-◌, ◌*◌, ◌==◌, ◌^◌, min, Bool, true, false, cond, List, [], ◌∷◌, ◌++◌, map, Option, Some, None, option_and_then, refl, sym, ap, ◌∙◌}
+use Rattle.std.proofs.Common.{◌≡◌, ℕ, suc, ◌+◌, ◌-◌, ◌*◌, ◌==◌, ◌^◌, min, Bool, true, false, cond, List, [], ◌∷◌, ◌++◌, length, map, Option, Some, None, option_and_then, refl, sym, ap, ◌∙◌}
 use Rattle.std.specs.Prelude.{nat_lt, if◌then◌else◌, not}
 use Rattle.std.specs.Option.{option_or}
 use Rattle.std.specs.Ordering.{nat_cmp, eq_by_cmp}
 use Rattle.std.specs.Cmp.{nat_cmp_total, unsigned_tied}
-use Rattle.std.specs.FinMap.{FinMap, find, get, insert, get-insert, get-remove, get-from_entries}
+use Rattle.std.specs.FinMap.{FinMap, find, get, insert, values, get-insert, get-remove, get-from_entries}
 use Rattle.std.proofs.lemmas.Bool.{eqb-true}
+use Rattle.game_tables.specs.Bodies.{body_cost}
 use Rattle.game_tables.specs.declared.action.Action.{Action}
-use Rattle.game_tables.specs.declared.action.Action.TheVariants.{DropLoad, Transfer, Withdraw, Pickup, Dismantle, Harvest, Repair, Build, Suicide, ClaimController, Upgrade, Reserve, AttackController}
+use Rattle.game_tables.specs.declared.action.Action.TheVariants.{DropLoad, Transfer, Withdraw, Pickup, Dismantle, Harvest, Repair, Build, Suicide, ClaimController, Upgrade, Reserve, AttackController, CreateSite, RemoveSite, SpawnCreep}
 use Rattle.game_tables.specs.declared.kind.Kind.{Kind}
 use Rattle.object_store.specs.Stored.{Stored}
 use Rattle.object_store.specs.Stores.{building_of, free_room}
@@ -16,12 +17,14 @@ use Rattle.intent_book.specs.declared.intent.Intent.{Intent}
 use Rattle.world_rules.specs.World.{Placed, Frame, World, ListedRoom, placed, placed_from, listing_of, world_of}
 use Rattle.world_rules.specs.RoomParts.{RoomPart, controller_of, part_of, in_frame, in_room}
 use Rattle.world_rules.specs.Changes.{put, with_object, without, next_id, with_new}
-use Rattle.world_rules.specs.Checks.{acting, may_take_effect, parties, between, by_parties}
+use Rattle.world_rules.specs.Checks.{acting, all_hold, may_take_effect, parties, between, by_parties, standing_at}
 use Rattle.world_rules.specs.Drops.{pile_bound, pile_on, pile_of, fallen_on, fallen, wanted_of, dropped_by, dropped_of}
 use Rattle.world_rules.specs.Loads.{with_more, with_less, handed_over, transferred_by, withdrawn_by, taken_from, picked_up_by}
 use Rattle.world_rules.specs.Work.{live_work, harvested_by, hits_gained, repair_cost, repaired_by, total_of, work_put, building_on, advanced, built_as, built_by}
 use Rattle.world_rules.specs.Fights.{dismantled_by, salvage, without_hits}
 use Rattle.world_rules.specs.Claims.{claimed_by, claimed_for, controller_hurt, hurt_by, reserved_by, ticks_reserved, upgraded_by, work_taken, worked_on}
+use Rattle.world_rules.specs.Sites.{plan_of, removal_checks, site_checks, site_of}
+use Rattle.world_rules.specs.Spawns.{begun_with, paid, payers, share, spawn_checks}
 use Rattle.world_rules.specs.Steps.{by_object}
 use Rattle.world_rules.specs.Tick.{rule_of, book}
 use Rattle.world_rules.proofs.Parts.{put_in, only, except, get_objects_in, get_with_room}
@@ -123,9 +126,16 @@ dismantle_keyed creep building part keyed =
 upgrade_keyed : (creep controller : Object) → KeepsKeyed (upgraded_by creep controller)
 upgrade_keyed creep controller = let amount : ℕ = work_taken creep controller in two_keyed (worked_on amount controller) (with_less amount creep)
 
-end_keyed : (creep : Option Object) → KeepsKeyed (λ part. by_object without_hits part creep)
-end_keyed None part keyed = keyed
-end_keyed (Some creep) part keyed = keyed_object (record creep { hits = 0 }) part keyed
+by_object_keyed : (found : Option Object) (change : Object → RoomPart → RoomPart) → ((object : Object) → KeepsKeyed (change object)) → KeepsKeyed (λ part. by_object change part found)
+by_object_keyed None change keeps part keyed = keyed
+by_object_keyed (Some object) change keeps part keyed = keeps object part keyed
+
+pay_keyed : (ids : List ℕ) (cost : ℕ) → KeepsKeyed (paid ids cost)
+pay_keyed [] cost part keyed = keyed
+pay_keyed (id ∷ later) cost part keyed =
+    let amount : ℕ = share cost (get part.objects id) in
+    let pay : Object → RoomPart → RoomPart = λ object. with_object (with_less amount object) in
+    pay_keyed later (cost - amount) (by_object pay part (get part.objects id)) (by_object_keyed (get part.objects id) pay (λ object. keyed_object (with_less amount object)) part keyed)
 
 module _ (action : Action) (change : Object → Object → RoomPart → RoomPart) (keeps : (creep target : Object) → KeepsKeyed (change creep target)) where
   between_keyed : (found : Option (Object × Object)) → KeepsKeyed (between change found)
@@ -144,11 +154,19 @@ rule_keyed Harvest entry part keyed = parties_keyed Harvest harvested_by harvest
 rule_keyed Repair entry part keyed = parties_keyed Repair repaired_by repair_keyed entry part keyed
 rule_keyed Build entry part keyed = parties_keyed Build built_by (λ creep site. build_keyed creep site (building_of site)) entry part keyed
 rule_keyed Dismantle entry part keyed = parties_keyed Dismantle dismantled_by dismantle_keyed entry part keyed
-rule_keyed Suicide entry part keyed = end_keyed (acting Suicide entry part) part keyed
+rule_keyed Suicide entry part keyed = by_object_keyed (acting Suicide entry part) without_hits (λ creep. keyed_object (record creep { hits = 0 })) part keyed
 rule_keyed ClaimController entry part keyed = parties_keyed ClaimController (claimed_by entry.player) (λ creep controller. keyed_object (claimed_for entry.player controller)) entry part keyed
 rule_keyed Upgrade entry part keyed = parties_keyed Upgrade upgraded_by upgrade_keyed entry part keyed
 rule_keyed Reserve entry part keyed = parties_keyed Reserve (reserved_by entry.player) (λ creep controller. keyed_object (record controller { other = entry.player; other_ticks = ticks_reserved creep controller })) entry part keyed
 rule_keyed AttackController entry part keyed = parties_keyed AttackController hurt_by (λ creep controller. keyed_object (controller_hurt creep controller)) entry part keyed
+rule_keyed CreateSite entry part keyed = keyed_if (all_hold (site_checks (plan_of entry part))) (with_new (site_of (plan_of entry part)) part) part (keyed_new (site_of (plan_of entry part)) (λ id. refl) part keyed) keyed
+rule_keyed RemoveSite entry part keyed = keyed_if (all_hold (removal_checks entry.player (standing_at part entry.actor))) (without entry.actor part) part (keyed_without entry.actor part keyed) keyed
+rule_keyed SpawnCreep entry part keyed =
+    let around : List Object = values part.objects in
+    let after : RoomPart = paid (payers entry.player around) (body_cost entry.body) part in
+    keyed_if (all_hold (spawn_checks entry.player (standing_at part entry.actor) around (Some entry.body))) (by_object (begun_with entry.body) after (get after.objects entry.actor)) part
+    (by_object_keyed (get after.objects entry.actor) (begun_with entry.body) (λ spawn. keyed_object (record spawn { body = entry.body; timer = 3 * length entry.body })) after (pay_keyed (payers entry.player around) (body_cost entry.body) part keyed))
+    keyed
 rule_keyed _ entry part keyed = keyed
 
 pub book_keyed : KeepsKeys book

@@ -5,4 +5,5 @@ pub mod Handed
 pub mod Worked
 pub mod Fought
 pub mod Claimed
+pub mod Spawned
 pub mod Taken

@@ -1,7 +1,7 @@
 -- What each entry does to the energy of its room.
 use Rattle.std.proofs.Common.{◌≡◌, ℕ, ◌+◌, ◌^◌, ◌<◌, Bool, refl, ap, arith}
 use Rattle.game_tables.specs.declared.action.Action.{Action}
-use Rattle.game_tables.specs.declared.action.Action.TheVariants.{DropLoad, Transfer, Withdraw, Pickup, Dismantle, Harvest, Repair, Build, Suicide, ClaimController, Upgrade, Reserve, AttackController}
+use Rattle.game_tables.specs.declared.action.Action.TheVariants.{DropLoad, Transfer, Withdraw, Pickup, Dismantle, Harvest, Repair, Build, Suicide, ClaimController, Upgrade, Reserve, AttackController, CreateSite, RemoveSite, SpawnCreep}
 use Rattle.intent_book.specs.declared.intent.Intent.{Intent}
 use Rattle.world_rules.specs.RoomParts.{RoomPart}
 use Rattle.world_rules.specs.Tick.{rule_of}
@@ -13,6 +13,7 @@ use Rattle.room_energy.proofs.Piles.{energy_dropped}
 use Rattle.room_energy.proofs.Handed.{energy_transferred, energy_withdrawn, energy_picked_up}
 use Rattle.room_energy.proofs.Fought.{energy_dismantled, energy_ended}
 use Rattle.room_energy.proofs.Claimed.{energy_attacked, energy_claimed, energy_reserved, energy_upgraded}
+use Rattle.room_energy.proofs.Spawned.{energy_begun, energy_site_made, energy_site_removed}
 use Rattle.room_energy.proofs.Worked.{energy_harvested, energy_repaired, energy_built}
 
 -- A rule that puts nothing in.
@@ -37,4 +38,7 @@ module _ (players : ℕ → Bool) (stage : Stage) (part : RoomPart) (k : KeepsRo
   rule_takes Upgrade = none_given _ _ _ (energy_upgraded part ready entry)
   rule_takes Reserve = none_given _ _ _ (energy_reserved part ready entry)
   rule_takes AttackController = none_given _ _ _ (energy_attacked part ready entry)
+  rule_takes CreateSite = none_given _ _ _ (energy_site_made part ready entry)
+  rule_takes RemoveSite = none_given _ _ _ (energy_site_removed players stage part k entry)
+  rule_takes SpawnCreep = none_given _ _ _ (energy_begun part ready entry)
   rule_takes action = refl

@@ -2,19 +2,21 @@
 use Rattle.std.specs.Prelude.{ℕ, ◌+◌, ◌-◌, ◌*◌, ◌==◌, min, if◌then◌else◌, Option, Some, None}
 use Rattle.std.specs.List.{sum_by}
 use Rattle.std.specs.FinMap.{get, values}
+use Rattle.game_tables.specs.Bodies.{body_cost}
 use Rattle.game_tables.specs.declared.action.Action.{Action}
-use Rattle.game_tables.specs.declared.action.Action.TheVariants.{DropLoad, Dismantle, Harvest, Repair, Build, Upgrade}
+use Rattle.game_tables.specs.declared.action.Action.TheVariants.{DropLoad, Dismantle, Harvest, Repair, Build, Upgrade, SpawnCreep}
 use Rattle.game_tables.specs.declared.kind.Kind.{Kind}
 use Rattle.object_store.specs.Stores.{building_of, free_room}
 use Rattle.object_store.specs.declared.object.Object.{Object}
 use Rattle.intent_book.specs.declared.intent.Intent.{Intent}
 use Rattle.world_rules.specs.RoomParts.{RoomPart, controller_of}
 use Rattle.world_rules.specs.Changes.{with_object}
-use Rattle.world_rules.specs.Checks.{may_take_effect, parties}
+use Rattle.world_rules.specs.Checks.{all_hold, may_take_effect, parties, standing_at}
 use Rattle.world_rules.specs.Claims.{work_taken}
 use Rattle.world_rules.specs.Drops.{pile_bound, pile_on, wanted_of}
 use Rattle.world_rules.specs.Fights.{salvage}
 use Rattle.world_rules.specs.Loads.{with_less, with_more}
+use Rattle.world_rules.specs.Spawns.{spawn_checks}
 use Rattle.world_rules.specs.Work.{hits_gained, live_work, repair_cost, work_put}
 
 -- the energy of all objects of a room
@@ -40,7 +42,7 @@ amount_between amount None = 0
 amount_between amount (Some found) = amount found.0 found.1
 
 -- What an entry puts into the room: what a creep gets out of a building that it tears down. No other action
--- in force makes energy.
+-- makes energy.
 abbrev pub given_by : Action → Intent → RoomPart → ℕ
 given_by Dismantle entry part = amount_between salvage (parties Dismantle entry part)
 given_by action entry part = 0
@@ -73,8 +75,14 @@ abbrev pub put_into : Option Kind → Object → Object → ℕ
 put_into None creep site = 0
 put_into (Some kind) creep site = work_put kind creep site
 
+-- what a creep costs that a spawn begins to make
+abbrev pub cost_of : Intent → RoomPart → ℕ
+cost_of entry part =
+    if all_hold (spawn_checks entry.player (standing_at part entry.actor) (values part.objects) (Some entry.body))
+    then body_cost entry.body else 0
+
 -- What an entry takes out of the room: what is lost of what falls, what a repair costs, what is built with,
--- and what is put into a controller. All other actions in force leave the energy in the room.
+-- what is put into a controller, and what a creep costs. All other actions leave the energy in the room.
 abbrev pub taken_by : Action → Intent → RoomPart → ℕ
 taken_by DropLoad entry part = lost_by_drop entry part (get part.objects entry.actor)
 taken_by Dismantle entry part = amount_between (lost_by_dismantle part) (parties Dismantle entry part)
@@ -84,4 +92,5 @@ taken_by Repair entry part =
 taken_by Build entry part =
     amount_between (λ creep site. put_into (building_of site) creep site) (parties Build entry part)
 taken_by Upgrade entry part = amount_between work_taken (parties Upgrade entry part)
+taken_by SpawnCreep entry part = cost_of entry part
 taken_by action entry part = 0

@@ -114,10 +114,7 @@ sum_one f (room ∷ rooms) few one =
 
 -- ---- two worlds
 
-module _ (w after : Stored) (s : IsSound w) (stage : Stage) (follow : FollowRooms (is_player (world_of w)) stage w after) where
-  abbrev players : ℕ → Bool
-  players = is_player (world_of w)
-
+module _ (w after : Stored) (s : IsSound w) (stage : Stage) (players : ℕ → Bool) (follow : FollowRooms players stage w after) where
   abbrev pub Came : ℕ → Room → Type 0
   Came k mate = (room : Room) × (slice_get w.rooms k ≡ Some room) × FollowsRoom players stage room mate
 
@@ -247,15 +244,15 @@ module _ (w after : Stored) (s : IsSound w) (stage : Stage) (follow : FollowRoom
           omega arith
 
 -- Rooms that follow those of a sound world, at any stage of a tick, have each id once.
-pub followed_once : (w after : Stored) → IsSound w → (stage : Stage) → FollowRooms (is_player (world_of w)) stage w after → AreIdsOnce after.rooms
-followed_once w after sound stage follow = once_after w after sound stage follow
+pub followed_once : (w after : Stored) → IsSound w → (stage : Stage) → (players : ℕ → Bool) → FollowRooms players stage w after → AreIdsOnce after.rooms
+followed_once w after sound stage players follow = once_after w after sound stage players follow
 
 -- Between ticks the second world is sound too.
 pub followed_sound : (w after : Stored) → IsSound w → FollowRooms (is_player (world_of w)) between w after → KeepsPlayers w after → IsSound after
 followed_sound w after sound follow accounts = kept_sound w after sound (record {
-  frames = λ k mate at. (let was = came w after sound between follow k mate at in (was.0, was.1, was.2.name, was.2.terrain, was.2.index));
-  rising = λ k mate at. (came w after sound between follow k mate at).2.rising;
-  keeps = λ k mate at. (came w after sound between follow k mate at).2.keeps;
-  once = followed_once w after sound between follow;
-  born = no_birth w after sound between follow;
+  frames = λ k mate at. (let was = came w after sound between (is_player (world_of w)) follow k mate at in (was.0, was.1, was.2.name, was.2.terrain, was.2.index));
+  rising = λ k mate at. (came w after sound between (is_player (world_of w)) follow k mate at).2.rising;
+  keeps = λ k mate at. (came w after sound between (is_player (world_of w)) follow k mate at).2.keeps;
+  once = followed_once w after sound between (is_player (world_of w)) follow;
+  born = no_birth w after sound between (is_player (world_of w)) follow;
 }) accounts

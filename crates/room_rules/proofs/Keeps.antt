@@ -59,7 +59,7 @@ put_or_before {P} part key o id p is put before =
       | false ↦ λ apart got. before got
     ] refl (sym (get-insert nat_cmp_total part.objects key o id ∙ ap (λ (b : Bool). cond b (Some o) (get part.objects id)) (unsigned_tied id key)) ∙ is)
 
-only_one : (one other : Object) (found : Option Object) → found ≡ Some one → found ≡ Some other → one ≡ other
+pub only_one : (one other : Object) (found : Option Object) → found ≡ Some one → found ≡ Some other → one ≡ other
 only_one one other found is at = cc
 
 -- ---- from one stage to another

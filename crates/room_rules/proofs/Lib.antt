@@ -15,6 +15,7 @@ pub mod Fights
 pub mod Turns
 pub mod Settled
 pub mod Claims
+pub mod Spawned
 pub mod Rules
 pub mod Calls
 pub mod Ready

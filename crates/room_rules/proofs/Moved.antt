@@ -56,7 +56,7 @@ found_that test (y ∷ list) x is = elim (test y) as (λ b. test y ≡ b → con
   | false ↦ λ fails got. let rest = found_that test list x got in (inr rest.0, rest.1)
 ] refl is
 
-from_filter_map : {A B : Type 0} (f : A → Option B) (list : List A) (y : B) → Has (filter_map f list) y → (x : A) × (f x ≡ Some y)
+pub from_filter_map : {A B : Type 0} (f : A → Option B) (list : List A) (y : B) → Has (filter_map f list) y → (x : A) × (f x ≡ Some y)
 from_filter_map f [] y has = absurd has
 from_filter_map f (x ∷ list) y has = elim (f x) as (λ r. f x ≡ r → Has (cons_option r (filter_map f list)) y → (z : _) × (f z ≡ Some y)) [
   | None ↦ λ is also. from_filter_map f list y also
@@ -129,7 +129,7 @@ inside_most (pos z) n is = elim (nat_lt z 50) as (λ b. nat_lt z 50 ≡ b → (i
 inside_most (negsuc z) n is = absurd (cc)
 
 -- a tile that lies in a direction is one of the room
-towards_most : (to : Direction) (x y : ℕ) (at : ℕ × ℕ) → tile_towards to x y ≡ Some at → (at.0 ≤ 49) × (at.1 ≤ 49)
+pub towards_most : (to : Direction) (x y : ℕ) (at : ℕ × ℕ) → tile_towards to x y ≡ Some at → (at.0 ≤ 49) × (at.1 ≤ 49)
 towards_most to x y at is =
     let rows : ℕ → Option (ℕ × ℕ) = λ column. option_map (λ row. (column, row)) (inside (pos y +ℤ dy to)) in
     let column = and_then_some rows (inside (pos x +ℤ dx to)) at is in
@@ -257,7 +257,7 @@ made_range part q o (inr (inr w)) r = subst (IsInRangeIn q.kind within) (sym w.i
 creeps_clash : (one other : Kind) → is_creep one ≡ true → is_creep other ≡ true → clash one other ≡ true
 creeps_clash one other is also = (λ i. clash (is_creep_kind one is i) (is_creep_kind other also i))
 
-clash_creep : (k : Kind) → clash Creep k ≡ true → (is_creep k ≡ true) ⊎ ((is_creep k ≡ false) × (obstructs k ≡ true))
+pub clash_creep : (k : Kind) → clash Creep k ≡ true → (is_creep k ≡ true) ⊎ ((is_creep k ≡ false) × (obstructs k ≡ true))
 clash_creep k is = cases (is_creep k) (obstructs k) refl refl is
   where
     cases : (a b : Bool) → is_creep k ≡ a → obstructs k ≡ b → (a || false || false || b || false) ≡ true → (is_creep k ≡ true) ⊎ ((is_creep k ≡ false) × (obstructs k ≡ true))
@@ -265,7 +265,7 @@ clash_creep k is = cases (is_creep k) (obstructs k) refl refl is
     cases false true is also c = inr (is, also)
     cases false false is also c = absurd (cc)
 
-open_parts : (surface : Option Ground) (barred : Bool) → (is_open_ground surface && not barred) ≡ true → (surface ≡ Some Wall → ⊥) × (barred ≡ false)
+pub open_parts : (surface : Option Ground) (barred : Bool) → (is_open_ground surface && not barred) ≡ true → (surface ≡ Some Wall → ⊥) × (barred ≡ false)
 open_parts None barred is = absurd (cc)
 open_parts (Some Wall) barred is = absurd (cc)
 open_parts (Some Plain) true is = absurd (cc)

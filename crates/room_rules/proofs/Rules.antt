@@ -1,8 +1,8 @@
 -- The rules in force lead a room through the stages of a tick.
-use Rattle.std.proofs.Common.{◌++◌, refl, arith}
+use Rattle.std.proofs.Common.{◌≡◌, ℕ, ◌≤◌, ◌++◌, Bool, true, refl, arith}
 use Rattle.game_tables.specs.Kinds.{hits_max}
 use Rattle.game_tables.specs.declared.action.Action.{Action}
-use Rattle.game_tables.specs.declared.action.Action.TheVariants.{DropLoad, Transfer, Withdraw, Pickup, Dismantle, Harvest, Repair, Build, Suicide, ClaimController, Upgrade, Reserve, AttackController}
+use Rattle.game_tables.specs.declared.action.Action.TheVariants.{DropLoad, Transfer, Withdraw, Pickup, Dismantle, Harvest, Repair, Build, Suicide, ClaimController, Upgrade, Reserve, AttackController, CreateSite, RemoveSite, SpawnCreep}
 use Rattle.game_tables.specs.declared.kind.Kind.{Kind}
 use Rattle.game_tables.specs.declared.kind.Kind.TheVariants.{Controller, Creep}
 use Rattle.intent_book.specs.declared.intent.Intent.{Intent}
@@ -10,11 +10,13 @@ use Rattle.object_store.specs.declared.object.Object.{Object}
 use Rattle.world_rules.specs.RoomParts.{RoomPart}
 use Rattle.world_rules.specs.RuleBook.{Sums}
 use Rattle.world_rules.specs.Claims.{controllers_aged}
+use Rattle.world_rules.specs.Intents.{names_tile}
+use Rattle.world_rules.specs.Spawns.{hatched}
 use Rattle.world_rules.specs.RoomTick.{room_after_steps}
 use Rattle.world_rules.specs.Tick.{rule_of}
 use Rattle.world_rules.specs.Upkeep.{aged, buildings_decayed, first_steps, last_steps, middle_steps, recovered, renewed, struck, unloaded}
 use Rattle.room_rules.specs.Within.{between, moved, summed, within, IsInRangeIn}
-use Rattle.room_rules.specs.RoomRules.{Leads}
+use Rattle.room_rules.specs.RoomRules.{KeepsRoomRules, Leads}
 use Rattle.room_rules.proofs.Keeps.{IsSame-refl, keeps_came}
 use Rattle.room_rules.proofs.Falls.{keeps_dropped}
 use Rattle.room_rules.proofs.Amounts.{load_more}
@@ -22,6 +24,7 @@ use Rattle.room_rules.proofs.Loads.{keeps_transferred, keeps_withdrawn, keeps_pi
 use Rattle.room_rules.proofs.Work.{keeps_harvested, keeps_repaired}
 use Rattle.room_rules.proofs.Built.{keeps_built}
 use Rattle.room_rules.proofs.Fights.{keeps_dismantled, keeps_ended}
+use Rattle.room_rules.proofs.Spawned.{keeps_begun, keeps_hatched, keeps_site_made, keeps_site_removed}
 use Rattle.room_rules.proofs.Claims.{begun_controller, keeps_claimed, keeps_controllers, keeps_hurt, keeps_reserved, keeps_upgraded}
 use Rattle.room_rules.proofs.Steps.{keeps_aged, keeps_decayed, keeps_filled, keeps_recovered, keeps_renewed, keeps_weathered}
 use Rattle.room_rules.proofs.Settled.{keeps_struck, keeps_unloaded}
@@ -39,21 +42,25 @@ begun_leads players part k = keeps_came players between within part part k refl 
 
 -- ---- entries
 
-pub rule_keeps : (action : Action) (entry : Intent) → Leads within within (λ part. (rule_of action entry part).part)
-rule_keeps DropLoad entry players part k = keeps_dropped players within part k entry
-rule_keeps Transfer entry players part k = keeps_transferred players within part k entry
-rule_keeps Withdraw entry players part k = keeps_withdrawn players within part k entry
-rule_keeps Pickup entry players part k = keeps_picked_up players within part k entry
-rule_keeps Harvest entry players part k = keeps_harvested players within part k entry
-rule_keeps Repair entry players part k = keeps_repaired players within part k entry
-rule_keeps Build entry players part k = keeps_built players within part k entry
-rule_keeps Dismantle entry players part k = keeps_dismantled players within part k entry
-rule_keeps Suicide entry players part k = keeps_ended players part k entry
-rule_keeps ClaimController entry players part k = keeps_claimed players entry part k
-rule_keeps Upgrade entry players part k = keeps_upgraded players entry part k
-rule_keeps Reserve entry players part k = keeps_reserved players entry part k
-rule_keeps AttackController entry players part k = keeps_hurt players entry part k
-rule_keeps action entry players part k = k
+pub rule_keeps : (action : Action) (entry : Intent) (players : ℕ → Bool) (part : RoomPart) → (names_tile action ≡ true → (1 ≤ entry.player) × (players entry.player ≡ true)) → KeepsRoomRules players within part
+    → KeepsRoomRules players within (rule_of action entry part).part
+rule_keeps DropLoad entry players part of k = keeps_dropped players within part k entry
+rule_keeps Transfer entry players part of k = keeps_transferred players within part k entry
+rule_keeps Withdraw entry players part of k = keeps_withdrawn players within part k entry
+rule_keeps Pickup entry players part of k = keeps_picked_up players within part k entry
+rule_keeps Harvest entry players part of k = keeps_harvested players within part k entry
+rule_keeps Repair entry players part of k = keeps_repaired players within part k entry
+rule_keeps Build entry players part of k = keeps_built players within part k entry
+rule_keeps Dismantle entry players part of k = keeps_dismantled players within part k entry
+rule_keeps Suicide entry players part of k = keeps_ended players part k entry
+rule_keeps ClaimController entry players part of k = keeps_claimed players entry part k
+rule_keeps Upgrade entry players part of k = keeps_upgraded players entry part k
+rule_keeps Reserve entry players part of k = keeps_reserved players entry part k
+rule_keeps AttackController entry players part of k = keeps_hurt players entry part k
+rule_keeps CreateSite entry players part of k = keeps_site_made players within entry (of refl) part k
+rule_keeps RemoveSite entry players part of k = keeps_site_removed players within part k entry
+rule_keeps SpawnCreep entry players part of k = keeps_begun players within part k entry
+rule_keeps action entry players part of k = k
 
 -- ---- upkeep
 
@@ -69,6 +76,7 @@ first_lead sums players part k =
 -- The later steps lead to the stage before crossings.
 pub later_lead : (sums : Sums) → Leads summed moved (room_after_steps sums (middle_steps ++ last_steps))
 later_lead sums players part k =
-    let rested : RoomPart = controllers_aged part in
+    let born : RoomPart = hatched part in
+    let rested : RoomPart = controllers_aged born in
     keeps_decayed players moved (buildings_decayed (renewed rested))
-    (keeps_weathered players moved (renewed rested) (keeps_renewed players moved rested (keeps_controllers players part k)))
+    (keeps_weathered players moved (renewed rested) (keeps_renewed players moved rested (keeps_controllers players born (keeps_hatched players part k))))

@@ -8,7 +8,8 @@ use Rattle.game_tables.specs.Kinds.{full_timer, is_creep, is_controller, is_sour
 use Rattle.object_store.specs.declared.object.Object.{Object}
 use Rattle.world_rules.specs.RoomParts.{RoomPart, controller_of}
 use Rattle.object_store.specs.Controllers.{is_owned_room, is_taken}
-use Rattle.world_rules.specs.Upkeep.{aged, aged_as, filled, filled_as, gone, held_by, recovered_as, recovered, decays, decay_hits, weathered, standing_or_gone, weathered_as, buildings_decayed, source_renewed, renewed_as, renewed, decayed_as, decayed}
+use Rattle.world_rules.specs.Upkeep.{aged, aged_as, filled, filled_as, gone, recovered_as, recovered, decays, decay_hits, weathered, standing_or_gone, weathered_as, buildings_decayed, source_renewed, renewed_as, renewed, decayed_as, decayed}
+use Rattle.world_rules.specs.Spawns.{held_by}
 use Rattle.game_tables.specs.Bodies.{live_count}
 use Rattle.game_tables.specs.declared.kind.Part.TheVariants.{Move}
 use Rattle.world_rules.specs.Changes.{with_object, without}

@@ -9,7 +9,9 @@ use Rattle.game_tables.specs.Kinds.{clash, is_controller, may_have_owner}
 use Rattle.world_rules.specs.World.{World}
 use Rattle.world_rules.specs.RoomParts.{RoomPart}
 use Rattle.world_rules.specs.Rules.{IsOnWrongTile}
-use Rattle.room_rules.specs.Within.{Stage, IsInRangeIn}
+use Rattle.world_rules.specs.Intents.{names_tile}
+use Rattle.intent_book.specs.declared.intent.Intent.{Intent}
+use Rattle.room_rules.specs.Within.{Stage, within, IsInRangeIn}
 
 -- The object stands in the room under this id.
 abbrev pub Holds : RoomPart → ℕ → Object → Type 0
@@ -46,6 +48,17 @@ pub record KeepsRoomRules (players : ℕ → Bool) (stage : Stage) (part : RoomP
       → ¬ (is_controller second.kind ≡ true)
   -- no field is out of its range
   pub ranges : (id : ℕ) (object : Object) → Holds part id object → ¬ ¬ IsInRangeIn object.kind stage object
+
+-- An entry for a new site is of one of the players: its actor is a tile, which is nobody's.
+abbrev pub IsOfPlayer : (ℕ → Bool) → Intent → Type 0
+IsOfPlayer players entry =
+    names_tile entry.action ≡ true → (1 ≤ entry.player) × (players entry.player ≡ true)
+
+-- What an entry makes of a room that keeps its rules within a tick keeps them.
+abbrev pub KeepsBy : Intent → (RoomPart → RoomPart) → Type 0
+KeepsBy entry change =
+    (players : ℕ → Bool) (part : RoomPart) → IsOfPlayer players entry
+    → KeepsRoomRules players within part → KeepsRoomRules players within (change part)
 
 -- The change leads a room that keeps its rules at one stage of a tick to one that keeps those of another.
 abbrev pub Leads : Stage → Stage → (RoomPart → RoomPart) → Type 0

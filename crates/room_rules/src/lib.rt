@@ -16,7 +16,7 @@ ghost use Rattle.world_rules.specs.Upkeep.{first_steps, last_steps, middle_steps
 ghost use Rattle.world_rules.specs.Sound.{IsSound};
 ghost use Rattle.room_rules.specs.Calls.{AreActorsOnce};
 ghost use Rattle.room_rules.specs.Within.{between, moved, summed, within};
-ghost use Rattle.room_rules.specs.RoomRules.{KeepsRoomRules, Leads, is_player};
+ghost use Rattle.room_rules.specs.RoomRules.{KeepsBy, KeepsRoomRules, Leads, is_player};
 ghost use Rattle.room_rules.specs.Followed.{part_stored, FollowRooms, KeepsPlayers};
 ghost use Rattle.room_rules.specs.Crossed.{HasCrossed};
 
@@ -27,7 +27,7 @@ ghost use Rattle.room_rules.specs.Crossed.{HasCrossed};
 /// when it runs.
 pub fn rules_keep_rooms()
     ensures begins { Leads between within (λ part. part) }
-    ensures entries { (entry : Intent) → Leads within within (λ part. (book.effect entry part).part) }
+    ensures entries { (entry : Intent) → KeepsBy entry (λ part. (book.effect entry part).part) }
     ensures movement { (list : List Intent) → AreActorsOnce list → Leads within within (book.moved list) }
     ensures first { (sums : Sums) → Leads within summed (room_after_steps sums first_steps) }
     ensures later { (sums : Sums) → Leads summed moved (room_after_steps sums (middle_steps ++ last_steps)) }

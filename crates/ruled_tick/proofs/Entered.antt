@@ -19,8 +19,8 @@ use Rattle.world_rules.proofs.Lifting.{AreIdsOnce, found_in_table, frame_stored,
 use Rattle.world_rules.proofs.Orderly.{book_orderly}
 use Rattle.world_rules.proofs.Same.{tables_at}
 use Rattle.room_rules.specs.Calls.{IsReady}
-use Rattle.room_rules.specs.Within.{within}
-use Rattle.room_rules.specs.RoomRules.{KeepsRoomRules, is_player}
+use Rattle.room_rules.specs.Within.{between, within}
+use Rattle.room_rules.specs.RoomRules.{IsOfPlayer, KeepsRoomRules, is_player}
 use Rattle.room_rules.specs.Followed.{part_stored, FollowsRoom, FollowsAt, FollowRooms}
 use Rattle.room_rules.proofs.Followed.{came, followed_once}
 use Rattle.room_rules.proofs.Ready.{movable, unborn}
@@ -28,32 +28,30 @@ use Rattle.room_rules.proofs.Rules.{begun_leads, rule_keeps}
 use Rattle.room_rules.proofs.Sound.{get_part, sound_keeps}
 use Rattle.ruled_tick.specs.inner.Entered.{IsRuled}
 use Rattle.ruled_tick.proofs.Places.{get_set, split_at}
+use Rattle.ruled_tick.proofs.Players.{keeps_more}
 use Rattle.ruled_tick.proofs.Worlds.{stored_objects}
 
 abbrev pub frame_at : Option Room → Option Frame
 frame_at found = option_map (λ room. (listed_room room).frame) found
 
 -- A room of a sound world follows itself, at the stage within a tick.
-pub begins_at : (w : Stored) → IsSound w → (k : ℕ) (room : Room) → slice_get w.rooms k ≡ Some room → FollowsRoom (is_player (world_of w)) within room room
-begins_at w sound k room is = record {
+pub begins_at : (w : Stored) → IsSound w → (players : ℕ → Bool) → ((player : ℕ) → is_player (world_of w) player ≡ true → players player ≡ true) → (k : ℕ) (room : Room) → slice_get w.rooms k ≡ Some room → FollowsRoom players within room room
+begins_at w sound players more k room is = record {
   name = refl;
   terrain = refl;
   index = refl;
   rising = tables_at w.rooms k room sound.tables is;
   follows = follows_self (part_stored room);
-  keeps = begun_leads (is_player (world_of w)) (part_stored room) (sound_keeps w sound k room is);
+  keeps = begun_leads players (part_stored room) (keeps_more (is_player (world_of w)) players more between (part_stored room) (sound_keeps w sound k room is));
 }
 
-module _ (stored : Stored) (sound : IsSound stored) (rooms : List Room) (follow : FollowRooms (is_player (world_of stored)) within stored (record stored { rooms = rooms })) where
+module _ (stored : Stored) (sound : IsSound stored) (rooms : List Room) (players : ℕ → Bool) (follow : FollowRooms players within stored (record stored { rooms = rooms })) where
   abbrev pub with_rooms : List Room → Stored
   with_rooms list = record stored { rooms = list }
 
-  abbrev players : ℕ → Bool
-  players = is_player (world_of stored)
-
   -- the room from which one of these came
   pub came_from : (k : ℕ) (room : Room) → slice_get rooms k ≡ Some room → (was : Room) × (slice_get stored.rooms k ≡ Some was) × FollowsRoom players within was room
-  came_from k room at = let found = came stored (with_rooms rooms) sound within follow k room at in (found.0, found.1, found.2)
+  came_from k room at = let found = came stored (with_rooms rooms) sound within players follow k room at in (found.0, found.1, found.2)
 
   pub keeps_here : (k : ℕ) (room : Room) → slice_get rooms k ≡ Some room → KeepsRoomRules players within (part_stored room)
   keeps_here k room at = (came_from k room at).2.keeps
@@ -79,14 +77,14 @@ module _ (stored : Stored) (sound : IsSound stored) (rooms : List Room) (follow 
     pub part_of_stored : part_at (world_of (with_rooms rooms)) k ≡ Some (part_stored room)
     part_of_stored =
         let w : Stored = with_rooms rooms in
-        let once = followed_once stored w sound within follow in
+        let once = followed_once stored w sound within players follow in
         let frame : get (world_of w).rooms k ≡ Some (listed_room room).frame = frame_stored w k ∙ ap frame_at at in
         let objects : objects_in (world_of w) k ≡ (part_stored room).objects = same_map nat_cmp_total nat_cmp-IsAntisymmetric (objects_in (world_of w) k) (part_stored room).objects (λ id.
         stored_objects w once k id ∙ ap (option_and_then (found_in_table id)) at ∙ sym (get_part room id)) in
         ap (option_map (part_of (world_of w) k)) frame
         ∙ (λ i. Some (record { rules = 1; index = sym (place_here k room at) i; grounds = room.terrain; next = room.table.next; objects = objects i }))
 
-    module _ (entry : Intent) (table : Table) (r : IsRuled entry room.table table) where
+    module _ (entry : Intent) (of : IsOfPlayer players entry) (table : Table) (r : IsRuled room.terrain entry room.table table) where
       abbrev other : Room
       other = record room { table = table }
 
@@ -97,7 +95,7 @@ module _ (stored : Stored) (sound : IsSound stored) (rooms : List Room) (follow 
       change part = (book.effect entry part).part
 
       part_then : part_stored other ≡ change (part_stored room)
-      part_then = r.rule room.terrain
+      part_then = r.rule
 
       follows : Follows (part_stored room) (part_stored other)
       follows = subst (Follows (part_stored room)) (sym part_then) (book_orderly.effect entry (part_stored room))
@@ -111,7 +109,7 @@ module _ (stored : Stored) (sound : IsSound stored) (rooms : List Room) (follow 
             index = follows.index ∙ found.2.index;
             rising = r.rising;
             follows = follows_trans (part_stored found.0) (part_stored room) (part_stored other) found.2.follows follows;
-            keeps = subst (KeepsRoomRules players within) (sym part_then) (rule_keeps entry.action entry players (part_stored room) found.2.keeps);
+            keeps = subst (KeepsRoomRules players within) (sym part_then) (rule_keeps entry.action entry players (part_stored room) of found.2.keeps);
           }
 
       -- the rooms keep following
@@ -140,8 +138,8 @@ module _ (stored : Stored) (sound : IsSound stored) (rooms : List Room) (follow 
           let here : length parts.before ≡ k = parts.place in
           let one : part_stored room ≡ stored_part (length parts.before) room = λ i. record { rules = 1; index = (place_here k room at ∙ sym here) i; grounds = room.terrain; next = room.table.next; objects = (part_stored room).objects } in
           let two : part_stored other ≡ stored_part (length parts.before) other = λ i. record { rules = 1; index = (place_then ∙ sym here) i; grounds = room.terrain; next = table.next; objects = (part_stored other).objects } in
-          let once = subst AreIdsOnce parts.whole (followed_once stored (with_rooms rooms) sound within follow) in
-          let once_then = subst AreIdsOnce parts.other (followed_once stored (with_rooms then_rooms) sound within follow_then) in
+          let once = subst AreIdsOnce parts.whole (followed_once stored (with_rooms rooms) sound within players follow) in
+          let once_then = subst AreIdsOnce parts.other (followed_once stored (with_rooms then_rooms) sound within players follow_then) in
           ap (λ (list : List Room). in_room change k (world_of (with_rooms list))) parts.whole
           ∙ ap (λ (n : ℕ). in_room change n (world_of (with_rooms (parts.before ++ room ∷ parts.after)))) (sym here)
           ∙ in_room-stored stored.tick stored.accounts parts.before room parts.after once table once_then change (sym (ap change one) ∙ sym part_then ∙ two)

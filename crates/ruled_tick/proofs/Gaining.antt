@@ -200,7 +200,7 @@ one_more player gains one = sum_by-append (λ (gain : Gain). if gain.player == p
 one_points : (player : ℕ) (gain : Gain) → points_of player (gain ∷ []) ≡ (if gain.player == player then gain.points else 0)
 one_points player gain = omega (arith, sum_by-cons (λ (gain : Gain). if gain.player == player then gain.points else 0) gain [])
 
-module _ (stored : Stored) (sound : IsSound stored) (done : List Entry) (entry : Entry) (later : List Entry) (rooms : List Room) (acted : IsActed stored done (entry ∷ later) rooms) where
+module _ (stored : Stored) (sound : IsSound stored) (players : ℕ → Bool) (done : List Entry) (entry : Entry) (later : List Entry) (rooms : List Room) (acted : IsActed stored players done (entry ∷ later) rooms) where
   abbrev world : World
   world = world_of (record stored { rooms = rooms })
 
@@ -231,7 +231,7 @@ module _ (stored : Stored) (sound : IsSound stored) (done : List Entry) (entry :
         zeroth true = stays.1
         zeroth false = refl
     points_found (Some room) at ruled player =
-        let here : part_at world entry.room ≡ Some (part_stored room) = part_of_stored stored sound rooms acted.follow entry.room room at in
+        let here : part_at world entry.room ≡ Some (part_stored room) = part_of_stored stored sound rooms players acted.follow entry.room room at in
         ap (λ (found : Option RoomPart). points_of player (option_to_list (option_map gain_of found))) here
         ∙ one_points player (gain_of (part_stored room))
         ∙ ap (λ (n : ℕ). given n player) (sym (ruled.3 room.terrain))

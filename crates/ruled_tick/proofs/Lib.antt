@@ -5,6 +5,7 @@ pub mod Actions
 pub mod Acted
 pub mod Gaining
 pub mod Places
+pub mod Players
 pub mod Rising
 pub mod Moves
 pub mod Stepped

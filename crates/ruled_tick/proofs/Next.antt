@@ -16,7 +16,7 @@ use Rattle.world_rules.proofs.Keys.{keyed, accounts_sorted, entries_of_sorted}
 use Rattle.object_store.specs.declared.world.Room.{Room}
 use Rattle.exit_crossing.specs.declared.leaving.Crosser.{Crosser}
 use Rattle.exit_crossing.specs.Crossing.{AreCrossers, IsReadyToCross, KeepsFrames}
-use Rattle.ruled_tick.specs.inner.Entered.{AreGains}
+use Rattle.ruled_tick.specs.inner.Entered.{AreOfPlayers, AreGains}
 use Rattle.ruled_tick.specs.inner.Ticked.{accounted, raised_by, IsRuledRooms}
 use Rattle.ruled_tick.proofs.Follows.{accounted-player, after-player, changed-IsSound}
 use Rattle.ruled_tick.proofs.Leaving.{as_many, over_accounts, over_other, over_tick}
@@ -65,9 +65,9 @@ module _ (w : Stored) (entries : List Entry) (sound : IsSound w) (next : Stored)
   pushed_is : pushed ≡ record r.rested { tick = w.tick + 1; accounts = map f w.accounts }
   pushed_is = is ∙ ap (λ (s : Stored). record s { accounts = map f w.accounts }) r.next
 
-  pub pushed-IsSound : IsSound pushed
-  pushed-IsSound =
-      subst IsSound (sym (pushed_is ∙ (λ i. record r.rested { tick = w.tick + 1; accounts = map f (sym r.accounts i) }))) (changed-IsSound f same r.rested (w.tick + 1) r.sound)
+  pub pushed-IsSound : AreOfPlayers (world_of w) entries → IsSound pushed
+  pushed-IsSound of =
+      subst IsSound (sym (pushed_is ∙ (λ i. record r.rested { tick = w.tick + 1; accounts = map f (sym r.accounts i) }))) (changed-IsSound f same r.rested (w.tick + 1) (r.sound of))
 
   pub pushed_rooms : pushed.rooms ≡ r.rested.rooms
   pushed_rooms = ap (λ (s : Stored). s.rooms) pushed_is

@@ -27,18 +27,18 @@ use Rattle.world_rules.proofs.Keys.{keyed}
 use Rattle.world_rules.proofs.Lifting.{AreIdsOnce, found_in_room, found_in_table, times_in, times_room, times_rooms}
 use Rattle.world_rules.proofs.Orderly.{book_orderly}
 use Rattle.world_rules.proofs.Parts.{only}
-use Rattle.world_rules.proofs.Same.{once}
 use Rattle.world_rules.proofs.TableParts.{find_keyed}
 use Rattle.object_store.specs.Tallies.{tally_of}
 use Rattle.room_rules.specs.Calls.{AreActorsOnce, AreSumsOf}
 use Rattle.room_rules.specs.Within.{between, within, moved as stage_moved}
 use Rattle.room_rules.specs.RoomRules.{KeepsRoomRules, is_player}
 use Rattle.room_rules.specs.Followed.{part_stored, FollowsRoom, FollowsAt, FollowRooms}
-use Rattle.room_rules.proofs.Followed.{followed_sound}
+use Rattle.room_rules.proofs.Followed.{followed_once, followed_sound}
 use Rattle.room_rules.proofs.Rules.{first_lead, later_lead}
 use Rattle.room_rules.proofs.Steps.{keeps_rest}
 use Rattle.room_rules.proofs.Moved.{keeps_moved}
 use Rattle.exit_crossing.specs.Crossing.{AreIdsApart, rested_room}
+use Rattle.ruled_tick.proofs.Players.{follow_more}
 use Rattle.ruled_tick.specs.inner.Ticked.{ticked_part, IsTicked, IsTickedAt}
 
 -- ---- objects at rest
@@ -121,11 +121,8 @@ pub beside_are : (table : Table) → AreSumsOf (sums_beside table) table
 unfolding sums_beside
 beside_are table = record { damage = λ id has. refl; healing = λ id has. refl }
 
-module _ (stored : Stored) (sound : IsSound stored) (before : List Room) (follow : FollowRooms (is_player (world_of stored)) within stored (record stored { rooms = before }))
+module _ (stored : Stored) (sound : IsSound stored) (before : List Room) (players : ℕ → Bool) (follow : FollowRooms players within stored (record stored { rooms = before }))
     (rooms : List Room) (moves : ℕ → List Intent) (alone : (k : ℕ) → AreActorsOnce (moves k)) (are : (k : ℕ) → IsTickedAt (moves k) (slice_get before k) (slice_get rooms k)) where
-  abbrev players : ℕ → Bool
-  players = is_player (world_of stored)
-
   abbrev pub at_rest : Stored
   at_rest = record stored { rooms = map rested_room rooms }
 
@@ -161,12 +158,16 @@ module _ (stored : Stored) (sound : IsSound stored) (before : List Room) (follow
   at_follows k (Some was) (Some room) None came ticked = absurd ticked
   at_follows k (Some was) (Some room) (Some mate) came ticked = room_follows k was room mate came ticked
 
-  follow_rested : FollowRooms players between stored at_rest
+  pub follow_rested : FollowRooms players between stored at_rest
   follow_rested k =
       subst (FollowsAt players between (slice_get stored.rooms k)) (sym (slice_get-map rested_room rooms k)) (at_follows k (slice_get stored.rooms k) (slice_get before k) (slice_get rooms k) (follow k) (are k))
 
-  pub rested_sound : IsSound at_rest
-  rested_sound = followed_sound stored at_rest sound follow_rested (record { rising = sound.accounts; players = λ player listed. listed; fewer = λ player. omega arith })
+  -- Where all players have accounts it is a sound world.
+  pub rested_sound : ((player : ℕ) → players player ≡ true → is_player (world_of stored) player ≡ true) → IsSound at_rest
+  rested_sound listed = followed_sound stored at_rest sound (follow_more players (is_player (world_of stored)) listed between stored at_rest follow_rested) (record { rising = sound.accounts; players = λ player listed. listed; fewer = λ player. omega arith })
+
+  pub once_rested : AreIdsOnce (map rested_room rooms)
+  once_rested = followed_once stored at_rest sound between players follow_rested
 
   pub once_ticked : AreIdsOnce rooms
-  once_ticked = once_before_rest rooms (once at_rest rested_sound)
+  once_ticked = once_before_rest rooms once_rested

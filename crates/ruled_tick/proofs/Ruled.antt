@@ -1,11 +1,11 @@
 -- The rooms of a tick after all but crossings, and what they come to with them.
-use Rattle.std.proofs.Common.{◌≡◌, ◌≢◌, ℕ, suc, ◌+◌, ◌≤◌, List, [], ◌∷◌, ◌++◌, length, map, take, drop, get_or, Option, Some, None, option_map, slice_get, if◌then◌else◌, true, false, refl, sym, ap, subst, ◌∙◌, arith}
+use Rattle.std.proofs.Common.{◌≡◌, ◌≢◌, Bool, ℕ, suc, ◌+◌, ◌≤◌, List, [], ◌∷◌, ◌++◌, length, map, take, drop, get_or, Option, Some, None, option_map, slice_get, if◌then◌else◌, true, false, refl, sym, ap, subst, ◌∙◌, arith}
 use Rattle.std.specs.List.{AllByRecursion, AllPairs}
 use Rattle.std.specs.Ordering.{nat_cmp}
 use Rattle.std.specs.Cmp.{nat_cmp_total}
 use Rattle.std.specs.FinMap.{find, from_entries, get-from_entries, same_map, nat_cmp-IsAntisymmetric}
 use Rattle.std.proofs.lemmas.List.{length-map, take_all}
-use Rattle.std.proofs.lemmas.Option.{slice_get-get_or, slice_get-map}
+use Rattle.std.proofs.lemmas.Option.{slice_get-get_or, slice_get-map, slice_get_within, get_or_from_slice_get}
 use Rattle.intent_book.specs.declared.intent.Intent.{Intent}
 use Rattle.object_store.specs.declared.object.Object.{Object}
 use Rattle.object_store.specs.declared.world.Room.{Room}
@@ -22,28 +22,27 @@ use Rattle.world_rules.specs.Intents.{kept}
 use Rattle.world_rules.specs.Moves.{moved}
 use Rattle.world_rules.specs.Upkeep.{steps}
 use Rattle.world_rules.specs.Tick.{Course, acted, after_steps, book, harms_in, inner, sums_in, sums_of}
-use Rattle.world_rules.specs.Sound.{IsSound, IsSoundRoom}
+use Rattle.world_rules.specs.Sound.{IsSound}
 use Rattle.world_rules.specs.declared.rule.Rule.TheVariants.{RoomTwice}
 use Rattle.world_rules.proofs.Keys.{find_mapped}
 use Rattle.world_rules.proofs.Lifting.{frame_stored}
-use Rattle.world_rules.proofs.Same.{once}
 use Rattle.room_rules.specs.Calls.{AreActorsOnce, AreSumsOf}
-use Rattle.room_rules.specs.Followed.{FollowRooms}
-use Rattle.room_rules.specs.Within.{within}
-use Rattle.room_rules.specs.RoomRules.{is_player}
-use Rattle.room_rules.proofs.Followed.{followed_once}
+use Rattle.room_rules.specs.Followed.{FollowsRoom, FollowRooms}
+use Rattle.room_rules.specs.Within.{between, within}
+use Rattle.room_rules.proofs.Followed.{came, followed_once}
 use Rattle.room_rules.proofs.Ready.{movable}
 use Rattle.room_commutes.specs.Serials.{AreSerialsUsed}
 use Rattle.room_commutes.proofs.Births.{used_stored}
 use Rattle.room_commutes.proofs.Rested.{all_rested_get, rested_first}
 use Rattle.exit_crossing.specs.declared.leaving.Crosser.{Crosser}
 use Rattle.exit_crossing.specs.Crossing.{AreCrossers, AreIdsApart, IsReadyToCross, most_arrivals, rested_room}
-use Rattle.ruled_tick.specs.inner.Entered.{entered_all, harms_entered, IsActed}
+use Rattle.ruled_tick.specs.inner.Entered.{entered_all, harms_entered, takes_part, AreOfPlayers, IsActed}
 use Rattle.ruled_tick.specs.inner.Ticked.{moves_in, AreTicked, IsReadyToTick, IsRuledRooms, IsTickedAt}
 use Rattle.ruled_tick.proofs.Actions.{acted_enters, used_entered}
 use Rattle.ruled_tick.proofs.Entered.{came_from, keeps_here, place_here, unborn_here}
 use Rattle.ruled_tick.proofs.Moves.{actors_once, moves_kept}
-use Rattle.ruled_tick.proofs.Rested.{ids_apart, once_ticked, rested_sound}
+use Rattle.ruled_tick.proofs.Players.{all_listed}
+use Rattle.ruled_tick.proofs.Rested.{follow_rested, ids_apart, once_rested, once_ticked, rested_sound, rested_tiles}
 use Rattle.ruled_tick.proofs.Worlds.{stored_after}
 
 -- ---- a stored world at rest
@@ -88,9 +87,9 @@ all_of_places : (P : Room → Type 0) (rooms : List Room) → ((k : ℕ) (room :
 all_of_places P [] each = tt
 all_of_places P (room ∷ rooms) each = (each 0 room refl, all_of_places P rooms (λ k mate at. each (suc k) mate at))
 
-sound_tiles : (rooms : List Room) → AllByRecursion IsSoundRoom rooms → AllByRecursion (λ room. AllByRecursion IsOnTile room.table.objects) rooms
-sound_tiles [] all = tt
-sound_tiles (room ∷ rooms) all = (all.0.tiles, sound_tiles rooms all.1)
+all_rest_tiles : (rooms : List Room) → AllByRecursion (λ room. AllByRecursion IsOnTile room.table.objects) rooms → AllByRecursion (λ room. AllByRecursion IsOnTile room.table.objects) (map rested_room rooms)
+all_rest_tiles [] all = tt
+all_rest_tiles (room ∷ rooms) all = (rested_tiles room.table.objects all.0, all_rest_tiles rooms all.1)
 
 sound_names : (w : Stored) → IsSound w → AllPairs (λ one other. one.name ≢ other.name) w.rooms
 sound_names w sound = λ i j d less inside same.
@@ -121,16 +120,19 @@ rested_spare (room ∷ rooms) all = (all.0, rested_spare rooms all.1)
 -- ---- the whole
 
 -- Within a tick of a sound world a room is ready for movement.
-pub ready_to_tick : (stored : Stored) → IsSound stored → (rooms : List Room) → FollowRooms (is_player (world_of stored)) within stored (record stored { rooms = rooms }) → (k : ℕ) (room : Room) → slice_get rooms k ≡ Some room → IsReadyToTick room.table
-ready_to_tick stored sound rooms follow k room at = record {
-  movable = movable (is_player (world_of stored)) within room (keeps_here stored sound rooms follow k room at) (came_from stored sound rooms follow k room at).2.rising;
-  fresh = unborn_here stored sound rooms follow k room at;
+pub ready_to_tick : (stored : Stored) → IsSound stored → (rooms : List Room) (players : ℕ → Bool) → FollowRooms players within stored (record stored { rooms = rooms }) → (k : ℕ) (room : Room) → slice_get rooms k ≡ Some room → IsReadyToTick room.table
+ready_to_tick stored sound rooms players follow k room at = record {
+  movable = movable players within room (keeps_here stored sound rooms players follow k room at) (came_from stored sound rooms players follow k room at).2.rising;
+  fresh = unborn_here stored sound rooms players follow k room at;
 }
 
-module _ (stored : Stored) (begins : IsSound stored) (entries : List Entry) (list : List Intent) (are : AreKept (world_of stored) list entries) (i : ℕ) (rooms : List Room) (acted_rooms : IsActed stored (take i entries) (drop i entries) rooms) (past : length entries ≤ i)
+module _ (stored : Stored) (begins : IsSound stored) (entries : List Entry) (list : List Intent) (are : AreKept (world_of stored) list entries) (i : ℕ) (rooms : List Room) (acted_rooms : IsActed stored (takes_part (world_of stored) entries) (take i entries) (drop i entries) rooms) (past : length entries ≤ i)
     (ticked : List Room) (all : AreTicked entries rooms ticked) where
   abbrev w : Stored
   w = record stored { rooms = rooms }
+
+  abbrev players : ℕ → Bool
+  players = takes_part (world_of stored) entries
 
   abbrev moves : ℕ → List Intent
   moves k = moves_in k entries
@@ -138,21 +140,31 @@ module _ (stored : Stored) (begins : IsSound stored) (entries : List Entry) (lis
   alone : (k : ℕ) → AreActorsOnce (moves_in k entries)
   alone = actors_once (world_of stored) list entries are
 
-  sound : IsSound (record stored { rooms = map rested_room ticked })
-  sound = rested_sound stored begins rooms acted_rooms.follow ticked moves alone all
+  abbrev last : Stored
+  last = record stored { rooms = map rested_room ticked }
 
-  pub ready : IsReadyToCross (map rested_room ticked)
-  ready = record {
-    places = sound.places;
-    spare = rested_spare ticked (all_of_places (λ room. most_arrivals ≤ room.table.spare) ticked (λ k room at. spare_at (moves k) room (slice_get rooms k) (slice_get ticked k) at (all k)));
-    tiles = sound_tiles (map rested_room ticked) sound.rooms;
-    names = sound_names (record stored { rooms = map rested_room ticked }) sound;
-    ids = ids_apart (map rested_room ticked) (once (record stored { rooms = map rested_room ticked }) sound);
-  }
+  sound : AreOfPlayers (world_of stored) entries → IsSound last
+  sound of = rested_sound stored begins rooms players acted_rooms.follow ticked moves alone all (all_listed (world_of stored) entries of)
 
-  -- what the crossers are found in
-  pub ticked_places : (k : ℕ) (room : Room) → slice_get ticked k ≡ Some room → room.table.index ≡ k
-  ticked_places k room at = sound.places k (rested_room room) (slice_get-map rested_room ticked k ∙ ap (option_map rested_room) at)
+  rested_follow : FollowRooms players between stored last
+  rested_follow = follow_rested stored begins rooms players acted_rooms.follow ticked moves alone all
+
+  -- the room of the world before from which one of these came
+  rested_from : (k : ℕ) (room : Room) → slice_get (map rested_room ticked) k ≡ Some room → (was : Room) × (slice_get stored.rooms k ≡ Some was) × FollowsRoom players between was room
+  rested_from k room at = let found = came stored last begins between players rested_follow k room at in (found.0, found.1, found.2)
+
+  rested_places : (k : ℕ) (room : Room) → slice_get (map rested_room ticked) k ≡ Some room → room.table.index ≡ k
+  rested_places k room at = let found = rested_from k room at in found.2.index ∙ begins.places k found.0 found.1
+
+  rested_names : AllPairs (λ one other. one.name ≢ other.name) (map rested_room ticked)
+  rested_names = λ i j d less inside same.
+      let at = slice_get-get_or (map rested_room ticked) i d (omega (arith, less, inside)) in
+      let there = slice_get-get_or (map rested_room ticked) j d inside in
+      let first = rested_from i (get_or (map rested_room ticked) i d) at in
+      let second = rested_from j (get_or (map rested_room ticked) j d) there in
+      let within_stored = slice_get_within stored.rooms j second.0 second.1 in
+      sound_names stored begins i j d less within_stored
+      (ap (λ (room : Room). room.name) (get_or_from_slice_get stored.rooms i first.0 d first.1) ∙ sym first.2.name ∙ same ∙ second.2.name ∙ sym (ap (λ (room : Room). room.name) (get_or_from_slice_get stored.rooms j second.0 d second.1)))
 
   tiles_at : (moves : List Intent) (room : Room) (found mate : Option Room) → mate ≡ Some room → IsTickedAt moves found mate → AllByRecursion IsOnTile room.table.objects
   tiles_at moves room None None is one = absurd cc
@@ -163,8 +175,21 @@ module _ (stored : Stored) (begins : IsSound stored) (entries : List Entry) (lis
   pub ticked_tiles : AllByRecursion (λ room. AllByRecursion IsOnTile room.table.objects) ticked
   ticked_tiles = all_of_places (λ room. AllByRecursion IsOnTile room.table.objects) ticked (λ k room at. tiles_at (moves k) room (slice_get rooms k) (slice_get ticked k) at (all k))
 
+  pub ready : IsReadyToCross (map rested_room ticked)
+  ready = record {
+    places = rested_places;
+    spare = rested_spare ticked (all_of_places (λ room. most_arrivals ≤ room.table.spare) ticked (λ k room at. spare_at (moves k) room (slice_get rooms k) (slice_get ticked k) at (all k)));
+    tiles = all_rest_tiles ticked ticked_tiles;
+    names = rested_names;
+    ids = ids_apart (map rested_room ticked) (once_rested stored begins rooms players acted_rooms.follow ticked moves alone all);
+  }
+
+  -- what the crossers are found in
+  pub ticked_places : (k : ℕ) (room : Room) → slice_get ticked k ≡ Some room → room.table.index ≡ k
+  ticked_places k room at = rested_places k (rested_room room) (slice_get-map rested_room ticked k ∙ ap (option_map rested_room) at)
+
   pub ticked_ids : AreIdsApart ticked
-  ticked_ids = ids_apart ticked (once_ticked stored begins rooms acted_rooms.follow ticked moves alone all)
+  ticked_ids = ids_apart ticked (once_ticked stored begins rooms players acted_rooms.follow ticked moves alone all)
 
   -- the entries all together
   abbrev entered_list : List (Option ℕ × Intent)
@@ -187,7 +212,7 @@ module _ (stored : Stored) (begins : IsSound stored) (entries : List Entry) (lis
       let harms : harms_entered world entered_list ≡ after.harms = ap (harms_entered world) (all_done intents kept_are) ∙ sym enters.harms in
       let told : (k : ℕ) (room : Room) → slice_get rooms k ≡ Some room → AreSumsOf (sums k) room.table = λ k room at.
       subst (λ (h : List (ℕ × Harm)). AreSumsOf (sums_of (map (λ (one : ℕ × Harm). one.1) (harms_in k h))) room.table) harms (acted_rooms.summed k room at).sums in
-      stored_after w used (place_here stored begins rooms acted_rooms.follow) (followed_once stored w begins within acted_rooms.follow) ticked (once_ticked stored begins rooms acted_rooms.follow ticked moves alone all) moves sums told all
+      stored_after w used (place_here stored begins rooms players acted_rooms.follow) (followed_once stored w begins within players acted_rooms.follow) ticked (once_ticked stored begins rooms players acted_rooms.follow ticked moves alone all) moves sums told all
       ∙ ap (λ (start : World). after_steps sums steps (in_every_room (λ k. moved (moves_in k entries)) start)) entered
       ∙ (λ j. after_steps sums steps (in_every_room (λ k. moved (moves_kept world intents entries kept_are k j)) after.world))
 

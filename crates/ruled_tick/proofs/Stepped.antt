@@ -1,7 +1,7 @@
 -- A room's table after movement and upkeep.
 use Rattle.std.proofs.Common.{◌≡◌, ℕ, ◌+◌, ◌*◌, ◌^◌, ◌<◌, ◌≤◌, ◌&&◌, ◌||◌, ◌++◌, max, nat_lt, Bool, true, false, cond, List, [], ◌∷◌, length, Option, Some, None, refl, sym, ap, subst, ◌∙◌, inl, inr, arith}
 use Rattle.std.specs.List.{AllByRecursion, count_by}
-use Rattle.std.proofs.lemmas.List.Sums.{sum_by-cons}
+use Rattle.std.proofs.lemmas.List.Sums.{length-filter, sum_by-cons}
 use Rattle.game_tables.specs.Kinds.{is_building, is_creep}
 use Rattle.room_terrain.specs.declared.terrain.Ground.{Ground}
 use Rattle.intent_book.specs.declared.intent.Intent.{Intent}
@@ -14,6 +14,8 @@ use Rattle.world_rules.specs.RuleBook.{Sums, Step, Follows, StaysInRoom}
 use Rattle.world_rules.specs.RoomTick.{room_after_steps}
 use Rattle.world_rules.specs.Moves.{moved}
 use Rattle.world_rules.specs.Claims.{controllers_aged}
+use Rattle.world_rules.specs.Spawns.{hatched}
+use Rattle.spawn_rules.specs.Spare.{is_spawn, may_hatch}
 use Rattle.world_rules.specs.Upkeep.{first_steps, last_steps, middle_steps, decays}
 use Rattle.world_rules.proofs.Follows.{follows_trans}
 use Rattle.world_rules.proofs.Orderly.{book_orderly}
@@ -36,6 +38,10 @@ few_of test (object ∷ objects) =
 -- no more fall than there are
 few_fall : (objects : List Object) → may_fall objects ≤ length objects
 few_fall objects = few_of (λ o. decays o.kind && nat_lt 0 o.energy) objects
+
+-- no more creeps come than there are spawns
+few_hatch : (objects : List Object) → may_hatch objects ≤ length objects
+few_hatch objects = let few = few_of is_spawn objects in let same = length-filter is_spawn objects in omega (arith, few, same)
 
 few_leave : (objects : List Object) → may_leave objects ≤ 2 * length objects
 few_leave objects = let few : many_fighters objects ≤ length objects = few_of (λ o. is_creep o.kind || is_building o.kind) objects in omega (arith, few)
@@ -83,19 +89,15 @@ module _ (grounds : List Ground) (start after : Table) (follows : Follows (table
 abbrev pub early_steps : List Step
 early_steps = first_steps ++ middle_steps
 
--- The steps of controllers make nothing.
-pub aged_rule : (grounds : List Ground) (two young three : Table) → ((sums : Sums) → AreSumsOf sums two → table_part grounds young ≡ room_after_steps sums first_steps (table_part grounds two))
-    → table_part grounds three ≡ controllers_aged (table_part grounds young) → (sums : Sums) → AreSumsOf sums two → table_part grounds three ≡ room_after_steps sums early_steps (table_part grounds two)
-aged_rule grounds two young three rule aged sums are = aged ∙ ap controllers_aged (rule sums are)
+-- Creeps come of spawns, once there is memory for them, and controllers age.
+pub aged_rule : (grounds : List Ground) (two young grown born three : Table) (many : ℕ) → ((sums : Sums) → AreSumsOf sums two → table_part grounds young ≡ room_after_steps sums first_steps (table_part grounds two)) → HasMemory many young grown
+    → table_part grounds born ≡ hatched (table_part grounds grown) → table_part grounds three ≡ controllers_aged (table_part grounds born) → (sums : Sums) → AreSumsOf sums two → table_part grounds three ≡ room_after_steps sums early_steps (table_part grounds two)
+aged_rule grounds two young grown born three many rule memory hatch aged sums are =
+    aged ∙ ap controllers_aged (hatch ∙ ap hatched (ap (table_part grounds) memory.same ∙ rule sums are))
 
-pub aged_keeps : (many : ℕ) (two young three : Table) → KeepsUpTo many two young → KeepsUpTo 0 young three → KeepsUpTo many two three
-aged_keeps many two young three keeps aged = record {
-  index = aged.index ∙ keeps.index;
-  used = aged.used ∙ keeps.used;
-  later = omega (arith, keeps.later, aged.later);
-  made = omega (arith, keeps.made, aged.made);
-  tiles = aged.tiles;
-}
+-- The index stays, and all objects stand on tiles of the room.
+pub aged_index : (two young grown born three : Table) (many first second : ℕ) → KeepsUpTo first two young → HasMemory many young grown → KeepsUpTo second grown born → KeepsUpTo 0 born three → three.index ≡ two.index
+aged_index two young grown born three many first second keeps memory hatch aged = aged.index ∙ hatch.index ∙ ap (λ (t : Table). t.index) memory.same ∙ keeps.index
 
 -- ---- movement, and memory for the first steps
 
@@ -129,9 +131,31 @@ module _ (moves : List Intent) (grounds : List Ground) (start one two : Table) (
   sums_two : (sums : Sums) → AreSumsOf sums start → AreSumsOf sums two
   sums_two sums are = subst (AreSumsOf sums) (sym has.memory.same) (record { damage = (sums_after grounds start one follows_one sums has.next has.tallies are).damage; healing = (sums_after grounds start one follows_one sums has.next has.tallies are).healing })
 
+  -- ---- memory for the creeps that come of spawns
+
+  module _ (young grown : Table) (rule : (sums : Sums) → AreSumsOf sums two → table_part grounds young ≡ room_after_steps sums first_steps (table_part grounds two)) (tiles : AllByRecursion IsOnTile young.objects) (memory : HasMemory (length young.objects) young grown) where
+    follows_young : Follows (table_part grounds start) (table_part grounds young)
+    follows_young =
+        let part : RoomPart = table_part grounds start in
+        let all = book_orderly.steps in
+        let own : Sums = sums_beside start in
+        let stay : AllByRecursion (λ (step : Step). (sums : Sums) → StaysInRoom (step sums)) first_steps = (all.0, (all.1.0, (all.1.1.0, (all.1.1.1.0, (all.1.1.1.1.0, tt))))) in
+        subst (Follows part) (sym (rule own (sums_two own (beside_are start)) ∙ ap (room_after_steps own first_steps) part_two))
+        (follows_trans part (moved moves part) (room_after_steps own first_steps (moved moves part)) (book_orderly.moved moves part) (steps_follow first_steps stay own (moved moves part)))
+
+    -- ready for the spawns
+    pub ready_hatch : IsReadyFor (may_hatch grown.objects) grown
+    ready_hatch =
+        subst (λ (t : Table). IsReadyFor (may_hatch t.objects) t) (sym memory.same) (record {
+          spare = omega (arith, few_hatch young.objects);
+          serial = omega (arith, few_hatch young.objects, memory.serials);
+          fresh = fresh_after grounds start young follows_young has.ready.fresh;
+          tiles = tiles;
+        })
+
   -- ---- the steps up to those of controllers, and memory for the last ones
 
-  module _ (three four : Table) (rule : (sums : Sums) → AreSumsOf sums two → table_part grounds three ≡ room_after_steps sums early_steps (table_part grounds two)) (keeps : KeepsUpTo (may_leave two.objects) two three)
+  module _ (three four : Table) (rule : (sums : Sums) → AreSumsOf sums two → table_part grounds three ≡ room_after_steps sums early_steps (table_part grounds two)) (index : three.index ≡ two.index) (tiles : AllByRecursion IsOnTile three.objects)
       (memory : HasMemory (length three.objects + most_arrivals) three four) where
     abbrev own : Sums
     own = sums_beside start
@@ -154,11 +178,11 @@ module _ (moves : List Intent) (grounds : List Ground) (start one two : Table) (
           spare = omega (arith, few_fall three.objects);
           serial = omega (arith, few_fall three.objects, memory.serials);
           fresh = fresh_after grounds start three follows_three has.ready.fresh;
-          tiles = keeps.tiles;
+          tiles = tiles;
         })
 
     index_three : three.index ≡ start.index
-    index_three = keeps.index ∙ ap (λ (t : Table). t.index) has.memory.same ∙ has.index
+    index_three = index ∙ ap (λ (t : Table). t.index) has.memory.same ∙ has.index
 
     part_four : table_part grounds four ≡ table_part grounds three
     part_four = ap (table_part grounds) memory.same
@@ -171,18 +195,18 @@ module _ (moves : List Intent) (grounds : List Ground) (start one two : Table) (
 
 -- the whole
 pub ticked_room : (moves : List Intent) (room later : Room) (one two three four : Table) → later.name ≡ room.name → later.terrain ≡ room.terrain → HasMoved moves room.terrain room.table one two
-    → ((sums : Sums) → AreSumsOf sums two → table_part room.terrain three ≡ room_after_steps sums early_steps (table_part room.terrain two)) → KeepsUpTo (may_leave two.objects) two three → HasMemory (length three.objects + most_arrivals) three four
+    → ((sums : Sums) → AreSumsOf sums two → table_part room.terrain three ≡ room_after_steps sums early_steps (table_part room.terrain two)) → three.index ≡ two.index → AllByRecursion IsOnTile three.objects → HasMemory (length three.objects + most_arrivals) three four
     → ((grounds : List Ground) (sums : Sums) → table_part grounds later.table ≡ room_after_steps sums last_steps (table_part grounds four)) → KeepsUpTo (may_fall four.objects) four later.table → IsRising later.table.objects
     → IsTicked moves room later
-ticked_room moves room later one two three four name terrain has rule keeps memory last kept rise = record {
+ticked_room moves room later one two three four name terrain has rule index tiles memory last kept rise = record {
   name = name;
   terrain = terrain;
-  index = kept.index ∙ ap (λ (t : Table). t.index) memory.same ∙ index_three moves room.terrain room.table one two has three four rule keeps memory;
+  index = kept.index ∙ ap (λ (t : Table). t.index) memory.same ∙ index_three moves room.terrain room.table one two has three four rule index tiles memory;
   part = λ sums are.
       ap (λ (grounds : List Ground). table_part grounds later.table) terrain
       ∙ last room.terrain sums
-      ∙ ap (room_after_steps sums last_steps) (part_four moves room.terrain room.table one two has three four rule keeps memory ∙ part_three moves room.terrain room.table one two has three four rule keeps memory sums are);
+      ∙ ap (room_after_steps sums last_steps) (part_four moves room.terrain room.table one two has three four rule index tiles memory ∙ part_three moves room.terrain room.table one two has three four rule index tiles memory sums are);
   rising = rise;
   tiles = kept.tiles;
-  spare = spare_four moves room.terrain room.table one two has three four rule keeps memory later.table kept;
+  spare = spare_four moves room.terrain room.table one two has three four rule index tiles memory later.table kept;
 }

@@ -50,7 +50,7 @@ module _ (f : Harm → List (ℕ × ℕ)) (harms : List Harm) (harm : Harm) (id 
 
 -- ---- the room
 
-module _ (harms : List Harm) (entry : Intent) (grounds : List Ground) (old new : Table) (rise : IsRising old.objects) (ruled : IsRuled entry old new)
+module _ (harms : List Harm) (entry : Intent) (grounds : List Ground) (old new : Table) (rise : IsRising old.objects) (ruled : IsRuled grounds entry old new)
     (unborn : (serial : ℕ) → old.next ≤ serial → serial < 2 ^ 32 → HasNoId (old.index * 2 ^ 32 + serial) old.objects) (has : HasSumsOf harms old) where
   abbrev part : RoomPart
   part = table_part grounds old
@@ -62,7 +62,7 @@ module _ (harms : List Harm) (entry : Intent) (grounds : List Ground) (old new :
   later = harms ++ harm ∷ []
 
   follows : Follows part (table_part grounds new)
-  follows = subst (Follows part) (sym (ruled.rule grounds)) (book_orderly.effect entry part)
+  follows = subst (Follows part) (sym ruled.rule) (book_orderly.effect entry part)
 
   absent : (id : ℕ) → HasNoId id old.objects → (total_for harm.damage id ≡ 0) × (total_for harm.healing id ≡ 0)
   absent id none = harm_absent grounds old rise entry.action entry id none
@@ -73,7 +73,7 @@ module _ (harms : List Harm) (entry : Intent) (grounds : List Ground) (old new :
   -- of an object that stood
   stood : (id : ℕ) → HasId id new.objects → HasId id old.objects → tally_of id new.tallies ≡ record { damage = (sums_of later).damage id; healing = (sums_of later).healing id }
   stood id now was =
-      ruled.harm grounds id now
+      ruled.harm id now
       ∙ ap (tally_with harm id) (tally_as id was)
       ∙ (λ i. record { damage = more (λ h. h.damage) harms harm id i; healing = more (λ h. h.healing) harms harm id i })
 
@@ -85,7 +85,7 @@ module _ (harms : List Harm) (entry : Intent) (grounds : List Ground) (old new :
       let nothing = absent id none in
       let damage : (sums_of harms).damage id ≡ 0 = subst (λ (n : ℕ). (sums_of harms).damage n ≡ 0) (sym is) (has.fresh_damage serial least below) in
       let healing : (sums_of harms).healing id ≡ 0 = subst (λ (n : ℕ). (sums_of harms).healing n ≡ 0) (sym is) (has.fresh_healing serial least below) in
-      ruled.harm grounds id now
+      ruled.harm id now
       ∙ ap (tally_with harm id) (ruled.told.absent id none)
       ∙ (λ i. record { damage = zeroth (total_for harm.damage id) nothing.0 i; healing = zeroth (total_for harm.healing id) nothing.1 i })
       ∙ (λ i. record { damage = sym (still (λ h. h.damage) harms harm id damage nothing.0) i; healing = sym (still (λ h. h.healing) harms harm id healing nothing.1) i })

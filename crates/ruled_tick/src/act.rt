@@ -15,7 +15,8 @@ use creep_work::{build, dismantle, harvest, repair};
 use game_tables::Action;
 use intent_book::Intent;
 use kept_entries::Entry;
-use object_store::{Room, RoomTable};
+use object_store::{Room, RoomTable, Terrain};
+use spawn_rules::{create_site, remove_site, spawn};
 use std::alloc::{AllocError as NoMemory, Global};
 
 /// Begins a tick in each room: forgets what was done to its objects, and gives its table memory for what its
@@ -83,21 +84,20 @@ fn widen(alloc: Global, room: &mut Room, entries: u32) -> Result<(), NoMemory>
 fn rule_in(room: &mut Room, intent: &Intent) -> u32
     requires ready { IsReady room.old.table }
     ensures rest { room.new ≡ record room.old { table = room.new.table } }
-    ensures ruled { IsRuled intent.now room.old.table room.new.table }
+    ensures ruled { IsRuled room.old.terrain intent.now room.old.table room.new.table }
     ensures points { IsGained intent.now room.old.table result }
 {
-    let points = rule(&mut room.table, intent);
+    let points = rule(&room.terrain, &mut room.table, intent);
     let _rising = room.table.objects();
     points
 }
 
 // The rule of each action, and the points that its player gains, which only an upgrade gives.
-fn rule(table: &mut RoomTable, intent: &Intent) -> u32
+fn rule(ground: &Terrain, table: &mut RoomTable, intent: &Intent) -> u32
     requires ready { IsReady table.old }
-    ensures rule { (grounds : List Ground)
-        → table_part grounds table.new ≡ (book.effect intent.now (table_part grounds table.old)).part }
-    ensures harm { (grounds : List Ground)
-        → IsHarmedBy (book.harm intent.now (table_part grounds table.old)) table.old table.new }
+    ensures rule { table_part ground.now table.new
+        ≡ (book.effect intent.now (table_part ground.now table.old)).part }
+    ensures harm { IsHarmedBy (book.harm intent.now (table_part ground.now table.old)) table.old table.new }
     ensures told { AreTalliesOf table.old.objects table.old.tallies }
     ensures keeps { Keeps table.old table.new }
     ensures points { IsGained intent.now table.old result }
@@ -107,22 +107,21 @@ fn rule(table: &mut RoomTable, intent: &Intent) -> u32
     match intent.action {
         Action::Upgrade => upgrade(table, intent),
         _ => {
-            rule_plain(table, intent);
+            rule_plain(ground, table, intent);
             0
         }
     }
 }
 
-// The rule of each action that gives no points. One that is not in force yet does nothing, nor does a move,
-// which is settled with the other moves of its room after all entries.
-fn rule_plain(table: &mut RoomTable, intent: &Intent)
+// The rule of each action that gives no points. A move does nothing yet: it is settled with the other moves of
+// its room after all entries.
+fn rule_plain(ground: &Terrain, table: &mut RoomTable, intent: &Intent)
     requires ready { IsReady table.old }
     requires plain { intent.now.action ≢ Action.Upgrade }
     requires told { AreTalliesOf table.old.objects table.old.tallies }
-    ensures rule { (grounds : List Ground)
-        → table_part grounds table.new ≡ (book.effect intent.now (table_part grounds table.old)).part }
-    ensures harm { (grounds : List Ground)
-        → IsHarmedBy (book.harm intent.now (table_part grounds table.old)) table.old table.new }
+    ensures rule { table_part ground.now table.new
+        ≡ (book.effect intent.now (table_part ground.now table.old)).part }
+    ensures harm { IsHarmedBy (book.harm intent.now (table_part ground.now table.old)) table.old table.new }
     ensures keeps { Keeps table.old table.new }
 {
     match intent.action {
@@ -143,6 +142,9 @@ fn rule_plain(table: &mut RoomTable, intent: &Intent)
         Action::ClaimController => claim(table, intent),
         Action::Reserve => reserve(table, intent),
         Action::AttackController => attack_controller(table, intent),
-        _ => {}
+        Action::CreateSite => create_site(ground, table, intent),
+        Action::RemoveSite => remove_site(table, intent),
+        Action::SpawnCreep => spawn(table, intent),
+        Action::Upgrade | Action::Move => {}
     }
 }

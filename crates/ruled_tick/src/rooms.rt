@@ -10,6 +10,7 @@ use game_tables::Action;
 use intent_book::{Intent, Intents};
 use kept_entries::Entry;
 use object_store::{Room, RoomTable};
+use spawn_rules::hatch;
 use std::alloc::{AllocError as NoMemory, Global};
 use upkeep_rules::{age_controllers, upkeep_first, upkeep_last};
 
@@ -71,6 +72,9 @@ fn tick_room(room: &mut Room, moves: &[Intent]) -> Result<(), NoMemory>
     let most_left = 2 * u64::from(room.table.len());
     take_memory(&mut room.table, most_left)?;
     upkeep_first(&mut room.table);
+    let most_hatched = u64::from(room.table.len());
+    take_memory(&mut room.table, most_hatched)?;
+    hatch(&room.terrain, &mut room.table);
     age_controllers(&mut room.table);
     let most_made = u64::from(room.table.len()) + MOST_ARRIVALS;
     take_memory(&mut room.table, most_made)?;

@@ -6,6 +6,7 @@ ghost use Rattle.kept_entries.specs.Turns.{AreKept};
 ghost use Rattle.world_rules.specs.World.{world_of};
 ghost use Rattle.world_rules.specs.Tick.{book, plain_world, next_world, intents_of, gained, account_raised, account_after, run_of, bucket_after, points_after};
 ghost use Rattle.world_rules.specs.Sound.{IsSound, HaveSerials};
+ghost use Rattle.ruled_tick.specs.Players.{AreByPlayers};
 ghost use Rattle.ruled_tick.specs.inner.Entered.{AreGains};
 ghost use Rattle.ruled_tick.specs.inner.Ticked.{accounted, raised_by, IsRuledRooms, AreInPlace};
 
@@ -34,7 +35,7 @@ pub fn tick_plain(alloc: Global, world: &World, intents: &[Intent]) -> Result<Wo
     requires few { length intents.now ≤ 2 ^ 18 }
     requires serials { HaveSerials world.now.rooms }
     ensures ruled { IfOk result (λ next. world_of next ≡ plain_world (world_of world.now) intents.now) }
-    ensures sound { IfOk result IsSound }
+    ensures sound { IfOk result (λ next. AreByPlayers (world_of world.now) intents.now → IsSound next) }
 {
     let roster = Roster::of(alloc, world)?;
     let entries = kept_entries(alloc, world, &roster, intents)?;
@@ -52,7 +53,8 @@ pub fn tick_taken(alloc: Global, world: World, entries: &[Entry]) -> Result<Worl
     requires kept { (list : List Intent) × AreKept (world_of world) list entries.now }
     ensures ruled { IfOk result (λ next. (list : List Intent) → AreKept (world_of world) list entries.now
         → world_of next ≡ plain_world (world_of world) list) }
-    ensures sound { IfOk result IsSound }
+    ensures sound { IfOk result (λ next. (list : List Intent) → AreKept (world_of world) list entries.now
+        → AreByPlayers (world_of world) list → IsSound next) }
 {
     let (mut next, accounts, gains, crossers) = ruled_rooms(alloc, world, entries)?;
     push_raised(alloc, &accounts, &gains, &mut next)?;
@@ -80,7 +82,8 @@ pub fn next_world(
     requires kept { (list : List Intent) × AreKept (world_of world) list entries.now }
     ensures next { IfOk result (λ next. AreKept (world_of world) (intents_of runs.now) entries.now
         → world_of next ≡ next_world (world_of world) runs.now) }
-    ensures sound { IfOk result IsSound }
+    ensures sound { IfOk result (λ next. (list : List Intent) → AreKept (world_of world) list entries.now
+        → AreByPlayers (world_of world) list → IsSound next) }
     ensures accounts { IfOk result
         (λ next. (list : List Intent) → AreKept (world_of world) list entries.now → next.accounts
         ≡ map (λ account.

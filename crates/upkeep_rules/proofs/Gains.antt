@@ -12,7 +12,8 @@ use Rattle.object_store.specs.Tables.{Table, IsOnTile, IsRising, find_object, wi
 use Rattle.world_rules.specs.RoomParts.{RoomPart, table_part}
 use Rattle.world_rules.specs.Changes.{with_object as with_in_part}
 use Rattle.world_rules.specs.Steps.{by_object, over_ids}
-use Rattle.world_rules.specs.Upkeep.{filled, filled_as, held_by, holds_for_creeps, spawn_capacity}
+use Rattle.world_rules.specs.Upkeep.{filled, filled_as, spawn_capacity}
+use Rattle.world_rules.specs.Spawns.{held_by, holds_for_creeps}
 use Rattle.world_rules.proofs.TableParts.{get_table_part, part_replaced, part_values, tiles_replaced}
 use Rattle.upkeep_rules.specs.declared.filling.Held.{Held}
 use Rattle.upkeep_rules.specs.inner.Filled.{gains, has_room, IsFilled, IsFilledTo, IsKnown}

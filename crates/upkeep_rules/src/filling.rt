@@ -4,11 +4,13 @@ ghost use Rattle.std.specs.List.{AllByRecursion};
 ghost use Rattle.room_terrain.specs.declared.terrain.Ground.{Ground};
 ghost use Rattle.object_store.specs.Tables.{IsOnTile, IsRising};
 ghost use Rattle.world_rules.specs.RoomParts.{table_part};
-ghost use Rattle.world_rules.specs.Upkeep.{filled, held_by, holds_for_creeps, spawn_capacity};
+ghost use Rattle.world_rules.specs.Upkeep.{filled, spawn_capacity};
+ghost use Rattle.world_rules.specs.Spawns.{held_by};
 ghost use Rattle.upkeep_rules.specs.inner.Filled.{has_room, IsFilled, IsKnown};
 
+use action_checks::held_by;
 use game_tables::Kind;
-use object_store::{Object, Objects, RoomTable};
+use object_store::{Object, RoomTable};
 
 // The energy that a spawn holds.
 const SPAWN_CAPACITY: u64 = 300;
@@ -86,27 +88,7 @@ fn held_for(room: &RoomTable, owner: u32, known: Option<Held>) -> Held
         Some(held) if held.owner == owner => held,
         _ => Held {
             owner,
-            energy: held_by(room.objects(), owner),
+            energy: held_by(room.objects(), owner, SPAWN_CAPACITY),
         },
     }
-}
-
-// The sum over these objects, as far as it counts.
-fn held_by(objects: Objects<'_>, owner: u32) -> u64
-    ensures { result ≡ min spawn_capacity (held_by owner objects.entry) }
-{
-    let mut sum = 0;
-    for object in objects {
-        if holds_for_creeps(object.kind) && object.owner == owner {
-            sum = object.energy.saturating_add(sum).min(SPAWN_CAPACITY);
-        }
-    }
-    sum
-}
-
-// Whether spawns make creeps of what objects of a kind hold.
-fn holds_for_creeps(kind: Kind) -> bool
-    ensures { result ≡ holds_for_creeps kind }
-{
-    matches!(kind, Kind::Spawn | Kind::Extension)
 }

@@ -13,7 +13,17 @@ use Rattle.object_store.specs.Stores.{capacity_as}
 use Rattle.world_rules.specs.World.{Placed}
 use Rattle.visible_view.specs.Sights.{SeenRoom, Sight}
 
+-- the place of a number in a list, by what each has for its number
+abbrev pub place_by : {A : Type 0} → (A → ℕ) → ℕ → List A → Option ℕ
+place_by key number [] = None
+place_by key number (first ∷ later) =
+    if key first == number then Some 0 else option_map suc (place_by key number later)
+
 -- ---- rooms
+
+-- the place of an index among the rooms that are seen
+abbrev pub room_place : ℕ → List SeenRoom → Option ℕ
+room_place index rooms = place_by (λ room. room.index) index rooms
 
 -- the room of an index, where it is seen
 abbrev pub room_at : Sight → ℕ → Option SeenRoom
@@ -30,8 +40,7 @@ ground_at sight index x y = option_and_then (ground_in x y) (room_at sight index
 
 -- the place of an id among the objects
 abbrev pub place_of : ℕ → List Placed → Option ℕ
-place_of id [] = None
-place_of id (placed ∷ later) = if placed.object.id == id then Some 0 else option_map suc (place_of id later)
+place_of id objects = place_by (λ placed. placed.object.id) id objects
 
 -- the objects of a room that is seen, in rising id
 abbrev pub objects_at : Sight → ℕ → List Object

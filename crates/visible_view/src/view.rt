@@ -12,14 +12,16 @@ ghost use Rattle.world_rules.specs.Sound.{IsSound};
 ghost use Rattle.world_rules.specs.World.{shown, world_of};
 ghost use Rattle.world_roster.specs.Rosters.{id_in};
 ghost use Rattle.visible_view.specs.Sights.{sight_of};
-ghost use Rattle.visible_view.specs.Fields.{controller_at, field_at, field_of as told_field, ground_at, objects_at, place_of, room_at};
+ghost use Rattle.visible_view.specs.Fields.{controller_at, field_at, field_of as told_field, ground_at, objects_at, place_of, room_at, room_place as place_of_room};
 ghost use Rattle.visible_view.specs.inner.Gathered.{index_in};
 
 use crate::NoMemory;
 use crate::field::{ground_of, part_field};
 use crate::gather::{RoomInView, flagged_objects, gather};
 use game_tables::hits_max;
-use object_store::{Account, Ground, Object, RoomName, RoomTable, Standing, World, capacity};
+use object_store::{
+    Account, Ground, Object, RoomName, RoomTable, Standing, Terrain, World, capacity,
+};
 use std::alloc::Global;
 use std::marker::Model;
 use world_roster::Roster;
@@ -168,6 +170,33 @@ impl<'a> View<'a> {
     {
         let seen = self.rooms.get(i as usize)?;
         Some(seen.index)
+    }
+
+    /// The place of a room among those that are seen, from 0 on, by its index in the world.
+    pub fn place(&self, room: u32) -> Option<u32>
+        ensures { result ≡ place_of_room room self.now.rooms }
+    {
+        let place = room_place(&self.rooms, room);
+        match self.rooms.get(place) {
+            Some(seen) if seen.index == room => Some(place as u32),
+            _ => None,
+        }
+    }
+
+    /// The grounds of the room at a place among those that are seen.
+    pub fn terrain_at(&self, place: u32) -> Option<&'a Terrain>
+        ensures { option_map (λ terrain. terrain.now) result
+            ≡ option_map (λ seen. seen.grounds) (slice_get self.now.rooms place) }
+    {
+        Some(&self.rooms.get(place as usize)?.room.terrain)
+    }
+
+    /// The table of the room at a place among those that are seen.
+    pub fn table_at(&self, place: u32) -> Option<&'a RoomTable>
+        ensures { option_map (λ table. table.now.objects) result
+            ≡ option_map (λ seen. objects_at self.now seen.index) (slice_get self.now.rooms place) }
+    {
+        Some(&self.rooms.get(place as usize)?.room.table)
     }
 
     /// The name of a room, by its index in the world.

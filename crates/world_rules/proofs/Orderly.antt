@@ -1,13 +1,14 @@
 -- The rules in force stay in their rooms.
-use Rattle.std.proofs.Common.{ℕ, ◌+◌, ◌-◌, ◌*◌, ◌==◌, ◌&&◌, ◌||◌, min, nat_lt, Bool, List, Option, Some, None}
+use Rattle.std.proofs.Common.{ℕ, ◌+◌, ◌-◌, ◌*◌, ◌==◌, ◌&&◌, ◌||◌, if◌then◌else◌, min, nat_lt, Bool, List, [], ◌∷◌, length, Option, Some, None}
 use Rattle.std.specs.List.{filter, find}
 use Rattle.std.specs.FinMap.{get, values}
-use Rattle.game_tables.specs.Bodies.{load_room}
+use Rattle.game_tables.specs.Bodies.{body_cost, load_room}
 use Rattle.game_tables.specs.Kinds.{is_building, is_creep, source_capacity}
 use Rattle.game_tables.specs.declared.kind.Kind.{Kind}
+use Rattle.game_tables.specs.declared.kind.Part.{Part}
 use Rattle.game_tables.specs.declared.kind.Kind.TheVariants.{Creep, Spawn}
 use Rattle.game_tables.specs.declared.action.Action.{Action}
-use Rattle.game_tables.specs.declared.action.Action.TheVariants.{DropLoad, Transfer, Withdraw, Pickup, Dismantle, Harvest, Repair, Build, Suicide, ClaimController, Upgrade, Reserve, AttackController}
+use Rattle.game_tables.specs.declared.action.Action.TheVariants.{DropLoad, Transfer, Withdraw, Pickup, Dismantle, Harvest, Repair, Build, Suicide, ClaimController, Upgrade, Reserve, AttackController, CreateSite, RemoveSite, SpawnCreep}
 use Rattle.object_store.specs.Controllers.{is_taken, is_owned_room}
 use Rattle.object_store.specs.Stores.{building_of, free_room}
 use Rattle.object_store.specs.declared.object.Object.{Object}
@@ -15,16 +16,18 @@ use Rattle.intent_book.specs.declared.intent.Intent.{Intent}
 use Rattle.world_rules.specs.RoomParts.{RoomPart, controller_of}
 use Rattle.world_rules.specs.Changes.{with_object, without, with_new}
 use Rattle.world_rules.specs.RuleBook.{Sums, Follows, StaysInRoom, IsOrderly}
-use Rattle.world_rules.specs.Checks.{acting, may_take_effect, parties, between, by_parties}
+use Rattle.world_rules.specs.Checks.{all_hold, acting, may_take_effect, parties, between, by_parties, standing_at}
 use Rattle.world_rules.specs.Drops.{pile_bound, pile_on, pile_of, fallen_on, fallen, wanted_of, dropped_by, dropped_of}
 use Rattle.world_rules.specs.Loads.{with_more, with_less, handed_over, transferred_by, withdrawn_by, taken_from, picked_up_by}
 use Rattle.world_rules.specs.Work.{live_work, harvested_by, hits_gained, repair_cost, repaired_by, total_of, work_put, building_on, advanced, built_as, built_by}
 use Rattle.world_rules.specs.Fights.{dismantled_by, salvage, without_hits}
 use Rattle.world_rules.specs.Claims.{claimed_by, claimed_for, controller_aged_as, controller_hurt, hurt_by, reserved_by, ticks_reserved, upgraded_by, work_taken, worked_on}
+use Rattle.world_rules.specs.Sites.{plan_of, removal_checks, site_checks, site_of}
+use Rattle.world_rules.specs.Spawns.{begun_with, held_by, hatched_as, hatched_on, newborn, paid, payers, share, spawn_checks, tile_for}
 use Rattle.world_rules.specs.Steps.{by_object, over_objects}
 use Rattle.world_rules.specs.Movement.{Mover, movers, has_mover, stepped, worn_as, moved_by}
 use Rattle.world_rules.specs.Moves.{candidates, fatigue}
-use Rattle.world_rules.specs.Upkeep.{aged_as, decayed_as, decays, buildings_decayed, filled_as, gone, held_by, hits_left, recovered_as, renewed_as, spawn_capacity, standing_or_gone, struck_as, unloaded_as, weathered, weathered_as}
+use Rattle.world_rules.specs.Upkeep.{aged_as, decayed_as, decays, buildings_decayed, filled_as, gone, hits_left, recovered_as, renewed_as, spawn_capacity, standing_or_gone, struck_as, unloaded_as, weathered, weathered_as}
 use Rattle.world_rules.specs.Tick.{rule_of, book}
 use Rattle.world_rules.proofs.Follows.{follows_self, follows_trans, follows_if, follows_object, follows_without, follows_new, follows_over, follows_each}
 
@@ -109,6 +112,27 @@ upgrade_follows creep controller =
     let amount : ℕ = work_taken creep controller in
     two_follow (worked_on amount controller) (with_less amount creep)
 
+-- ---- spawns
+
+by_object_follows : (found : Option Object) (change : Object → RoomPart → RoomPart) → ((object : Object) → StaysInRoom (change object)) → StaysInRoom (λ part. by_object change part found)
+by_object_follows None change stays part = follows_self part
+by_object_follows (Some object) change stays part = stays object part
+
+pay_follows : (list : List ℕ) (cost : ℕ) → StaysInRoom (paid list cost)
+pay_follows [] cost part = follows_self part
+pay_follows (id ∷ later) cost part =
+    let amount : ℕ = share cost (get part.objects id) in
+    let pay : Object → RoomPart → RoomPart = λ object. with_object (with_less amount object) in
+    let less : RoomPart = by_object pay part (get part.objects id) in
+    follows_trans part less (paid later (cost - amount) less) (by_object_follows (get part.objects id) pay (λ object now. follows_object (with_less amount object) now) part) (pay_follows later (cost - amount) less)
+
+hatch_follows : (spawn : Object) (at : Option (ℕ × ℕ)) → StaysInRoom (hatched_on spawn at)
+hatch_follows spawn None part = follows_self part
+hatch_follows spawn (Some at) part =
+    let rest : Object = record spawn { timer = 0; body = [] } in
+    let after : RoomPart = with_object rest part in
+    follows_trans part after (with_new (newborn spawn at) after) (follows_object rest part) (follows_new (newborn spawn at) after)
+
 -- ---- all rules
 
 rule_follows : (action : Action) (entry : Intent) → StaysInRoom (λ part. (rule_of action entry part).part)
@@ -125,6 +149,15 @@ rule_follows ClaimController entry part = follows_parties ClaimController (claim
 rule_follows Upgrade entry part = follows_parties Upgrade upgraded_by upgrade_follows entry part
 rule_follows Reserve entry part = follows_parties Reserve (reserved_by entry.player) (λ creep controller now. follows_object (record controller { other = entry.player; other_ticks = ticks_reserved creep controller }) now) entry part
 rule_follows AttackController entry part = follows_parties AttackController hurt_by (λ creep controller now. follows_object (controller_hurt creep controller) now) entry part
+rule_follows CreateSite entry part = follows_if (all_hold (site_checks (plan_of entry part))) part (with_new (site_of (plan_of entry part)) part) part (follows_new (site_of (plan_of entry part)) part) (follows_self part)
+rule_follows RemoveSite entry part = follows_if (all_hold (removal_checks entry.player (standing_at part entry.actor))) part (without entry.actor part) part (follows_without entry.actor part) (follows_self part)
+rule_follows SpawnCreep entry part =
+    let around : List Object = values part.objects in
+    let after : RoomPart = paid (payers entry.player around) (body_cost entry.body) part in
+    let begun : RoomPart = by_object (begun_with entry.body) after (get after.objects entry.actor) in
+    follows_if (all_hold (spawn_checks entry.player (standing_at part entry.actor) around (Some entry.body))) part begun part
+    (follows_trans part after begun (pay_follows (payers entry.player around) (body_cost entry.body) part) (by_object_follows (get after.objects entry.actor) (begun_with entry.body) (λ spawn now. follows_object (record spawn { body = entry.body; timer = 3 * length entry.body }) now) after))
+    (follows_self part)
 rule_follows _ entry part = follows_self part
 
 -- ---- movement
@@ -170,6 +203,15 @@ filled_follows Spawn spawn part =
     follows_if (nat_lt spawn.energy spawn_capacity && nat_lt (held_by spawn.owner (values part.objects)) spawn_capacity) part (with_object more part) part (follows_object more part) (follows_self part)
 filled_follows _ object part = follows_self part
 
+hatched_follows : (kind : Kind) (object : Object) → StaysInRoom (hatched_as kind object)
+hatched_follows Spawn spawn part =
+    let sooner : Object = record spawn { timer = spawn.timer - 1 } in
+    let at : Option (ℕ × ℕ) = tile_for part spawn in
+    let last : RoomPart = if spawn.timer == 1 then hatched_on spawn at part else part in
+    follows_if (nat_lt 1 spawn.timer) part (with_object sooner part) last (follows_object sooner part)
+    (follows_if (spawn.timer == 1) part (hatched_on spawn at part) part (hatch_follows spawn at part) (follows_self part))
+hatched_follows _ object part = follows_self part
+
 weathered_follows : (in_owned : Bool) (object : Object) → StaysInRoom (weathered_as in_owned object)
 weathered_follows in_owned object part = follows_if (decays object.kind) part (standing_or_gone (weathered in_owned object) part) part (left_follows (weathered in_owned object) part) (follows_self part)
 
@@ -177,9 +219,6 @@ buildings_follow : StaysInRoom buildings_decayed
 buildings_follow part = follows_over (weathered_as (is_owned_room (controller_of part))) (weathered_follows (is_owned_room (controller_of part))) part
 
 -- ---- the book
-
-rests : (sums : Sums) → StaysInRoom (λ part. part)
-rests sums part = follows_self part
 
 pub book_orderly : IsOrderly book
 book_orderly = record {
@@ -196,7 +235,7 @@ book_orderly = record {
           (
             λ sums part. follows_over (λ object. filled_as object.kind object) (λ object. filled_follows object.kind object) part,
             (
-              rests,
+              λ sums part. follows_over (λ object. hatched_as object.kind object) (λ object. hatched_follows object.kind object) part,
               (
                 (λ sums. follows_each (λ object. Some (controller_aged_as object.kind object))),
                 (

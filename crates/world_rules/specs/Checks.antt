@@ -10,7 +10,7 @@ use Rattle.game_tables.specs.Kinds.{is_creep, obstructs}
 use Rattle.game_tables.specs.declared.action.Action.{Action}
 use Rattle.game_tables.specs.declared.action.Action.TheVariants.{DropLoad, Transfer, Withdraw, Pickup, Heal, RangedHeal, Harvest, Repair, Build, ClaimController, Upgrade, Reserve, AttackController, Move}
 use Rattle.game_tables.specs.declared.code.Code.{Code}
-use Rattle.game_tables.specs.declared.code.Code.TheVariants.{Done, NotOwner, NotFound, NotEnoughResources, InvalidTarget, Full, NotInRange, InvalidArgs, Tired, NoBodypart}
+use Rattle.game_tables.specs.declared.code.Code.TheVariants.{Done, NotOwner, NotFound, NotEnoughResources, InvalidTarget, Full, NotInRange, InvalidArgs, Tired, NoBodypart, GlobalLevelNotEnough}
 use Rattle.game_tables.specs.declared.kind.Kind.{Kind}
 use Rattle.game_tables.specs.declared.kind.Kind.TheVariants.{Creep}
 use Rattle.game_tables.specs.declared.kind.Part.{Part}
@@ -43,7 +43,8 @@ all_hold (check ∷ later) = check.0 && all_hold later
 
 -- The player who acts, what stands under the ids of the actor and of the target, and all that stands in the
 -- room of the actor, by rising id. The amount is none where it is negative; the least is how much there has
--- to be.
+-- to be. Then how many controllers the player owns, with those that his other creeps are to claim, and his
+-- global level.
 pub record Scene : Type 0 where
   pub player : ℕ
   pub actor : Option Placed
@@ -51,6 +52,8 @@ pub record Scene : Type 0 where
   pub around : List Object
   pub amount : Option ℕ
   pub least : ℕ
+  pub claims : ℕ
+  pub level : ℕ
 
 -- the least that an amount wants: at least 1, where an amount of 0 wants all
 abbrev pub least_of : Option ℕ → ℕ
@@ -168,7 +171,8 @@ further_checks Build scene =
     ∷ holds_least 1 scene.actor
     ∷ (holds_of scene.target (λ site. not (is_in_the_way scene.around site)), InvalidTarget) ∷ []
 further_checks ClaimController scene =
-    (holds_of scene.target (is_free_for scene.player), InvalidTarget) ∷ []
+    (holds_of scene.target (is_free_for scene.player), InvalidTarget)
+    ∷ (nat_lt scene.claims scene.level, GlobalLevelNotEnough) ∷ []
 further_checks Upgrade scene =
     (holds_of scene.target (λ controller. controller.owner == scene.player), NotOwner)
     ∷ holds_least 1 scene.actor ∷ []
@@ -190,7 +194,8 @@ abbrev pub standing_at : RoomPart → ℕ → Option Placed
 standing_at part id =
     option_map (λ object. record { room = part.index; object = object }) (get part.objects id)
 
--- What a rule reads, with all that stands in the room: at least 1 has to be there, whatever the amount.
+-- What a rule reads, with all that stands in the room: at least 1 has to be there, whatever the amount. It
+-- looks at its room alone, so it counts no controllers.
 abbrev pub scene_of : Intent → List Object → Option Placed → Option Placed → Scene
 scene_of entry around actor target = record {
   player = entry.player;
@@ -199,6 +204,8 @@ scene_of entry around actor target = record {
   around = around;
   amount = Some entry.amount;
   least = 1;
+  claims = 0;
+  level = 1;
 }
 
 -- The rule of an action does something with an entry, where this stands in the room, and these are its actor

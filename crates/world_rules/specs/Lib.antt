@@ -9,6 +9,10 @@ pub mod Loads
 pub mod Work
 pub mod Fights
 pub mod Claims
+pub mod Movement
+pub mod Moves
+pub mod Sites
+pub mod Spawns
 pub mod Intents
 pub mod Upkeep
 pub mod Tick
@@ -16,8 +20,6 @@ pub mod RoomTick
 pub mod Seen
 pub mod Rules
 pub mod Sound
-pub mod Movement
-pub mod Moves
 pub mod Crossings
 pub mod Examples
 pub mod FrameExamples

@@ -4,7 +4,7 @@ use Rattle.std.specs.List.{filter, find, filter_map, flat_map, sum_by}
 use Rattle.std.specs.FinMap.{from_entries, entries}
 use Rattle.std.specs.Option.{option_to_list}
 use Rattle.game_tables.specs.declared.action.Action.{Action}
-use Rattle.game_tables.specs.declared.action.Action.TheVariants.{DropLoad, Transfer, Withdraw, Pickup, Heal, RangedHeal, Dismantle, Attack, Harvest, Repair, Build, RangedMassAttack, RangedAttack, Suicide, ClaimController, Upgrade, Reserve, AttackController, Move}
+use Rattle.game_tables.specs.declared.action.Action.TheVariants.{DropLoad, Transfer, Withdraw, Pickup, Heal, RangedHeal, Dismantle, Attack, Harvest, Repair, Build, RangedMassAttack, RangedAttack, Suicide, ClaimController, Upgrade, Reserve, AttackController, CreateSite, RemoveSite, SpawnCreep, Move}
 use Rattle.game_tables.specs.Limits.{most_bucket, most_points, unit_instructions}
 use Rattle.object_store.specs.declared.account.Account.{Account}
 use Rattle.object_store.specs.Tallies.{most_sum}
@@ -16,6 +16,8 @@ use Rattle.world_rules.specs.Work.{harvested, repaired, built}
 use Rattle.world_rules.specs.Fights.{attacked_by, dismantled, ended, harm_by_parties, healed_by, mass_attacked, shot_by, torn_by}
 use Rattle.world_rules.specs.Claims.{claimed, controller_attacked, points_gained, reserved, upgraded}
 use Rattle.world_rules.specs.Moves.{moved}
+use Rattle.world_rules.specs.Sites.{site_made, site_removed}
+use Rattle.world_rules.specs.Spawns.{creep_begun}
 use Rattle.world_rules.specs.Crossings.{crossed}
 use Rattle.world_rules.specs.Upkeep.{steps}
 use Rattle.world_rules.specs.World.{World}
@@ -159,6 +161,9 @@ rule_of ClaimController entry part = changes_to (claimed entry part)
 rule_of Upgrade entry part = record { part = upgraded entry part; points = points_gained entry part }
 rule_of Reserve entry part = changes_to (reserved entry part)
 rule_of AttackController entry part = changes_to (controller_attacked entry part)
+rule_of CreateSite entry part = changes_to (site_made entry part)
+rule_of RemoveSite entry part = changes_to (site_removed entry part)
+rule_of SpawnCreep entry part = changes_to (creep_begun entry part)
 rule_of action entry part = changes_to part
 
 -- what each action does to objects

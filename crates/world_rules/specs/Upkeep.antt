@@ -1,11 +1,10 @@
 -- The steps of upkeep at the end of a tick. Each is a change of a room's part, over its objects in rising id.
 use Rattle.std.specs.Prelude.{ℕ, ◌+◌, ◌-◌, ◌*◌, ◌==◌, ◌&&◌, ◌||◌, min, max, nat_lt, Bool, true, false, if◌then◌else◌, List, [], ◌∷◌, ◌++◌, Option, Some, None}
-use Rattle.std.specs.List.{filter, sum_by}
 use Rattle.std.specs.FinMap.{values}
 use Rattle.game_tables.specs.Bodies.{live_count, load_room}
 use Rattle.game_tables.specs.Kinds.{full_timer, hits_max, is_building, is_creep, source_capacity, renewal_ticks, pile_decay}
 use Rattle.game_tables.specs.declared.kind.Kind.{Kind}
-use Rattle.game_tables.specs.declared.kind.Kind.TheVariants.{Source, Creep, Spawn, Extension, Container, Road, Pile}
+use Rattle.game_tables.specs.declared.kind.Kind.TheVariants.{Source, Creep, Spawn, Container, Road, Pile}
 use Rattle.game_tables.specs.declared.kind.Part.TheVariants.{Move}
 use Rattle.object_store.specs.Controllers.{is_taken, is_owned_room}
 use Rattle.object_store.specs.declared.object.Object.{Object}
@@ -14,6 +13,7 @@ use Rattle.world_rules.specs.RuleBook.{Step, Sums}
 use Rattle.world_rules.specs.Changes.{with_object, without}
 use Rattle.world_rules.specs.Drops.{dropped_by, fallen}
 use Rattle.world_rules.specs.Claims.{controllers_aged}
+use Rattle.world_rules.specs.Spawns.{hatched, held_by}
 use Rattle.world_rules.specs.Steps.{over_objects, each}
 
 -- ---- hits
@@ -77,18 +77,6 @@ recovered part = each (λ object. Some (recovered_as object.kind object)) part
 -- the energy that a spawn holds
 abbrev pub spawn_capacity : ℕ
 spawn_capacity = 300
-
--- What a spawn makes creeps of: spawns and extensions hold it.
-abbrev pub holds_for_creeps : Kind → Bool
-holds_for_creeps Spawn = true
-holds_for_creeps Extension = true
-holds_for_creeps kind = false
-
--- what the spawns and extensions of an owner hold together
-abbrev pub held_by : ℕ → List Object → ℕ
-held_by owner objects =
-    let holds : Object → Bool = λ object. holds_for_creeps object.kind && (object.owner == owner) in
-    sum_by (λ object. object.energy) (filter holds objects)
 
 -- A spawn that has room gains 1, where its owner's spawns and extensions hold less than one spawn does.
 abbrev pub filled_as : Kind → Object → RoomPart → RoomPart
@@ -171,20 +159,13 @@ decayed part = each (λ object. decayed_as object.kind object) part
 
 -- ---- all steps
 
--- a step that is not in force yet
-abbrev pub unchanged : Step
-unchanged sums part = part
-
 -- the steps up to the gain of spawns
 abbrev pub first_steps : List Step
 first_steps = struck ∷ (λ sums. unloaded) ∷ (λ sums. aged) ∷ (λ sums. recovered) ∷ (λ sums. filled) ∷ []
 
 -- what spawns and controllers do
 abbrev pub middle_steps : List Step
-middle_steps =
-    unchanged  -- spawns make creeps
-    ∷ (λ sums. controllers_aged)
-    ∷ []
+middle_steps = (λ sums. hatched) ∷ (λ sums. controllers_aged) ∷ []
 
 -- the steps from the renewal of sources on
 abbrev pub last_steps : List Step

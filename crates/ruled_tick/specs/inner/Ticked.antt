@@ -22,6 +22,7 @@ use Rattle.world_rules.specs.Tick.{account_after, account_raised, book, inner, r
 use Rattle.world_rules.specs.Sound.{IsSound}
 use Rattle.room_rules.specs.Calls.{AreSumsOf, IsMovable}
 use Rattle.room_rules.specs.Followed.{part_stored}
+use Rattle.ruled_tick.specs.inner.Entered.{AreOfPlayers}
 use Rattle.exit_crossing.specs.declared.leaving.Crosser.{Crosser}
 use Rattle.exit_crossing.specs.Crossing.{AreCrossers, IsReadyToCross, most_arrivals}
 
@@ -98,7 +99,7 @@ pub record IsRuledRooms (stored : Stored) (entries : List Entry) (later : Stored
   pub tick : rested.tick ≡ stored.tick
   pub accounts : rested.accounts ≡ stored.accounts
   pub rooms : length rested.rooms ≡ length stored.rooms
-  pub sound : IsSound rested
+  pub sound : AreOfPlayers (world_of stored) entries → IsSound rested
   pub ready : IsReadyToCross rested.rooms
   pub crossers : AreCrossers rested.rooms list
   pub same : (intents : List Intent) → AreKept (world_of stored) intents entries

@@ -8,7 +8,8 @@ use Rattle.object_store.specs.declared.object.Object.{Object}
 use Rattle.object_store.specs.Tables.{Table, IsOnTile}
 use Rattle.world_rules.specs.RoomParts.{RoomPart, table_part}
 use Rattle.world_rules.specs.Steps.{by_object, over_ids}
-use Rattle.world_rules.specs.Upkeep.{filled, filled_as, held_by, spawn_capacity}
+use Rattle.world_rules.specs.Upkeep.{filled, filled_as, spawn_capacity}
+use Rattle.world_rules.specs.Spawns.{held_by}
 use Rattle.upkeep_rules.specs.declared.filling.Held.{Held}
 use Rattle.upkeep_rules.specs.inner.Worn.{ahead, ids_of}
 

@@ -1,7 +1,8 @@
-use Rattle.std.proofs.Common.{◌==◌, ◌^◌, map, sym, subst}
+use Rattle.std.proofs.Common.{ℕ, ◌<◌, ◌==◌, ◌^◌, map, sym, subst}
 use Rattle.std.specs.List.{filter}
 use Rattle.game_tables.specs.declared.action.Action.TheVariants.{RangedMassAttack}
 use Rattle.object_store.specs.Tables.{IsRising, IsOnTile}
+use Rattle.object_store.proofs.Greatest.{all_under}
 use Rattle.world_rules.specs.Fights.{all_struck_by, is_struck, mass_blow}
 use Rattle.world_rules.specs.RuleBook.{Harm}
 use Rattle.world_rules.proofs.TableParts.{all_found, part_values}
@@ -10,7 +11,7 @@ use Rattle.creep_combat.specs.inner.Damage.{mass_damage}
 use Rattle.room_rules.proofs.Harmed.{harmed_by}
 use Rattle.creep_combat.proofs.Found.{acting_found}
 use Rattle.room_rules.proofs.Harmed.{shown_within}
-use Rattle.creep_combat.proofs.Struck.{all_under, total_struck}
+use Rattle.creep_combat.proofs.Struck.{total_struck}
 use Rattle.creep_combat.proofs.mass.mass_attack.Goals as goal
 
 pub strike_all-requires-clause-tile : goal.strike_all-requires-clause-tile
@@ -22,7 +23,7 @@ strike_all-requires-clause-tile c =
 
 pub strike_all-requires-clause-ids : goal.strike_all-requires-clause-ids
 strike_all-requires-clause-ids c =
-    all_under c.greatest_id-greatest.result (2 ^ 64) c.args.room.now.objects c.greatest_id-greatest.type_inv c.greatest_id-greatest.ensures
+    all_under (2 ^ 64) c.args.room.now.objects (subst (λ (n : ℕ). n < 2 ^ 64) c.greatest_id-greatest.ensures c.greatest_id-greatest.type_inv)
 
 pub returns-clause-harm : goal.returns-clause-harm
 returns-clause-harm c =

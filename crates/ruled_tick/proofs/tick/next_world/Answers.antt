@@ -10,6 +10,7 @@ use Rattle.world_rules.specs.Tick.{book, gained, intents_of}
 use Rattle.ruled_tick.specs.inner.Ticked.{accounted}
 use Rattle.ruled_tick.proofs.Follows.{accounted-player}
 use Rattle.ruled_tick.proofs.Next.{many, pushed-IsSound, pushed_as, pushed_crossers, pushed_ready, ran-IsNext, read_gains}
+use Rattle.ruled_tick.proofs.Players.{kept_by_players}
 use Rattle.ruled_tick.proofs.tick.next_world.Goals as goal
 
 pub push_accounted-requires-clause-gains : goal.push_accounted-requires-clause-gains
@@ -61,8 +62,7 @@ returns-clause-sound c =
     let is : (list : List Intent) → AreKept (world_of world) list entries → pushed ≡ record next { accounts = map (accounted (gained book (world_of world) list) runs) world.accounts } = λ list are.
     pushed_as (λ (gain : ℕ → ℕ). accounted gain runs) world next pushed c.in_ok-next.accounts.items c.deref.result.now c.in_ok-next.gains.items c.deref-2.result.now c.deref.ensures.value c.deref-2.ensures.value c.in_ok-next.ensures.accounts c.in_ok-push_accounted.ensures
     (gained book (world_of world) list) (c.in_ok-next.ensures.gains list are) in
-    let kept = c.requires.kept in
-    c.cross.ensures.sound (pushed-IsSound world entries c.requires.sound next crossers r (accounted (gained book (world_of world) kept.0) runs) (accounted-player (gained book (world_of world) kept.0) runs) pushed (is kept.0 kept.1))
+    λ list are by. c.cross.ensures.sound (pushed-IsSound world entries c.requires.sound next crossers r (accounted (gained book (world_of world) list) runs) (accounted-player (gained book (world_of world) list) runs) pushed (is list are) (kept_by_players (world_of world) list by entries are))
 
 pub returns-clause-next : goal.returns-clause-next
 returns-clause-next c =

@@ -9,7 +9,8 @@ use Rattle.world_rules.specs.World.{world_of}
 use Rattle.object_store.specs.Tables.{IsOnTile}
 use Rattle.exit_crossing.specs.declared.leaving.Crosser.{Crosser}
 use Rattle.exit_crossing.specs.Crossing.{AreCrossers, AreIdsApart, rested_room}
-use Rattle.ruled_tick.specs.inner.Entered.{many_in, points_entered, widened, AreGains, IsActed, IsRuledIn}
+use Rattle.ruled_tick.proofs.Players.{takes_account, takes_entry}
+use Rattle.ruled_tick.specs.inner.Entered.{many_in, points_entered, takes_part, widened, AreGains, IsActed, IsRuledIn}
 use Rattle.ruled_tick.specs.inner.Ticked.{AreInPlace, AreTicked}
 use Rattle.ruled_tick.proofs.Acted.{acted_first, acted_more, acted_next, acted_ready, acted_then}
 use Rattle.ruled_tick.proofs.Gaining.{gained_all, gained_first, gained_more, gained_then}
@@ -30,8 +31,8 @@ loop-entry-init c =
     let full : c.into_parts-rooms.result.0.len ≡ length items = omega (arith, c.deref_mut.ensures.len, ap length c.deref_mut.ensures.value) in
     let many : c.len.result ≡ length world.accounts = omega (arith, c.len.ensures, c.into_parts-rooms.result.1.ok, ap length c.into_parts-rooms.ensures.accounts) in
     record {
-      acted = subst (IsActed world [] entries) (sym (written_back items new c.into_parts-rooms.result.0.len (long ∙ ap length c.deref_mut.ensures.value) full))
-          (acted_first world entries new c.requires.sound
+      acted = subst (IsActed world (takes_part (world_of world) entries) [] entries) (sym (written_back items new c.into_parts-rooms.result.0.len (long ∙ ap length c.deref_mut.ensures.value) full))
+          (acted_first world entries new c.requires.sound (takes_part (world_of world) entries) (takes_account (world_of world) entries)
           (λ k. c.in_ok-widen_all.ensures k ∙ ap (λ (xs : List Room). option_map (widened (many_in k entries)) (slice_get xs k)) start)
           c.requires.serials (long ∙ ap length start));
       gained = c.in_ok-gains.ensures.items_if_clones_equal (λ y same. same) ∙ ap (λ (n : ℕ). replicate n 0) many ∙ gained_first world.accounts;
@@ -47,7 +48,7 @@ enter-points-requires c =
     let few : length (take i entries) < 2 ^ 18 = omega (arith, length-take-le i entries, c.requires.few) in
     record {
       ready = λ room at.
-          acted_ready world c.requires.sound (take i entries) entry (drop (i + 1) entries) items (acted_next world entries i entry items c.loop-entry-test.true c.entry-item.is c.loop-entry.invariant.acted) few room
+          acted_ready world c.requires.sound (takes_part (world_of world) entries) (take i entries) entry (takes_entry (world_of world) c.requires.kept.0 entries c.requires.kept.1 i entry c.loop-entry-test.true c.entry-item.is) (drop (i + 1) entries) items (acted_next world (takes_part (world_of world) entries) entries i entry items c.loop-entry-test.true c.entry-item.is c.loop-entry.invariant.acted) few room
           (ap (λ (xs : List Room). slice_get xs entry.room) (sym c.deref_mut-in-loop-entry.ensures.value) ∙ at);
     }
 
@@ -64,7 +65,7 @@ loop-entry-preserved c =
     let long : length new ≡ length c.deref_mut-in-loop-entry.result.now = c.enter-points.auto.rooms in
     let full : c.loop-entry.rooms.len ≡ length items = omega (arith, c.deref_mut-in-loop-entry.ensures.len, ap length value) in
     let ruled = subst (λ (xs : List Room). IsRuledIn (slice_get xs entry.room) entry.room entry.intent points xs new) value c.enter-points.ensures in
-    let acted = acted_next world entries i entry items c.loop-entry-test.true c.entry-item.is c.loop-entry.invariant.acted in
+    let acted = acted_next world (takes_part (world_of world) entries) entries i entry items c.loop-entry-test.true c.entry-item.is c.loop-entry.invariant.acted in
     let gains : List ℕ = c.loop-entry.gains.items in
     let beside : List ℕ = c.add_gain.new.gains in
     let read = c.deref_mut-in-loop-entry-2.ensures.value in
@@ -75,19 +76,19 @@ loop-entry-preserved c =
     let added = c.add_gain.ensures before (read_gains before world.accounts c.deref.result.now gains c.deref_mut-in-loop-entry-2.result.now stored read c.loop-entry.invariant.gained) in
     let whole : c.loop-entry.gains.len ≡ length gains = omega (arith, c.deref_mut-in-loop-entry-2.ensures.len, ap length read) in
     record {
-      acted = subst (IsActed world (take (i + 1) entries) (drop (i + 1) entries)) (sym (written_back items new c.loop-entry.rooms.len (long ∙ ap length value) full))
-          (acted_then world entries i entry new c.loop-entry-test.true c.entry-item.is
-          (acted_more world c.requires.sound (take i entries) entry (drop (i + 1) entries) items acted points new ruled));
+      acted = subst (IsActed world (takes_part (world_of world) entries) (take (i + 1) entries) (drop (i + 1) entries)) (sym (written_back items new c.loop-entry.rooms.len (long ∙ ap length value) full))
+          (acted_then world (takes_part (world_of world) entries) entries i entry new c.loop-entry-test.true c.entry-item.is
+          (acted_more world c.requires.sound (takes_part (world_of world) entries) (take i entries) entry (takes_entry (world_of world) c.requires.kept.0 entries c.requires.kept.1 i entry c.loop-entry-test.true c.entry-item.is) (drop (i + 1) entries) items acted points new ruled));
       gained = subst (AreGains (points_entered (world_of world) (map placed (take (i + 1) entries))) world.accounts) (sym (written_back gains beside c.loop-entry.gains.len (as_long ∙ ap length read) whole))
           (gained_then world entries i entry beside c.loop-entry-test.true c.entry-item.is
-          (gained_more world c.requires.sound (take i entries) entry (drop (i + 1) entries) items acted points new ruled beside
+          (gained_more world c.requires.sound (takes_part (world_of world) entries) (take i entries) entry (drop (i + 1) entries) items acted points new ruled beside
           (subst (λ (accounts : List Account). AreGains after accounts beside) stored added)));
     }
 
 pub tick_all-requires-clause-ready : goal.tick_all-requires-clause-ready
 tick_all-requires-clause-ready c = λ index room at.
     let acted = c.loop-entry.invariant.acted in
-    ready_to_tick c.args.world c.requires.sound c.loop-entry.rooms.items acted.follow index room (ap (λ (xs : List Room). slice_get xs index) (sym c.deref_mut-2.ensures.value) ∙ at)
+    ready_to_tick c.args.world c.requires.sound c.loop-entry.rooms.items (takes_part (world_of c.args.world) c.args.entries.now) acted.follow index room (ap (λ (xs : List Room). slice_get xs index) (sym c.deref_mut-2.ensures.value) ∙ at)
 
 pub tick_all-requires-clause-once : goal.tick_all-requires-clause-once
 tick_all-requires-clause-once c = λ index. actors_once (world_of c.args.world) c.requires.kept.0 c.args.entries.now c.requires.kept.1 index

@@ -8,6 +8,7 @@ use Rattle.world_rules.specs.Crossings.{crossed_over}
 use Rattle.world_rules.specs.Tick.{book, gained}
 use Rattle.ruled_tick.specs.inner.Ticked.{raised_by}
 use Rattle.ruled_tick.proofs.Next.{plain-IsRuled, pushed-IsSound, pushed_as, pushed_crossers, pushed_ready, read_gains}
+use Rattle.ruled_tick.proofs.Players.{kept_by_players}
 use Rattle.ruled_tick.proofs.tick.tick_taken.Goals as goal
 
 pub push_raised-requires-clause-gains : goal.push_raised-requires-clause-gains
@@ -56,8 +57,7 @@ returns-clause-sound c =
     let is : (list : List Intent) → AreKept (world_of world) list entries → pushed ≡ record next { accounts = map (raised_by (gained book (world_of world) list)) world.accounts } = λ list are.
     pushed_as raised_by world next pushed c.in_ok-next.accounts.items c.deref.result.now c.in_ok-next.gains.items c.deref-2.result.now c.deref.ensures.value c.deref-2.ensures.value c.in_ok-next.ensures.accounts c.in_ok-push_raised.ensures
     (gained book (world_of world) list) (c.in_ok-next.ensures.gains list are) in
-    let kept = c.requires.kept in
-    c.cross.ensures.sound (pushed-IsSound world entries c.requires.sound next crossers r (raised_by (gained book (world_of world) kept.0)) (λ account. refl) pushed (is kept.0 kept.1))
+    λ list are by. c.cross.ensures.sound (pushed-IsSound world entries c.requires.sound next crossers r (raised_by (gained book (world_of world) list)) (λ account. refl) pushed (is list are) (kept_by_players (world_of world) list by entries are))
 
 pub returns-clause-ruled : goal.returns-clause-ruled
 returns-clause-ruled c =

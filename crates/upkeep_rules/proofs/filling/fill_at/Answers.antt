@@ -1,6 +1,6 @@
 use Rattle.std.proofs.Common.{◌≡◌, ◌<◌, ◌≤◌, true, option_copied, sym, ap, subst, ◌∙◌, arith}
 use Rattle.object_store.specs.Tables.{IsRising}
-use Rattle.world_rules.specs.Upkeep.{held_by}
+use Rattle.world_rules.specs.Spawns.{held_by}
 use Rattle.upkeep_rules.specs.inner.Filled.{has_room}
 use Rattle.upkeep_rules.proofs.Gains.{filled_held, filled_more, filled_other, found_here, known_raised, more_on_tile}
 use Rattle.upkeep_rules.proofs.filling.fill_at.Goals as goal

@@ -7,8 +7,10 @@ use Rattle.kept_entries.specs.Turns.{AreKept}
 use Rattle.world_rules.specs.Tick.{book, gained, intents_of, next_world}
 use Rattle.world_rules.specs.World.{world_of}
 use Rattle.upload_stream.specs.Entries.{upload_of}
-use Rattle.hosted_tick.specs.Hosting.{Held, IsHosted}
+use Rattle.ruled_tick.specs.Players.{AreByPlayers}
+use Rattle.hosted_tick.specs.Hosting.{Held, IsHosted, modules_of}
 use Rattle.hosted_tick.proofs.After.{hosted_after, next_of}
+use Rattle.hosted_tick.proofs.Players.{wanted_by_players}
 use Rattle.hosted_tick.proofs.hosted.Hosted.tick.Goals as goal
 
 -- (the entries count of what the runs want)
@@ -35,5 +37,7 @@ returns-clause-hosted c =
     let short = subst (AllByRecursion (λ (run : PlayerRun). length run.memory ≤ most_memory)) (sym c.deref-2.ensures.value) c.in_ok-runs.ensures.short in
     let lent = subst (λ (entries : List Entry). AreKept (world_of world) (intents_of c.in_ok-runs.field-0.runs.items) entries) (sym c.deref.ensures.value) c.in_ok-runs.ensures.kept in
     let kept = subst (λ (r : List PlayerRun). AreKept (world_of world) (intents_of r) c.deref.result.now) (sym c.deref-2.ensures.value) lent in
+    let by = subst (λ (r : List PlayerRun). AreByPlayers (world_of world) (intents_of r)) (sym c.deref-2.ensures.value)
+    (wanted_by_players world (modules_of c.judge_all.new.modules.entries) c.in_ok-runs.field-0.runs.items hosted.sound.accounts c.in_ok-runs.ensures.runs) in
     let ensured = c.in_ok-after.ensures in
-    hosted_after world c.in_ok-after.after (gained book (world_of world) (intents_of runs)) runs hosted short ensured.sound ensured.rooms (ensured.accounts (intents_of runs) kept)
+    hosted_after world c.in_ok-after.after (gained book (world_of world) (intents_of runs)) runs hosted short (ensured.sound (intents_of runs) kept by) ensured.rooms (ensured.accounts (intents_of runs) kept)

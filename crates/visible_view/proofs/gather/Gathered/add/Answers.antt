@@ -1,6 +1,6 @@
 -- A room that is seen is kept.
 use Rattle.std.proofs.Common.{◌≡◌, ◌+◌, ◌++◌, true, [], ◌∷◌, refl, ap, sym, subst, ◌∙◌}
-use Rattle.visible_view.specs.inner.Gathered.{is_seen, IsAdded, KeepsRoomIf}
+use Rattle.visible_view.specs.inner.Gathered.{is_seen, KeepsRoomIf}
 use Rattle.visible_view.proofs.gather.Gathered.add.Goals as goal
 
 pub returns-in_ok-push-2-clause-added : goal.returns-in_ok-push-2-clause-added

@@ -1,0 +1,20 @@
+use Rattle.std.proofs.Common.{◌≡◌, ℕ, Option, Some, None, option_map, ap, ◌∙◌}
+use Rattle.object_store.specs.Tables.{find_object}
+use Rattle.object_store.specs.declared.object.Object.{Object}
+use Rattle.world_rules.specs.World.{Placed}
+use Rattle.world_rules.proofs.TableParts.{stands_at}
+use Rattle.action_checks.specs.inner.Passing.{placed_at}
+use Rattle.action_checks.proofs.effect.standing.Goals as goal
+
+pub returns-in-Some-clause-part : goal.returns-in-Some-clause-part
+returns-in-Some-clause-part c = λ grounds.
+    let found = c.in-Some.ensures in
+    (λ i. Some (placed_at (c.index.ensures i) c.in-Some.object.now))
+    ∙ ap (option_map (placed_at c.args.room.now.index)) found
+    ∙ stands_at grounds c.args.room.now c.args.id
+
+pub returns-in-None-clause-part : goal.returns-in-None-clause-part
+returns-in-None-clause-part c = λ grounds.
+    let found = c.in-None.ensures in
+    ap (option_map (placed_at c.args.room.now.index)) found
+    ∙ stands_at grounds c.args.room.now c.args.id

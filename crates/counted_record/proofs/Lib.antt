@@ -1,0 +1,2 @@
+-- Lemmas of the proofs of this crate.
+pub mod Counting

@@ -1,0 +1,2 @@
+pub mod Censuses
+pub mod inner

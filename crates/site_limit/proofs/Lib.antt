@@ -1,0 +1,9 @@
+pub mod Rooms
+pub mod Steps
+pub mod Worlds
+pub mod Entered
+pub mod Recorded
+pub mod Counted
+pub mod Emitted
+pub mod Accounts
+pub mod Kept

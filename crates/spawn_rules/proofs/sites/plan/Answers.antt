@@ -1,0 +1,14 @@
+use Rattle.std.proofs.Common.{ap, sym, subst}
+use Rattle.object_store.specs.Tables.{IsRising}
+use Rattle.object_store.specs.declared.object.Object.{Object}
+use Rattle.world_rules.specs.Sites.{Plan, plan_of}
+use Rattle.world_rules.specs.RoomParts.{table_part}
+use Rattle.world_rules.proofs.TableParts.{part_values}
+use Rattle.spawn_rules.proofs.sites.plan.Goals as goal
+
+pub returns-clause-view : goal.returns-clause-view
+returns-clause-view c =
+    let rising = subst IsRising c.objects.ensures.all c.objects.ensures.rising in
+    let same = part_values c.args.ground.now c.args.room.now rising in
+    let turned = sym same in
+    λ i. record (plan_of c.args.intent.now (table_part c.args.ground.now c.args.room.now)) { around = turned i }
