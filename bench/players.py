@@ -85,11 +85,11 @@ def wide():
 
 
 def built():
-    """The same with a room of the player's at level 8, with a spawn and 50 full extensions, and a creep beside a free controller in the next."""
+    """The same with a room of the player's at level 8, with a spawn, 50 full extensions and a storage, and a creep beside a free controller in the next."""
     it = json.loads(wide())
     home, free = it["rooms"][2], it["rooms"][3]
     extensions = [thing("extension", 2 * SECOND + 102 + place, place % 25 + 1, 40 + place // 25, owner=1, energy=200, hits=1000) for place in range(50)]
-    home["objects"] += [thing("controller", 2 * SECOND + 100, 45, 45, owner=1, extra=8, timer=150_000), thing("spawn", 2 * SECOND + 101, 44, 45, owner=1, energy=300, hits=5000), *extensions]
+    home["objects"] += [thing("controller", 2 * SECOND + 100, 45, 45, owner=1, extra=8, timer=150_000), thing("spawn", 2 * SECOND + 101, 44, 45, owner=1, energy=300, hits=5000), *extensions, thing("storage", 2 * SECOND + 152, 46, 45, owner=1, hits=10_000)]
     claimer = {**creep(3, 101, 1), "x": 44, "y": 44, "body": ["claim", "move"], "energy": 0, "hits": 200, "timer": 600}
     free["objects"] += [thing("controller", 3 * SECOND + 100, 45, 45), claimer]
     it["players"] = players_of(1, points=100_000_000)
@@ -272,7 +272,7 @@ ASKING = {
     "remove_site of what is none": (again("remove_site", id_of(SCRAMBLED_ENTRY), before="", also=()), None),
     "claim_controller, its entry again": (again("claim_controller", number_of(3, 101), number_of(3, 100)), ALMOST_FILLING),
     "claim_controller, for which there is no entry left": (again("claim_controller", number_of(3, 101), number_of(3, 100), before=FILL), FILLING),
-    "claim_controller of an own one": (again("claim_controller", number_of(3, 101), number_of(2, 100), before="", also=()), None),
+    "claim_controller of one far away": (again("claim_controller", number_of(3, 101), number_of(2, 100), before="", also=()), None),
     "spawn_creep of 50 parts, its entry again": (again("spawn_creep", number_of(2, 101), *FIFTY, more=BODY), ALMOST_FILLING),
     "spawn_creep, for which there is no entry left": (again("spawn_creep", number_of(2, 101), *FIFTY, more=BODY, before=FILL), FILLING),
     "spawn_creep of 50 parts, the last of which is none": (again("spawn_creep", number_of(2, 101), "(i32.const 1)", "(i32.const 50)", more=BODY, before="", also=()), None),

@@ -22,6 +22,7 @@ from scripts import Script, unkept
 from worlds import upload_entry
 
 TICKS = 5
+ROUNDS = 15
 PLAYERS, ROOMS = 64, 400
 # Rooms that nobody owns: in each tick some are claimed.
 FREE = 16
@@ -194,6 +195,8 @@ def main():
     place = "/dev/shm" if os.path.isdir("/dev/shm") else None
     with tempfile.TemporaryDirectory(dir=place) as folder:
         bench = Bench(os.path.abspath(words[0]), folder, "--quick" in sys.argv)
+        # (a run takes little time, and the best of more of them is steadier)
+        bench.rounds = 1 if bench.quick else ROUNDS
         if "--split" in sys.argv:
             split(bench)
             return

@@ -1,5 +1,5 @@
 -- The numbers of buildings that a level allows, of a level that is cut to a byte.
-use Rattle.std.proofs.Common.{◌≡◌, ℕ, ◌≤◌, min, length, refl, sym, ap, ◌∙◌, inl, inr, arith}
+use Rattle.std.proofs.Common.{◌≡◌, ℕ, ◌≤◌, min, length, sym, ap, ◌∙◌, inl, inr, arith}
 use Rattle.std.proofs.lemmas.Bool.{cases_lt}
 use Rattle.std.proofs.lemmas.List.{get_or_past}
 use Rattle.game_tables.specs.Levels.{allowed, counts}

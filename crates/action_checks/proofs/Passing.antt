@@ -1,6 +1,6 @@
 -- The first check that fails, of checks that are made in two parts.
 use Rattle.std.proofs.Common.{◌≡◌, ◌≢◌, ℕ, Option, Some, None, Result, Ok, Err, Bool, true, false, List, [], ◌∷◌, ◌++◌, ◌&&◌, inl, inr, refl, sym, ap, ◌∙◌}
-use Rattle.std.proofs.lemmas.Bool.{and_parts, cases_Bool, cond-true, cond-false}
+use Rattle.std.proofs.lemmas.Bool.{and_from, and_parts, cases_Bool, cond-true, cond-false}
 use Rattle.std.specs.List.{AllByRecursion}
 use Rattle.game_tables.specs.declared.code.Code.{Code}
 use Rattle.game_tables.specs.declared.code.Code.TheVariants.{Done}
@@ -81,7 +81,7 @@ further_codes AttackController scene = (λ e. cc, tt)
 further_codes Move scene = (λ e. cc, tt)
 further_codes _ scene = tt
 
-have_codes : (action : Action) (scene : Scene) → HaveCodes (checks action scene)
+pub have_codes : (action : Action) (scene : Scene) → HaveCodes (checks action scene)
 have_codes action scene =
     have_both (creep_checks scene ++ amount_checks action scene ++ part_checks (needed_part action) scene ++ target_checks (max_range action) action scene) (further_checks action scene)
     (have_both (creep_checks scene ++ amount_checks action scene ++ part_checks (needed_part action) scene) (target_checks (max_range action) action scene)
@@ -96,6 +96,23 @@ all_where_done (check ∷ later) have done =
       | inl holds ↦ ap (λ (b : Bool). b && all_hold later) holds ∙ all_where_done later have.1 (sym (cond-true _ _ _ holds) ∙ done)
       | inr not_so ↦ absurd (have.0 (sym (cond-false _ _ _ not_so) ∙ done))
     ]
+
+-- Where none of all checks fails, the first of them hold.
+pub own_checks : (own late : List Check) → HaveCodes own → first_failing (own ++ late) ≡ Done → all_hold own ≡ true
+own_checks own late have done =
+    elim (cases_Bool (all_hold own)) [
+      | inl holds ↦ holds
+      | inr not_so ↦ all_where_done own have (sym (fails_early own late not_so).0 ∙ done)
+    ]
+
+-- All hold exactly where each does.
+pub each_holds : (list : List Check) → all_hold list ≡ true → AllByRecursion (λ (check : Check). check.0 ≡ true) list
+each_holds [] holds = tt
+each_holds (check ∷ later) holds = let both = and_parts check.0 (all_hold later) holds in (both.0, each_holds later both.1)
+
+pub hold_each : (list : List Check) → AllByRecursion (λ (check : Check). check.0 ≡ true) list → all_hold list ≡ true
+hold_each [] each = refl
+hold_each (check ∷ later) each = and_from check.0 (all_hold later) each.0 (hold_each later each.1)
 
 -- Where none of an action's checks is the first that fails, all hold.
 pub all_hold_where_done : (action : Action) (scene : Scene) → first_failing (checks action scene) ≡ Done → all_hold (checks action scene) ≡ true

@@ -5,8 +5,8 @@ ghost use Rattle.world_rules.specs.Spawns.{held_by, holds_for_creeps};
 use game_tables::Kind;
 use object_store::Objects;
 
-/// What the spawns and extensions of an owner among these objects hold together, or `most` where that is less.
-/// It looks at each object once.
+/// What the spawns and extensions of an owner among these objects hold together, or `most` where that is
+/// less. It looks at each object once.
 pub fn held_by(objects: Objects<'_>, owner: u32, most: u64) -> u64
     ensures { result ≡ min most (held_by owner objects.entry) }
 {

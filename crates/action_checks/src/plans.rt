@@ -6,11 +6,11 @@ ghost use Rattle.game_tables.specs.Kinds.{needs_owned_room as needs_owned, obstr
 ghost use Rattle.game_tables.specs.Levels.{allowed as allowed_counts};
 ghost use Rattle.game_tables.specs.Numbers.{kind_number};
 ghost use Rattle.game_tables.specs.Limits.{most_sites as sites_bound};
-ghost use Rattle.object_store.specs.Controllers.{controller_among, is_anothers as is_anothers_room, level_of as level_among};
+ghost use Rattle.object_store.specs.Controllers.{controller_among, is_anothers as is_anothers_room};
 ghost use Rattle.object_store.specs.Stores.{site_kinds};
 ghost use Rattle.object_store.specs.declared.object.Object.{Object};
 ghost use Rattle.world_rules.specs.World.{shown};
-ghost use Rattle.world_rules.specs.Checks.{all_hold, first_failing, holds_of};
+ghost use Rattle.world_rules.specs.Checks.{all_hold, first_failing};
 ghost use Rattle.world_rules.specs.Sites.{count_of, counted_number, has_creep, has_place, is_free_tile, is_inner, is_owners, of_kind, removal_checks, room_checks, site_checks, tile_checks};
 ghost use Rattle.world_rules.specs.Spawns.{is_body, is_payable, spawn_checks};
 ghost use Rattle.action_checks.specs.Plans.{held_for, plan_view, IsCounted, IsCountedFor};
@@ -33,8 +33,8 @@ pub struct Plan<'a> {
     pub number: u64,
     pub ground: &'a Terrain,
     pub around: &'a RoomTable,
-    /// How many buildings and sites of that kind stand in the room; read only where it is the number of a kind
-    /// that is built from sites.
+    /// How many buildings and sites of that kind stand in the room; read only where it is the number of a
+    /// kind that is built from sites.
     pub standing: u32,
     /// How many entries of the player are for sites of that kind on other tiles of the room.
     pub recorded: u32,
@@ -124,7 +124,8 @@ fn kind_of(number: u64) -> Option<Kind>
 
 // The tile is not at the border, and the kind is one that is built.
 fn check_arguments(plan: &Plan, kind: Option<Kind>) -> Result<(), Code>
-    ensures { Passes result ((is_inner plan.now.x && is_inner plan.now.y && is_some kind, Code.InvalidArgs) ∷ []) }
+    ensures { Passes result (
+        (is_inner plan.now.x && is_inner plan.now.y && is_some kind, Code.InvalidArgs) ∷ []) }
 {
     if is_inner(plan.x) && is_inner(plan.y) && kind.is_some() {
         Ok(())
@@ -228,7 +229,8 @@ fn is_free_tile(plan: &Plan, kind: Kind) -> bool
 
 // No creep stands where the building would obstruct it.
 fn check_creep(plan: &Plan, kind: Option<Kind>) -> Result<(), Code>
-    ensures { Passes result ((not (of_kind is_obstructing kind && has_creep (plan_view plan.now)), Code.InvalidTarget) ∷ []) }
+    ensures { Passes result (
+        (not (of_kind is_obstructing kind && has_creep (plan_view plan.now)), Code.InvalidTarget) ∷ []) }
 {
     match kind {
         Some(kind) if obstructs(kind) && has_creep(plan) => Err(Code::InvalidTarget),
@@ -255,8 +257,8 @@ fn check_count(plan: &Plan) -> Result<(), Code>
 
 // ---- sites that are removed
 
-/// The code of the first check of a site's removal that fails, and `Done` where all hold: the actor is a site,
-/// and the player's.
+/// The code of the first check of a site's removal that fails, and `Done` where all hold: the actor is a
+/// site, and the player's.
 pub fn removal_code(player: u32, actor: Option<Standing>) -> Code
     ensures { result ≡ first_failing (removal_checks player (option_map shown actor.entry)) }
 {
@@ -342,7 +344,8 @@ fn check_spawning(
 fn check_body(held: u32, body: Option<&Body>) -> Result<(), Code>
     ensures { (player : ℕ) (around : List Object) → held ≡ held_for player around
         → Passes result ((is_body (option_map (λ parts. parts.now) body.entry), Code.InvalidArgs)
-        ∷ (is_payable player around (option_map (λ parts. parts.now) body.entry), Code.NotEnoughResources) ∷ []) }
+        ∷ (is_payable player around (option_map (λ parts. parts.now) body.entry), Code.NotEnoughResources)
+        ∷ []) }
 {
     let Some(body) = body else {
         return Err(Code::InvalidArgs);

@@ -1,24 +1,18 @@
 -- Calls for claims: their rule counts no controllers.
-use Rattle.std.proofs.Common.{◌≡◌, ℕ, ℤ, pos, ◌&&◌, Bool, true, List, [], ◌∷◌, ◌++◌, Option, Some, None, refl, sym, ap, subst, ◌∙◌}
-use Rattle.std.specs.Prelude.{nat_lt}
+use Rattle.std.proofs.Common.{◌≡◌, ℕ, pos, true, List, [], ◌++◌, refl, ap, subst, ◌∙◌}
 use Rattle.game_tables.specs.declared.action.Action.TheVariants.{ClaimController}
 use Rattle.object_store.specs.declared.account.Account.{Account}
-use Rattle.object_store.specs.Stored.{Stored}
 use Rattle.intent_book.specs.declared.intent.Intent.{Intent}
-use Rattle.wasm_store.specs.Memory.{Memory}
 use Rattle.world_rules.specs.Checks.{Check, Scene, all_hold, checks, first_failing}
-use Rattle.world_rules.specs.Sound.{IsSound}
-use Rattle.world_rules.specs.World.{world_of}
 use Rattle.std.proofs.lemmas.List.{append-nil}
-use Rattle.action_checks.proofs.Passing.{HaveCodes, done_where_all}
+use Rattle.action_checks.proofs.Passing.{HaveCodes, done_where_all, each_holds, hold_each, own_checks}
 use Rattle.host_calls.proofs.Agreeing.{calls_agree}
 use Rattle.game_tables.specs.declared.code.Code.{Code}
-use Rattle.visible_view.specs.Sights.{Sight, sight_of}
-use Rattle.host_calls.specs.Agreement.{CallsAgree, IsRecorded}
-use Rattle.host_calls.specs.Desks.{Desk}
+use Rattle.visible_view.specs.Sights.{Sight}
+use Rattle.host_calls.specs.Agreement.{IsRecorded}
 use Rattle.host_calls.specs.Replies.{claim_code, claim_reply, claim_seen, record_checks, scene_seen, wanted, wish_of}
-use Rattle.call_agreement.specs.Agreeing.{ClaimsAgree, HoldsIn, may_claim}
-use Rattle.call_agreement.proofs.Standing.{each_holds, hold_each, own_checks, recorded_where_0}
+use Rattle.call_agreement.specs.Agreeing.{ClaimsAgree}
+use Rattle.call_agreement.proofs.Standing.{recorded_where_0}
 
 -- Without the count of controllers the other checks hold too.
 uncounted : (scene : Scene) (claims level : ℕ) (late : List Check) → all_hold (checks ClaimController (record scene { claims = claims; level = level }) ++ late) ≡ true → all_hold (checks ClaimController (record scene { claims = 0; level = 1 }) ++ late) ≡ true

@@ -1,27 +1,23 @@
 -- Calls for sites: their rule reads the room alone.
-use Rattle.std.proofs.Common.{◌≡◌, ℕ, ℤ, pos, ◌+◌, ◌*◌, ◌/◌, ◌%◌, ◌<◌, ◌==◌, ◌&&◌, ◌≢◌, Bool, true, false, cond, List, [], ◌∷◌, ◌++◌, Option, Some, None, option_map, option_and_then, refl, sym, ap, subst, ◌∙◌, arith}
+use Rattle.std.proofs.Common.{◌≡◌, ℕ, ℤ, ◌+◌, ◌*◌, ◌/◌, ◌%◌, ◌<◌, ◌==◌, ◌≢◌, Bool, true, false, cond, List, [], ◌∷◌, Option, Some, None, option_map, option_and_then, refl, sym, ap, subst, ◌∙◌, arith}
 use Rattle.std.specs.Prelude.{nat_lt, if◌then◌else◌}
 use Rattle.std.specs.List.{find}
 use Rattle.std.specs.Ordering.{nat_cmp}
-use Rattle.std.specs.FinMap.{entries, get, get-entries, values}
+use Rattle.std.specs.FinMap.{entries, get-entries, values}
 use Rattle.std.specs.FinMap.{find as find_key}
 use Rattle.std.specs.Cmp.{unsigned_tied}
 use Rattle.std.specs.Option.{unwrap_or}
 use Rattle.std.proofs.lemmas.Bool.{eq-eqb, eqb-true, lt-ltb, ltb-true, ne_eqb}
 use Rattle.game_tables.specs.Levels.{allowed}
-use Rattle.game_tables.specs.Limits.{most_sites}
-use Rattle.game_tables.specs.declared.code.Code.{Code}
 use Rattle.game_tables.specs.declared.code.Code.TheVariants.{Done}
 use Rattle.game_tables.specs.declared.kind.Kind.{Kind}
 use Rattle.object_store.specs.Controllers.{controller_among, level_of}
 use Rattle.object_store.specs.declared.account.Account.{Account}
 use Rattle.object_store.specs.Stored.{Stored}
 use Rattle.intent_book.specs.declared.intent.Intent.{Intent}
-use Rattle.wasm_store.specs.Memory.{Memory}
-use Rattle.world_rules.specs.Checks.{Check, all_hold}
+use Rattle.world_rules.specs.Checks.{all_hold}
 use Rattle.world_rules.specs.RoomParts.{RoomPart, objects_in, part_at, part_of}
 use Rattle.world_rules.specs.Sites.{Plan, count_of, has_place, of_kind, plan_of, planned_kind, site_checks}
-use Rattle.world_rules.specs.Sound.{IsSound}
 use Rattle.world_rules.specs.World.{Frame, World, world_of}
 use Rattle.visible_view.specs.Sights.{SeenRoom, Sight, sees_room, seen_rooms, sight_of}
 use Rattle.visible_view.specs.Fields.{objects_at, room_at}
@@ -30,8 +26,9 @@ use Rattle.host_calls.specs.Agreement.{IsRecorded}
 use Rattle.host_calls.specs.Desks.{Desk, as_index, signed_32}
 use Rattle.host_calls.specs.Replies.{coordinate_of, number_of, plan_seen, record_checks, seen_room, site_code, site_code_in, site_reply, site_wish}
 use Rattle.host_calls.proofs.Wanting.{site_codes}
+use Rattle.action_checks.proofs.Passing.{each_holds, hold_each, own_checks}
 use Rattle.call_agreement.specs.Agreeing.{HoldsIn, SitesAgree, may_make}
-use Rattle.call_agreement.proofs.Standing.{each_holds, hold_each, own_checks, recorded_where_0}
+use Rattle.call_agreement.proofs.Standing.{recorded_where_0}
 
 -- ---- what the rule does not count
 

@@ -1,9 +1,7 @@
 -- Calls whose rules read what stands under an id.
-use Rattle.std.proofs.Common.{◌≡◌, ℕ, ℤ, pos, ◌==◌, ◌&&◌, Bool, false, true, List, [], ◌∷◌, ◌++◌, Option, Some, None, option_map, inl, inr, refl, sym, ap, subst, ◌∙◌}
-use Rattle.std.specs.List.{AllByRecursion}
-use Rattle.std.specs.FinMap.{get, values}
-use Rattle.std.proofs.lemmas.Bool.{and_from, and_parts, cases_Bool}
-use Rattle.game_tables.specs.Codes.{code_number}
+use Rattle.std.proofs.Common.{◌≡◌, ℕ, ℤ, pos, Bool, false, true, List, Option, Some, None, option_map, refl, sym, ap, subst, ◌∙◌}
+use Rattle.std.specs.FinMap.{values}
+use Rattle.std.proofs.lemmas.Bool.{and_parts}
 use Rattle.game_tables.specs.declared.code.Code.{Code}
 use Rattle.game_tables.specs.declared.code.Code.TheVariants.{Done}
 use Rattle.game_tables.specs.declared.kind.Part.{Part}
@@ -12,14 +10,14 @@ use Rattle.object_store.specs.declared.object.Object.{Object}
 use Rattle.object_store.specs.Stored.{Stored}
 use Rattle.intent_book.specs.declared.intent.Intent.{Intent}
 use Rattle.wasm_store.specs.Memory.{Memory}
-use Rattle.world_rules.specs.Checks.{Check, all_hold, first_failing, holds_of, standing_at}
+use Rattle.world_rules.specs.Checks.{Check, all_hold, holds_of, standing_at}
 use Rattle.world_rules.specs.Intents.{room_at}
 use Rattle.world_rules.specs.RoomParts.{RoomPart, part_at, part_of}
 use Rattle.world_rules.specs.Sites.{removal_checks}
 use Rattle.world_rules.specs.Sound.{IsSound}
 use Rattle.world_rules.specs.Spawns.{spawn_checks}
 use Rattle.world_rules.specs.World.{Placed, world_of}
-use Rattle.action_checks.proofs.Passing.{HaveCodes, all_where_done, fails_early}
+use Rattle.action_checks.proofs.Passing.{HaveCodes, each_holds, own_checks}
 use Rattle.visible_view.specs.Sights.{Sight, sight_of}
 use Rattle.host_calls.specs.Agreement.{IsRecorded}
 use Rattle.host_calls.specs.Desks.{Desk}
@@ -31,23 +29,6 @@ use Rattle.call_agreement.specs.Agreeing.{HoldsIn, RemovalsAgree, SpawnsAgree, m
 pub recorded_where_0 : (desk : Desk) (memory : Memory) (intent : Intent) (code : Code) → (wanted desk memory intent code).answer ≡ pos 0 → (code ≡ Done) × IsRecorded desk intent (wanted desk memory intent code).desk
 recorded_where_0 desk memory intent Done zero = (refl, refl)
 recorded_where_0 desk memory intent _ zero = absurd (cc)
-
--- Where none of all checks fails, its own hold.
-pub own_checks : (own late : List Check) → HaveCodes own → first_failing (own ++ late) ≡ Done → all_hold own ≡ true
-own_checks own late have done =
-    elim (cases_Bool (all_hold own)) [
-      | inl holds ↦ holds
-      | inr not_so ↦ all_where_done own have (sym (fails_early own late not_so).0 ∙ done)
-    ]
-
--- Each of some checks holds where all do, and the other way round.
-pub each_holds : (list : List Check) → all_hold list ≡ true → AllByRecursion (λ (check : Check). check.0 ≡ true) list
-each_holds [] holds = tt
-each_holds (check ∷ later) holds = let both = and_parts check.0 (all_hold later) holds in (both.0, each_holds later both.1)
-
-pub hold_each : (list : List Check) → AllByRecursion (λ (check : Check). check.0 ≡ true) list → all_hold list ≡ true
-hold_each [] each = refl
-hold_each (check ∷ later) each = and_from check.0 (all_hold later) each.0 (hold_each later each.1)
 
 no_body : ◌≡◌ {A = Bool} false true → ⊥
 no_body is = cc

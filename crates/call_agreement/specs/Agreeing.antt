@@ -1,5 +1,5 @@
--- A call for a claim, a site, a removal or a new creep that is answered 0 fails no check of its rule on the same
--- world.
+-- A call for a claim, a site, a removal or a new creep that is answered 0 fails no check of its rule on the
+-- same world.
 use Rattle.std.specs.Prelude.{◌≡◌, ℕ, ℤ, pos, Bool, true, Some}
 use Rattle.std.specs.FinMap.{values}
 use Rattle.game_tables.specs.declared.action.Action.TheVariants.{ClaimController}
@@ -46,8 +46,8 @@ HoldsIn holds world entry =
     (room : ℕ) × (part : RoomPart) × (room_of world entry ≡ Some room) × (part_at world room ≡ Some part)
     × (holds entry part ≡ true)
 
--- At the desk of a player who sees a sound world, a call that is answered 0 records its entry, and the checks of
--- its rule hold in that world.
+-- At the desk of a player who sees a sound world, a call that is answered 0 records its entry, and the checks
+-- of its rule hold in that world.
 abbrev pub Agrees : (Intent → RoomPart → Bool) → (ℕ → Intent) → (Desk → Reply) → Type 0
 Agrees holds wish reply =
     (stored : Stored) (account : Account) (desk : Desk)

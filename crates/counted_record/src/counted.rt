@@ -13,8 +13,8 @@ use std::marker::Model;
 
 /// A player's record, which knows the sites that are in it and the number of its claims.
 ///
-/// All memory is taken when it is made. The number of claims is told at once but for one look-up by a hash, and
-/// the number of sites by a look at each site that is recorded.
+/// All memory is taken when it is made. The number of claims is told at once but for one look-up by a hash,
+/// and the number of sites by a look at each site that is recorded.
 #[derive(Drop)]
 pub struct CountedRecord {
     book: Recorded,

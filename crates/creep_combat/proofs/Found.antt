@@ -1,5 +1,5 @@
--- The creep and the target of an entry, as they are found in a room's table.
-use Rattle.std.proofs.Common.{◌≡◌, ℕ, true, false, if◌then◌else◌, List, [], ◌∷◌, Some, None, refl, sym, ap, ◌∙◌}
+-- Creeps that fight, as they are found in a room's table.
+use Rattle.std.proofs.Common.{◌≡◌, true, false, if◌then◌else◌, List, [], ◌∷◌, Some, None, refl, sym, ◌∙◌}
 use Rattle.std.specs.FinMap.{get}
 use Rattle.room_terrain.specs.declared.terrain.Ground.{Ground}
 use Rattle.game_tables.specs.declared.action.Action.{Action}
@@ -7,27 +7,15 @@ use Rattle.object_store.specs.declared.object.Object.{Object}
 use Rattle.game_tables.specs.Kinds.{is_creep}
 use Rattle.game_tables.specs.declared.kind.Kind.{Kind}
 use Rattle.game_tables.specs.declared.kind.Kind.TheVariants.{Creep}
-use Rattle.object_store.specs.Tables.{Table, HasId, find_object}
+use Rattle.object_store.specs.Tables.{Table, find_object}
 use Rattle.intent_book.specs.declared.intent.Intent.{Intent}
 use Rattle.world_rules.specs.RoomParts.{RoomPart, table_part}
 use Rattle.world_rules.specs.Fights.{strength, struck_back}
-use Rattle.world_rules.specs.Checks.{acting, may_take_effect, parties}
-use Rattle.world_rules.proofs.Checked.{parties_are}
-use Rattle.world_rules.proofs.TableParts.{get_table_part, has_the_id}
-
--- An object that is found stands there under its id.
-pub stands_under : (id : ℕ) (objects : List Object) (found : Object) → find_object id objects ≡ Some found → HasId found.id objects
-stands_under id objects found is = (found, ap (λ (n : ℕ). find_object n objects) (has_the_id id objects found is) ∙ is)
+use Rattle.world_rules.specs.Checks.{acting, may_take_effect}
+use Rattle.world_rules.proofs.TableParts.{get_table_part}
 
 module _ (action : Action) (entry : Intent) (table : Table) where
-  module _ (creep target : Object) (found : (grounds : List Ground) → Some (creep, target) ≡ parties action entry (table_part grounds table)) where
-    pub creep_found : find_object entry.actor table.objects ≡ Some creep
-    creep_found = sym (get_table_part [] table entry.actor) ∙ (parties_are action entry (table_part [] table) (creep, target) (sym (found []))).there
-
-    pub target_found : find_object entry.target table.objects ≡ Some target
-    target_found = sym (get_table_part [] table entry.target) ∙ (parties_are action entry (table_part [] table) (creep, target) (sym (found []))).at
-
-  -- So is the creep of an entry that has no target.
+  -- The creep of an entry that has no target.
   pub acting_found : (creep : Object) → ((grounds : List Ground) → Some creep ≡ acting action entry (table_part grounds table)) → find_object entry.actor table.objects ≡ Some creep
   acting_found creep found =
       let part : RoomPart = table_part [] table in

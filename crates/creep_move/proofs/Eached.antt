@@ -1,10 +1,9 @@
 -- A step in which each object of a part changes by itself.
-use Rattle.std.proofs.Common.{◌≡◌, inl, inr, ℕ, suc, ◌==◌, Bool, true, false, cond, List, [], ◌∷◌, length, Option, Some, None, option_and_then, refl, sym, ap, ◌∙◌, arith}
-use Rattle.std.specs.Cmp.{nat_cmp_total, unsigned_tied}
+use Rattle.std.proofs.Common.{◌≡◌, ℕ, suc, ◌==◌, true, List, [], ◌∷◌, length, Option, Some, None, option_and_then, refl, sym, ap, ◌∙◌, arith}
+use Rattle.std.specs.Cmp.{nat_cmp_total}
 use Rattle.std.specs.List.{filter}
-use Rattle.std.specs.Ordering.{nat_cmp}
-use Rattle.std.specs.FinMap.{find, get, values, entries, entries_sorted, get-entries, get-from_entries, same_map, nat_cmp-IsAntisymmetric}
-use Rattle.std.proofs.lemmas.Bool.{eqb-true, eq-eqb}
+use Rattle.std.specs.FinMap.{get, values, entries, entries_sorted, get-entries, same_map, nat_cmp-IsAntisymmetric}
+use Rattle.std.proofs.lemmas.Bool.{eqb-true}
 use Rattle.object_store.specs.declared.object.Object.{Object}
 use Rattle.room_terrain.specs.declared.terrain.Ground.{Ground}
 use Rattle.intent_book.specs.declared.intent.Intent.{Intent}
@@ -17,10 +16,11 @@ use Rattle.world_rules.specs.Changes.{with_object}
 use Rattle.world_rules.specs.Movement.{has_mover, worn_as}
 use Rattle.world_rules.specs.Moves.{moved}
 use Rattle.world_rules.specs.Steps.{each, over_objects}
-use Rattle.world_rules.proofs.Keys.{AreKeysOnce, once_of_sorted, find_left}
-use Rattle.world_rules.proofs.Each.{KeepsIds, kept, each_is_at_once}
+use Rattle.world_rules.proofs.Keys.{once_of_sorted}
+use Rattle.world_rules.proofs.Each.{KeepsIds}
 use Rattle.room_commutes.specs.Standing.{AreKeyed}
-use Rattle.room_commutes.proofs.Members.{Has, found_has, map_has}
+use Rattle.room_commutes.proofs.CreepsApart.{each_get as each_gets, each_rest as each_rests}
+use Rattle.room_commutes.proofs.Members.{Has, found_has, has_found, map_has}
 
 module _ (change : Object → Object) (keeps : (object : Object) → (change object).id ≡ object.id) where
   abbrev leaves : Object → Option Object
@@ -30,14 +30,10 @@ module _ (change : Object → Object) (keeps : (object : Object) → (change obj
   keeps_id object after is = let same : change object ≡ after = cc in ap (λ (o : Object). o.id) (sym same) ∙ keeps object
 
   pub each_get : (part : RoomPart) → AreKeyed part → (id : ℕ) → get (each leaves part).objects id ≡ option_and_then leaves (get part.objects id)
-  each_get part keyed id =
-      ap (λ (p : RoomPart). get p.objects id) (each_is_at_once leaves keeps_id part keyed)
-      ∙ get-from_entries nat_cmp_total (kept leaves (entries part.objects)) id
-      ∙ find_left leaves id (entries part.objects) (once_of_sorted (entries part.objects) (entries_sorted part.objects))
-      ∙ ap (option_and_then leaves) (sym (get-entries part.objects id))
+  each_get = each_gets leaves keeps_id
 
   pub each_rest : (part : RoomPart) → AreKeyed part → record (each leaves part) { objects = part.objects } ≡ part
-  each_rest part keyed = ap (λ (p : RoomPart). record p { objects = part.objects }) (each_is_at_once leaves keeps_id part keyed)
+  each_rest = each_rests leaves keeps_id
 
   left_from : (found : Option Object) (after : Object) → option_and_then leaves found ≡ Some after → (object : Object) × (found ≡ Some object) × (change object ≡ after)
   left_from None after is = absurd (cc)
@@ -56,22 +52,10 @@ module _ (change : Object → Object) (keeps : (object : Object) → (change obj
 pub stands_has : (part : RoomPart) (id : ℕ) (object : Object) → get part.objects id ≡ Some object → Has (values part.objects) object
 stands_has part id object is = found_has (entries part.objects) id object (sym (get-entries part.objects id) ∙ is)
 
-entry_found : (es : List (ℕ × Object)) (e : ℕ × Object) → AreKeysOnce es → Has es e → find nat_cmp e.0 es ≡ Some e.1
-entry_found [] e once has = absurd has
-entry_found (first ∷ es) e once (inl is) = ap (λ (b : Bool). cond b (Some first.1) (find nat_cmp e.0 es)) (unsigned_tied e.0 first.0 ∙ eq-eqb e.0 first.0 (ap (λ (f : ℕ × Object). f.0) (sym is))) ∙ ap (λ (f : ℕ × Object). Some f.1) is
-entry_found (first ∷ es) e once (inr has) =
-    let rest = entry_found es e once.1 has in
-    elim (e.0 == first.0) as (λ b. (e.0 == first.0) ≡ b → find nat_cmp e.0 (first ∷ es) ≡ Some e.1) [
-      | true ↦ λ same.
-          let n : ◌≡◌ {A = Option Object} None (Some e.1) = sym once.0 ∙ ap (λ k. find nat_cmp k es) (sym (eqb-true e.0 first.0 same)) ∙ rest in
-          absurd (cc)
-      | false ↦ λ other. ap (λ (b : Bool). cond b (Some first.1) (find nat_cmp e.0 es)) (unsigned_tied e.0 first.0 ∙ other) ∙ rest
-    ] refl
-
 pub has_stands : (part : RoomPart) (object : Object) → Has (values part.objects) object → (id : ℕ) × (get part.objects id ≡ Some object)
 has_stands part object has =
     let e = map_has (λ (entry : ℕ × Object). entry.1) (entries part.objects) object has in
-    (e.0.0, get-entries part.objects e.0.0 ∙ entry_found (entries part.objects) e.0 (once_of_sorted (entries part.objects) (entries_sorted part.objects)) e.1 ∙ ap Some e.2)
+    (e.0.0, get-entries part.objects e.0.0 ∙ has_found (entries part.objects) (once_of_sorted (entries part.objects) (entries_sorted part.objects)) e.0 e.1 ∙ ap Some e.2)
 
 -- ---- no moves
 

@@ -43,7 +43,8 @@ fn arrive(step: Step, comes: &mut [u16], best: &mut [u64])
     requires comes { length comes.old ≡ 2500 }
     requires best { length best.old ≡ 2500 }
     ensures comes { comes.new
-        ≡ (if leads step comes.old best.old then set comes.old (tile step.x step.y) step.from else comes.old) }
+        ≡ (if leads step comes.old best.old
+        then set comes.old (tile step.x step.y) step.from else comes.old) }
     ensures best { best.new
         ≡ (if leads step comes.old best.old then set best.old (tile step.x step.y) step.creep else best.old) }
 {

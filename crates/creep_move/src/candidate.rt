@@ -1,5 +1,5 @@
 // The steps that entries to move are for.
-ghost use Rattle.std.specs.Prelude.{◌≡◌, ◌<◌, ℕ, Some, IfSome, not, option_and_then, option_map};
+ghost use Rattle.std.specs.Prelude.{◌≡◌, ◌<◌, Some, IfSome, option_map};
 ghost use Rattle.std.specs.List.{AllByRecursion};
 ghost use Rattle.room_terrain.specs.Tiles.{tile};
 ghost use Rattle.object_store.specs.Tables.{IsOnTile};

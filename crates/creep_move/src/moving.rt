@@ -23,7 +23,8 @@ use object_store::{RoomTable, Terrain};
 /// wears by 1 for each of its parts, down to 1.
 ///
 /// `moves` are the entries to move that count, in any order. One whose checks fail does nothing, as does one
-/// of a creep that is not in the room, and one to a tile outside of the room, of a wall, or obstructed. It takes time by the objects of the room and the moves, and no memory.
+/// of a creep that is not in the room, and one to a tile outside of the room, of a wall, or obstructed. It
+/// takes time by the objects of the room and the moves, and no memory.
 pub fn settle_moves(terrain: &Terrain, room: &mut RoomTable, moves: &[Intent])
     requires movable { IsMovable room.old }
     requires once { AreActorsOnce moves.now }

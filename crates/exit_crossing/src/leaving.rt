@@ -95,8 +95,8 @@ fn rest_one(room: &mut RoomTable, place: u32)
     }
 }
 
-/// The crossers of all rooms, in rising id over the whole world; then no creep has moved. After want of memory
-/// some rooms may be as they were.
+/// The crossers of all rooms, in rising id over the whole world; then no creep has moved. After want of
+/// memory some rooms may be as they were.
 pub fn all_crossers(alloc: Global, rooms: &mut [Room]) -> Result<Vec<Crosser>, NoMemory>
     requires places { (index : ℕ) (room : Room) → slice_get rooms.old index ≡ Some room
         → room.table.index ≡ index }

@@ -1,8 +1,8 @@
 -- What a call of an action checks of what is seen, its rule finds in the room.
-use Rattle.std.proofs.Common.{◌≡◌, ℕ, ℤ, pos, ◌≤◌, ◌==◌, ◌&&◌, ◌||◌, not, nat_le, nat_lt, Bool, true, List, [], ◌∷◌, ◌++◌, Option, Some, None, option_map, inl, inr, refl, sym, ap, subst, ◌∙◌, arith}
+use Rattle.std.proofs.Common.{◌≡◌, ℕ, ℤ, pos, ◌≤◌, ◌==◌, ◌&&◌, ◌||◌, not, nat_le, nat_lt, Bool, true, List, [], ◌∷◌, ◌++◌, Option, Some, None, option_map, refl, sym, ap, subst, ◌∙◌, arith}
 use Rattle.std.specs.FinMap.{values}
 use Rattle.std.specs.Option.{unwrap_or}
-use Rattle.std.proofs.lemmas.Bool.{and_parts, cases_Bool, eqb-true, leb-true, le-leb}
+use Rattle.std.proofs.lemmas.Bool.{and_parts, eqb-true, leb-true, le-leb}
 use Rattle.game_tables.specs.Actions.{is_target, max_range, needed_part}
 use Rattle.game_tables.specs.Bodies.{live_count}
 use Rattle.game_tables.specs.declared.action.Action.{Action}
@@ -18,10 +18,10 @@ use Rattle.intent_book.specs.declared.intent.Intent.{Intent}
 use Rattle.wasm_store.specs.Memory.{Memory}
 use Rattle.world_rules.specs.World.{Placed, world_of}
 use Rattle.world_rules.specs.RoomParts.{RoomPart, part_of}
-use Rattle.world_rules.specs.Checks.{Check, Scene, all_hold, amount_checks, are_near, checks, controller_around, creep_checks, first_failing, further_checks, holds_of, is_amount, part_checks, reaches_itself, scene_of, standing_at, target_checks}
+use Rattle.world_rules.specs.Checks.{Check, Scene, all_hold, amount_checks, are_near, checks, controller_around, creep_checks, further_checks, holds_of, is_amount, part_checks, reaches_itself, scene_of, standing_at, target_checks}
 use Rattle.world_rules.specs.Sound.{IsSound}
 use Rattle.visible_view.specs.Sights.{Sight, sight_of}
-use Rattle.action_checks.proofs.Passing.{all_hold_where_done, fails_early, hold_both}
+use Rattle.action_checks.proofs.Passing.{have_codes, hold_both, own_checks}
 use Rattle.host_calls.specs.Desks.{Desk}
 use Rattle.host_calls.specs.Replies.{act_code, amount_of, id_of, objects_around, record_checks, scene_seen, seen, wanted, wish_of}
 use Rattle.host_calls.specs.Agreement.{CallsAgree, IsRecorded, Passes}
@@ -33,14 +33,6 @@ done_where_0 desk memory intent _ zero = absurd (cc)
 
 recorded_where_done : (desk : Desk) (memory : Memory) (intent : Intent) (code : Code) → code ≡ Done → IsRecorded desk intent (wanted desk memory intent code).desk
 recorded_where_done desk memory intent code done = ap (λ (c : Code). (wanted desk memory intent c).desk) done
-
--- The action's own checks hold where none of all fails.
-own_hold : (action : Action) (scene : Scene) (late : List Check) → first_failing (checks action scene ++ late) ≡ Done → all_hold (checks action scene) ≡ true
-own_hold action scene late done =
-    elim (cases_Bool (all_hold (checks action scene))) [
-      | inl holds ↦ holds
-      | inr not_so ↦ all_hold_where_done action scene (sym (fails_early (checks action scene) late not_so).0 ∙ done)
-    ]
 
 hold_parts : (early late : List Check) → all_hold (early ++ late) ≡ true → (all_hold early ≡ true) × (all_hold late ≡ true)
 hold_parts [] late holds = (refl, holds)
@@ -223,7 +215,7 @@ pub calls_agree : CallsAgree
 calls_agree stored account desk memory action id target amount sound sees zero =
     let own : desk.sight.account ≡ account = ap (λ (s : Sight). s.account) sees in
     let done = done_where_0 desk memory (wish_of action desk.sight.account.player id target amount) (act_code action desk id target amount) zero in
-    let holds = own_hold action (scene_seen desk.sight id target amount) (record_checks desk (wish_of action desk.sight.account.player id target amount)) done in (
+    let holds = own_checks (checks action (scene_seen desk.sight id target amount)) (record_checks desk (wish_of action desk.sight.account.player id target amount)) (have_codes action (scene_seen desk.sight id target amount)) done in (
       subst (λ (a : Account). IsRecorded desk (wish_of action a.player id target amount) (wanted desk memory (wish_of action desk.sight.account.player id target amount) (act_code action desk id target amount)).desk) own (recorded_where_done desk memory (wish_of action desk.sight.account.player id target amount) (act_code action desk id target amount) done),
       subst (λ (a : Account). Passes (world_of stored) (wish_of action a.player id target amount)) own (passes stored account desk action id target amount sound sees holds),
     )

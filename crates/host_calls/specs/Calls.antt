@@ -6,7 +6,7 @@ use Rattle.wasm_module.specs.declared.host_sig.HostSig.{HostSig}
 use Rattle.host_calls.specs.declared.call.Call.{Call}
 use Rattle.host_calls.specs.declared.call.Call.TheVariants as call
 
--- the calls in force
+-- all calls, in the order of their numbers
 abbrev pub all_calls : List Call
 all_calls =
     call.Tick ∷ call.Me ∷ call.Allowance ∷ call.Bucket ∷ call.Points ∷ call.Level ∷ call.Rooms ∷ call.Room

@@ -226,8 +226,8 @@ impl<'a, 'v> Desk<'a, 'v> {
         }
     }
 
-    // Wants to claim a controller, where the checks hold of what is seen, and the player's controllers with those
-    // that other creeps of his are to claim are fewer than his level.
+    // Wants to claim a controller, where the checks hold of what is seen, and the player's controllers with
+    // those that other creeps of his are to claim are fewer than his level.
     fn claim(&mut self, id: i64, target: i64) -> Code
         ensures code { result ≡ claim_code self.old id target }
         ensures desk { self.new ≡ recorded self.old

@@ -1,12 +1,12 @@
 -- The intents of a tick are of players who have accounts.
-use Rattle.std.proofs.Common.{◌≡◌, ℕ, ◌≤◌, All, true, List, [], ◌∷◌, ◌++◌, map, length, get_or, Option, Some, None, refl, sym, ap, subst, ◌∙◌}
+use Rattle.std.proofs.Common.{◌≡◌, ℕ, true, List, [], ◌∷◌, get_or, Option, Some, None, refl, sym, ap, subst, ◌∙◌}
 use Rattle.std.specs.List.{AllByRecursion}
 use Rattle.std.specs.Option.{is_some}
 use Rattle.std.specs.FinMap.{get}
 use Rattle.std.proofs.lemmas.List.{get_or_default}
 use Rattle.std.proofs.lemmas.List.Elements.{recursion_from_All}
 use Rattle.object_store.specs.declared.account.Account.{Account}
-use Rattle.object_store.specs.Stored.{Stored, AreRising, find_account}
+use Rattle.object_store.specs.Stored.{Stored, AreRising}
 use Rattle.intent_book.specs.Records.{AreOf}
 use Rattle.intent_book.specs.declared.intent.Intent.{Intent}
 use Rattle.intent_book.specs.declared.player_run.PlayerRun.{PlayerRun}
@@ -16,7 +16,6 @@ use Rattle.visible_view.specs.Sights.{Sight, sight_of}
 use Rattle.world_rules.specs.Intents.{names_tile}
 use Rattle.room_rules.specs.RoomRules.{is_player}
 use Rattle.ruled_tick.specs.Players.{AreByPlayers}
-use Rattle.player_run.specs.Emitted.{Emits}
 use Rattle.player_run.proofs.Owned.{emitted_own}
 use Rattle.hosted_tick.specs.Next.{AreRuns, BeginWith, Modules}
 use Rattle.hosted_tick.proofs.Accounts.{account_among, get_account}

@@ -88,7 +88,8 @@ impl Recorded {
 
     /// Whether there is an entry of this action and actor.
     pub fn holds(&self, action: Action, actor: u64) -> bool
-        ensures { result ≡ list_any (λ entry. place_eq (action_number action, actor) (place entry)) self.now.entries }
+        ensures { result
+            ≡ list_any (λ entry. place_eq (action_number action, actor) (place entry)) self.now.entries }
     {
         self.entries
             .get_index_of(&(action.number(), actor))

@@ -288,8 +288,8 @@ impl RoomTable {
             | self.stands(x, y, Kind::Storage)
     }
 
-    /// Whether a site may be made on a tile, as far as sources, controllers, buildings and sites stand in its way.
-    /// Under the first rules it is the same for sites of all kinds.
+    /// Whether a site may be made on a tile, as far as sources, controllers, buildings and sites stand in its
+    /// way. Under the first rules it is the same for sites of all kinds.
     pub fn site_free(&self, x: u8, y: u8, kind: Kind) -> bool
         ensures { result ≡ is_site_free x y kind self.now.objects }
     {

@@ -1,5 +1,5 @@
 -- A player's record has entries of his own alone.
-use Rattle.std.proofs.Common.{◌≡◌, ℕ, not, All, List, [], filter, refl, ap, ◌∙◌}
+use Rattle.std.proofs.Common.{◌≡◌, ℕ, not, List, filter, refl, ap, ◌∙◌}
 use Rattle.std.proofs.lemmas.List.Elements.{All-filter, All-nil, All-push}
 use Rattle.std.proofs.lemmas.List.Sorted.{All-permutation}
 use Rattle.intent_book.specs.Records.{AreOf, put_last, same_place}

@@ -1,7 +1,6 @@
 -- What a reply makes of the desk.
-use Rattle.std.proofs.Common.{◌≡◌, ◌≢◌, ℕ, ℤ, pos, ◌+◌, ◌<◌, Bool, true, false, nat_le, nat_eq, ◌&&◌, if◌then◌else◌, List, [], ◌∷◌, ◌++◌, length, Option, Some, None, inl, inr, refl, sym, ap, subst, ◌∙◌}
-use Rattle.std.specs.List.{AllByRecursion}
-use Rattle.std.proofs.lemmas.Bool.{and_parts, cases_Bool, ltb-true}
+use Rattle.std.proofs.Common.{◌≡◌, ℕ, ℤ, pos, ◌+◌, ◌<◌, true, false, nat_le, nat_eq, ◌&&◌, if◌then◌else◌, List, length, Option, Some, None, refl, subst}
+use Rattle.std.proofs.lemmas.Bool.{ltb-true}
 use Rattle.game_tables.specs.Codes.{code_number}
 use Rattle.game_tables.specs.Limits.{most_memory, most_sites}
 use Rattle.game_tables.specs.declared.action.Action.{Action}
@@ -12,10 +11,10 @@ use Rattle.counted_record.specs.Others.{others_of}
 use Rattle.intent_book.specs.Records.{put_last}
 use Rattle.intent_book.specs.declared.intent.Intent.{Intent}
 use Rattle.visible_view.specs.Sights.{SeenRoom}
-use Rattle.world_rules.specs.Checks.{Check, all_hold, first_failing}
+use Rattle.world_rules.specs.Checks.{all_hold}
 use Rattle.world_rules.specs.Intents.{names_tile}
 use Rattle.world_rules.specs.Sites.{Plan, site_checks}
-use Rattle.action_checks.proofs.Passing.{HaveCodes, all_where_done, fails_early}
+use Rattle.action_checks.proofs.Passing.{each_holds, own_checks}
 use Rattle.wasm_store.specs.Memory.{Memory, span, written}
 use Rattle.host_calls.specs.declared.call.Call.{Call}
 use Rattle.host_calls.specs.declared.call.Call.TheVariants as call
@@ -38,24 +37,13 @@ pub data Changes (desk : Desk) : Desk → Type 0 where
 
 -- ---- calls for sites
 
-own_hold : (own late : List Check) → HaveCodes own → first_failing (own ++ late) ≡ Done → all_hold own ≡ true
-own_hold own late have done =
-    elim (cases_Bool (all_hold own)) [
-      | inl holds ↦ holds
-      | inr not_so ↦ all_where_done own have (sym (fails_early own late not_so).0 ∙ done)
-    ]
-
-each_holds : (list : List Check) → all_hold list ≡ true → AllByRecursion (λ (check : Check). check.0 ≡ true) list
-each_holds [] holds = tt
-each_holds (check ∷ later) holds = let both = and_parts check.0 (all_hold later) holds in (both.0, each_holds later both.1)
-
 -- The last check of a new site is how many the player has.
 few_sites : (plan : Plan) → all_hold (site_checks plan) ≡ true → plan.sites < most_sites
 few_sites plan holds = ltb-true plan.sites most_sites (each_holds (site_checks plan) holds).1.1.1.1.1.1.0
 
 few_in : (desk : Desk) (wish : Intent) (x y : ℤ) (room : Option SeenRoom) → site_code_in desk wish x y room ≡ Done → desk.sight.sites + length (others_of CreateSite wish.actor desk.book.entries) < most_sites
 few_in desk wish x y None done = absurd (cc)
-few_in desk wish x y (Some room) done = few_sites (plan_seen desk wish x y room) (own_hold (site_checks (plan_seen desk wish x y room)) (record_checks desk wish) (site_codes (plan_seen desk wish x y room)) done)
+few_in desk wish x y (Some room) done = few_sites (plan_seen desk wish x y room) (own_checks (site_checks (plan_seen desk wish x y room)) (record_checks desk wish) (site_codes (plan_seen desk wish x y room)) done)
 
 -- ---- all calls
 

@@ -1,8 +1,7 @@
 -- What creeps do to controllers: what they put into them is gone, and all else stays in the room.
-use Rattle.std.proofs.Common.{◌≡◌, ℕ, ◌+◌, ◌-◌, ◌*◌, ◌≤◌, ◌==◌, max, min, nat_le, if◌then◌else◌, Bool, true, false, Option, Some, None, refl, ap, ◌∙◌, arith}
+use Rattle.std.proofs.Common.{◌≡◌, ℕ, ◌+◌, ◌-◌, ◌*◌, ◌==◌, max, min, nat_le, if◌then◌else◌, true, false, Option, Some, None, refl, ap, ◌∙◌, arith}
 use Rattle.std.specs.FinMap.{get}
-use Rattle.game_tables.specs.Levels.{last_level, total_for_next}
-use Rattle.game_tables.specs.declared.action.Action.{Action}
+use Rattle.game_tables.specs.Levels.{total_for_next}
 use Rattle.game_tables.specs.declared.action.Action.TheVariants.{ClaimController, Upgrade, Reserve, AttackController}
 use Rattle.intent_book.specs.declared.intent.Intent.{Intent}
 use Rattle.object_store.specs.Tallies.{sum_with}
@@ -12,9 +11,9 @@ use Rattle.world_rules.specs.Changes.{with_object}
 use Rattle.world_rules.specs.Checks.{parties}
 use Rattle.world_rules.specs.Claims.{claimed, claimed_by, claimed_for, controller_attacked, controller_hurt, full_time, hurt_by, live_claim, progressed, refreshed, reserved, reserved_by, risen, ticks_reserved, upgraded, upgraded_by, work_taken, worked_on}
 use Rattle.world_rules.specs.Loads.{with_less}
-use Rattle.world_rules.specs.Work.{live_work}
 use Rattle.room_rules.specs.RoomRules.{Holds}
 use Rattle.room_rules.proofs.Changed.{target_apart}
+use Rattle.room_rules.proofs.Claims.{taken_most}
 use Rattle.room_energy.specs.Energy.{amount_between, energy_in}
 use Rattle.room_energy.proofs.Parts.{IsReady, energy_changed, energy_two, under_own}
 use Rattle.room_energy.proofs.Handed.{energy_parties, keeps_parties}
@@ -50,14 +49,6 @@ progressed_alike (Some total) amount before o alike =
 
 worked_alike : (amount : ℕ) (o : Object) → Alike o (worked_on amount o)
 worked_alike amount o = progressed_alike (total_for_next o.extra) amount o (record o { other_ticks = sum_with amount o.other_ticks }) (refl, refl)
-
--- No more is put in than is carried.
-taken_most : (creep controller : Object) → work_taken creep controller ≤ creep.energy
-taken_most creep controller = most (controller.extra == last_level)
-  where
-    most : (b : Bool) → (if b then min (min (live_work creep) creep.energy) (15 - controller.other_ticks) else min (live_work creep) creep.energy) ≤ creep.energy
-    most true = omega arith
-    most false = omega arith
 
 -- ---- the rules
 

@@ -1,12 +1,12 @@
 -- What a creep costs is gone, and what becomes of sites changes no energy.
-use Rattle.std.proofs.Common.{◌≡◌, ◌≢◌, ◌⊎◌, inl, inr, ℕ, ◌+◌, ◌-◌, ◌*◌, ◌^◌, ◌<◌, ◌≤◌, ◌==◌, ◌&&◌, min, nat_lt, nat_le, if◌then◌else◌, Bool, true, false, cond, List, [], ◌∷◌, ◌++◌, length, map, Option, Some, None, option_map, refl, sym, ap, subst, ◌∙◌, arith}
+use Rattle.std.proofs.Common.{◌≡◌, ◌⊎◌, inl, inr, ℕ, ◌+◌, ◌-◌, ◌*◌, ◌≤◌, ◌==◌, ◌&&◌, min, if◌then◌else◌, Bool, true, false, cond, List, [], ◌∷◌, ◌++◌, length, map, Option, Some, None, option_map, refl, sym, ap, subst, ◌∙◌, arith}
 use Rattle.std.specs.List.{filter, sum_by}
 use Rattle.std.specs.Ordering.{nat_cmp}
 use Rattle.std.specs.Cmp.{nat_cmp_total, unsigned_tied}
 use Rattle.std.specs.FinMap.{find, get, values, entries, entries_sorted, get-entries, get-insert}
-use Rattle.std.proofs.lemmas.Bool.{and_parts, cases_lt, eqb-true, leb-true, ne_eqb}
+use Rattle.std.proofs.lemmas.Bool.{cases_lt, leb-true, ne_eqb}
 use Rattle.std.proofs.lemmas.List.Sums.{sum_by-append, sum_by-cons}
-use Rattle.game_tables.specs.Bodies.{body_cost, most_parts}
+use Rattle.game_tables.specs.Bodies.{body_cost}
 use Rattle.game_tables.specs.Kinds.{is_site}
 use Rattle.game_tables.specs.Numbers.{kind_number}
 use Rattle.game_tables.specs.declared.kind.Kind.{Kind}
@@ -14,9 +14,8 @@ use Rattle.game_tables.specs.declared.kind.Kind.TheVariants.{Spawn, Extension, S
 use Rattle.game_tables.specs.declared.kind.Part.{Part}
 use Rattle.intent_book.specs.declared.intent.Intent.{Intent}
 use Rattle.object_store.specs.declared.object.Object.{Object}
-use Rattle.world_rules.specs.World.{Placed}
 use Rattle.world_rules.specs.RoomParts.{RoomPart}
-use Rattle.world_rules.specs.Changes.{next_id, put, with_new, with_object, without}
+use Rattle.world_rules.specs.Changes.{put, with_new, with_object, without}
 use Rattle.world_rules.specs.Checks.{all_hold, holds_of, standing_at}
 use Rattle.world_rules.specs.Loads.{with_less}
 use Rattle.world_rules.specs.Sites.{plan_of, removal_checks, site_checks, site_made, site_of, site_removed}

@@ -78,7 +78,8 @@ put_into (Some kind) creep site = work_put kind creep site
 -- what a creep costs that a spawn begins to make
 abbrev pub cost_of : Intent → RoomPart → ℕ
 cost_of entry part =
-    if all_hold (spawn_checks entry.player (standing_at part entry.actor) (values part.objects) (Some entry.body))
+    if all_hold
+    (spawn_checks entry.player (standing_at part entry.actor) (values part.objects) (Some entry.body))
     then body_cost entry.body else 0
 
 -- What an entry takes out of the room: what is lost of what falls, what a repair costs, what is built with,

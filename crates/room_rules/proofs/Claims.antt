@@ -245,6 +245,14 @@ progressed_same (Some total) amount before o same =
       | false ↦ refreshed_same amount before more also
     ]
 
+-- No more is put in than is carried.
+pub taken_most : (creep controller : Object) → work_taken creep controller ≤ creep.energy
+taken_most creep controller = most (controller.extra == last_level)
+  where
+    most : (b : Bool) → (if b then min (min (live_work creep) creep.energy) (15 - controller.other_ticks) else min (live_work creep) creep.energy) ≤ creep.energy
+    most true = omega arith
+    most false = omega arith
+
 worked_same : (amount : ℕ) (o : Object) → IsSame o (worked_on amount o)
 worked_same amount o =
     progressed_same (total_for_next o.extra) amount o (record o { other_ticks = sum_with amount o.other_ticks })
@@ -493,13 +501,6 @@ module _ (players : ℕ → Bool) (entry : Intent) where
       (target_apart Upgrade 3 entry part creep controller p.targets refl) (same_less amount creep) like
       (less_range players within creep amount p.kind)
       (as_controller controller (worked_on amount controller) is like.kind (worked_range amount controller few (λ none. omega (arith, account.0, same, none))))
-    where
-      taken_most : (creep controller : Object) → work_taken creep controller ≤ creep.energy
-      taken_most creep controller = most (controller.extra == last_level)
-        where
-          most : (b : Bool) → (if b then min (min (live_work creep) creep.energy) (15 - controller.other_ticks) else min (live_work creep) creep.energy) ≤ creep.energy
-          most true = omega arith
-          most false = omega arith
 
   pub keeps_upgraded : (part : RoomPart) → Kept part → Kept (upgraded entry part)
   keeps_upgraded = keeps_parties players within Upgrade upgraded_by entry upgrade_keeps

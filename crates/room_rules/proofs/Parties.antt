@@ -57,7 +57,8 @@ keeps_ready table new index next spare ready = keeps_after table new new index n
 
 -- ---- the creep and the target of an entry
 
-stands : (id : ℕ) (objects : List Object) (found : Object) → find_object id objects ≡ Some found → HasId found.id objects
+-- An object that is found stands there under its id.
+pub stands : (id : ℕ) (objects : List Object) (found : Object) → find_object id objects ≡ Some found → HasId found.id objects
 stands id objects found is = (found, ap (λ (n : ℕ). find_object n objects) (has_the_id id objects found is) ∙ is)
 
 -- Two objects stand in the room, on its tiles.
@@ -71,10 +72,10 @@ module _ (action : Action) (entry : Intent) (table : Table) (creep target : Obje
   are : AreParties action entry (table_part [] table) creep target
   are = parties_are action entry (table_part [] table) (creep, target) (sym (found []))
 
-  creep_found : find_object entry.actor table.objects ≡ Some creep
+  pub creep_found : find_object entry.actor table.objects ≡ Some creep
   creep_found = sym (get_table_part [] table entry.actor) ∙ are.there
 
-  target_found : find_object entry.target table.objects ≡ Some target
+  pub target_found : find_object entry.target table.objects ≡ Some target
   target_found = sym (get_table_part [] table entry.target) ∙ are.at
 
   -- the target, under the id by which it is named

@@ -1,11 +1,11 @@
 -- Sites that are made and removed, and creeps that spawns make, keep the rules of a room.
-use Rattle.std.proofs.Common.{◌≡◌, ◌≢◌, ◌⊎◌, inl, inr, ℕ, ◌+◌, ◌-◌, ◌*◌, ◌/◌, ◌%◌, ◌^◌, ◌<◌, ◌≤◌, ◌==◌, ◌&&◌, ◌||◌, not, nat_lt, nat_le, if◌then◌else◌, Bool, true, false, cond, List, [], ◌∷◌, ◌++◌, map, length, slice_get, Option, Some, None, option_map, refl, sym, ap, subst, ◌∙◌, arith}
-use Rattle.std.specs.List.{AllByRecursion, filter, filter_map, find, list_any}
+use Rattle.std.proofs.Common.{◌≡◌, inl, inr, ℕ, ◌-◌, ◌*◌, ◌<◌, ◌≤◌, ◌==◌, ◌&&◌, ◌||◌, not, nat_lt, nat_le, if◌then◌else◌, Bool, true, false, List, [], ◌∷◌, length, slice_get, Option, Some, None, option_map, refl, sym, ap, subst, ◌∙◌, arith}
+use Rattle.std.specs.List.{AllByRecursion, filter, filter_map, list_any}
 use Rattle.std.specs.Option.{is_some}
 use Rattle.std.specs.FinMap.{get, values}
 use Rattle.std.proofs.lemmas.Bool.{and_parts, both_ways, cases_lt, eq-eqb, eqb-true, leb-true, ltb-true}
 use Rattle.game_tables.specs.Bodies.{body_cost, has_part, lifetime, most_parts}
-use Rattle.game_tables.specs.Kinds.{build_total, clash, hits_max, is_building, is_controller, is_creep, is_pile, is_site, is_source, may_have_owner, needs_owned_room, obstructs, stands_fixed}
+use Rattle.game_tables.specs.Kinds.{build_total, clash, is_building, is_creep, needs_owned_room, obstructs, stands_fixed}
 use Rattle.game_tables.specs.Numbers.{kind_number}
 use Rattle.game_tables.specs.Limits.{most_sites}
 use Rattle.game_tables.specs.declared.code.Code.TheVariants.{InvalidTarget, Full}
@@ -13,7 +13,7 @@ use Rattle.game_tables.specs.declared.kind.Kind.{Kind}
 use Rattle.game_tables.specs.declared.kind.Kind.TheVariants.{Creep, Spawn, Extension, Storage, Container, Road, Site}
 use Rattle.game_tables.specs.declared.kind.Part.{Part}
 use Rattle.game_tables.specs.declared.kind.Part.TheVariants.{Claim}
-use Rattle.room_terrain.specs.Tiles.{tile, IsBorder, IsEdge}
+use Rattle.room_terrain.specs.Tiles.{tile, IsEdge}
 use Rattle.room_terrain.specs.declared.terrain.Ground.{Ground}
 use Rattle.room_terrain.specs.declared.terrain.Ground.TheVariants.{Wall}
 use Rattle.intent_book.specs.declared.intent.Intent.{Intent}
@@ -26,15 +26,15 @@ use Rattle.world_rules.specs.Changes.{next_id, put, with_new, with_object, witho
 use Rattle.world_rules.specs.Checks.{all_hold, holds_of, standing_at}
 use Rattle.world_rules.specs.Loads.{with_less}
 use Rattle.world_rules.specs.Moves.{directions, is_open, is_open_ground, tile_towards}
-use Rattle.world_rules.specs.Rules.{IsOnWrongTile, IsProgress, IsSite}
+use Rattle.world_rules.specs.Rules.{IsProgress}
 use Rattle.world_rules.specs.Sites.{Plan, has_creep, has_place, is_free_tile, is_inner, is_owners, of_kind, plan_of, planned_kind, removal_checks, site_checks, site_made, site_of, site_removed}
 use Rattle.world_rules.specs.Spawns.{begun_with, creep_begun, hatched, hatched_as, hatched_on, holds_for_creeps, is_body, is_free_for_creep, is_payable, newborn, paid, payers, share, spawn_checks, those_of, tile_for}
 use Rattle.world_rules.specs.Steps.{by_object}
 use Rattle.world_rules.proofs.Checked.{and_left, and_right}
 use Rattle.room_commutes.proofs.CreepsApart.{first_has, has_stands, stands_has}
 use Rattle.room_commutes.proofs.Members.{Has, append_cases, has_any, has_filter, map_has}
-use Rattle.room_rules.specs.Within.{Stage, summed, within, IsInRangeIn}
-use Rattle.room_rules.specs.RoomRules.{Holds, HasRightOwner, KeepsRoomRules}
+use Rattle.room_rules.specs.Within.{Stage, summed, IsInRangeIn}
+use Rattle.room_rules.specs.RoomRules.{Holds, KeepsRoomRules}
 use Rattle.room_rules.proofs.Keeps.{Fits, IsSame, keeps_changed, keeps_new, keeps_over, keeps_without, only_one}
 use Rattle.room_rules.proofs.Changed.{stood_before}
 use Rattle.room_rules.proofs.Falls.{both_true}

@@ -44,5 +44,6 @@ pub record HasCrossed (stored after : Stored) : Type 0 where
   pub free : first_on x y Creep other.table.objects ≡ None
   pub crossed : after ≡ record stored {
     rooms = slice_set
-        (slice_set stored.rooms from (left_by creep.id was)) to (entered_by (record creep { x = x; y = y }) other);
+        (slice_set stored.rooms from (left_by creep.id was)) to
+        (entered_by (record creep { x = x; y = y }) other);
   }

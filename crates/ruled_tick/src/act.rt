@@ -1,6 +1,5 @@
 // What the entries of a tick make of the rooms.
-ghost use Rattle.std.specs.Prelude.{◌≡◌, ◌≢◌, IsTrue, ◌<◌, ◌≤◌, ◌^◌, ℕ, List, length, Some, option_map, slice_get, OnOk, IfOk};
-ghost use Rattle.room_terrain.specs.declared.terrain.Ground.{Ground};
+ghost use Rattle.std.specs.Prelude.{◌≡◌, ◌≢◌, ◌<◌, ◌≤◌, ◌^◌, ℕ, length, Some, option_map, slice_get, OnOk, IfOk};
 ghost use Rattle.object_store.specs.declared.world.Room.{Room};
 ghost use Rattle.world_rules.specs.RoomParts.{table_part};
 ghost use Rattle.world_rules.specs.Tick.{book};
@@ -113,8 +112,8 @@ fn rule(ground: &Terrain, table: &mut RoomTable, intent: &Intent) -> u32
     }
 }
 
-// The rule of each action that gives no points. A move does nothing yet: it is settled with the other moves of
-// its room after all entries.
+// The rule of each action that gives no points. A move does nothing yet: it is settled with the other moves
+// of its room after all entries.
 fn rule_plain(ground: &Terrain, table: &mut RoomTable, intent: &Intent)
     requires ready { IsReady table.old }
     requires plain { intent.now.action ≢ Action.Upgrade }

@@ -84,8 +84,8 @@ fn tick_room(room: &mut Room, moves: &[Intent]) -> Result<(), NoMemory>
 }
 
 // Takes memory for so many objects, for the piles that upkeep may make and the creeps that may come, where
-// there isn't as much. A room without serials for so many is refused as one without memory; one that keeps the
-// rules has at most 7,500 objects.
+// there isn't as much. A room without serials for so many is refused as one without memory; one that keeps
+// the rules has at most 7,500 objects.
 fn take_memory(table: &mut RoomTable, many: u64) -> Result<(), NoMemory>
     requires few { many < 2 ^ 34 }
     ensures { OnOk result (HasMemory many table.old table.new) }

@@ -6,8 +6,8 @@ ghost use Rattle.sight_census.specs.inner.Counting.{none, one_more, total, AreCo
 use action_checks::{counted_number, held_by};
 use object_store::{Object, Objects, RoomTable};
 
-/// What is counted of a room for a player: what his spawns and extensions hold there together, or 2^32 - 1 where
-/// that is less, and how many buildings and sites there are of each kind that is built from sites.
+/// What is counted of a room for a player: what his spawns and extensions hold there together, or 2^32 - 1
+/// where that is less, and how many buildings and sites there are of each kind that is built from sites.
 #[derive(Clone, Copy)]
 pub struct Told {
     pub held: u32,
@@ -29,7 +29,8 @@ impl Told {
         }
     }
 
-    /// How many buildings and sites there are of the kind of a number, and 0 of one that is not built from sites.
+    /// How many buildings and sites there are of the kind of a number, and 0 of one that is not built from
+    /// sites.
     pub fn built(&self, number: u64) -> u32
         ensures { result ≡ built self.now number }
     {

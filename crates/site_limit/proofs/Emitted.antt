@@ -1,5 +1,5 @@
 -- What the players of a world emit in a tick wants no more new sites than each may have.
-use Rattle.std.proofs.Common.{◌≡◌, ℕ, ◌+◌, ◌-◌, ◌==◌, ◌&&◌, ◌≤◌, ◌<◌, Bool, true, false, cond, All, List, [], ◌∷◌, ◌++◌, length, Option, Some, None, inl, inr, refl, sym, ap, subst, ◌∙◌, arith, IsPermutation}
+use Rattle.std.proofs.Common.{◌≡◌, ℕ, ◌+◌, ◌-◌, ◌==◌, ◌&&◌, ◌≤◌, ◌<◌, Bool, true, false, cond, List, [], ◌∷◌, ◌++◌, Option, Some, None, refl, sym, ap, subst, ◌∙◌, arith}
 use Rattle.std.specs.List.{AllByRecursion, count_by}
 use Rattle.std.specs.FinMap.{get}
 use Rattle.std.proofs.lemmas.Bool.{eq-eqb, eqb-true}
@@ -9,7 +9,6 @@ use Rattle.std.proofs.lemmas.List.Sums.{sum_by-cons, sum_by-append}
 use Rattle.game_tables.specs.Limits.{most_sites}
 use Rattle.object_store.specs.declared.account.Account.{Account}
 use Rattle.object_store.specs.Stored.{AreRising}
-use Rattle.intent_book.specs.Records.{AreOf}
 use Rattle.intent_book.specs.declared.intent.Intent.{Intent}
 use Rattle.intent_book.specs.declared.player_run.PlayerRun.{PlayerRun}
 use Rattle.world_rules.specs.Intents.{names_tile}
@@ -19,7 +18,7 @@ use Rattle.visible_view.specs.Sights.{Sight, sight_of, site_count}
 use Rattle.wasm_link.specs.Linking.{Link}
 use Rattle.host_calls.specs.Desks.{Desk}
 use Rattle.host_calls.specs.Replies.{answers}
-use Rattle.player_run.specs.Emitted.{Emits, EmitsBy}
+use Rattle.player_run.specs.Emitted.{EmitsBy}
 use Rattle.player_run.proofs.HostKept.{run_keeps}
 use Rattle.player_run.proofs.Owned.{emitted_own}
 use Rattle.player_run.proofs.Replied.{Changes, answered, records, same, text}

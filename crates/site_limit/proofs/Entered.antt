@@ -1,9 +1,8 @@
 -- How many sites the entries of a tick add, player by player.
-use Rattle.std.proofs.Common.{◌≡◌, ℕ, ◌+◌, ◌*◌, ◌/◌, ◌==◌, ◌&&◌, ◌≤◌, Bool, true, false, cond, List, [], ◌∷◌, ◌++◌, length, map, Option, Some, None, inl, inr, refl, sym, ap, subst, ◌∙◌, arith, length-append, append_assoc, eq-eqb, IsPermutation}
+use Rattle.std.proofs.Common.{◌≡◌, ℕ, ◌+◌, ◌==◌, ◌&&◌, ◌≤◌, Bool, true, false, cond, List, [], ◌∷◌, ◌++◌, length, Option, Some, None, inl, inr, refl, sym, ap, subst, ◌∙◌, arith, length-append, append_assoc, eq-eqb}
 use Rattle.std.specs.Prelude.{if◌then◌else◌, not}
-use Rattle.std.specs.List.{AllByRecursion, count_by, filter, list_any}
+use Rattle.std.specs.List.{count_by, filter, list_any}
 use Rattle.std.specs.FinMap.{get}
-use Rattle.std.proofs.lemmas.Bool.{cases_Bool, eqb-true}
 use Rattle.std.proofs.lemmas.List.Sums.{sum_by-cons}
 use Rattle.std.proofs.lemmas.List.Sorted.{sum_by-IsPermutation}
 use Rattle.std.specs.List.{filter_map}
@@ -11,19 +10,19 @@ use Rattle.game_tables.specs.Actions.{action_number}
 use Rattle.game_tables.specs.declared.action.Action.{Action}
 use Rattle.game_tables.specs.declared.action.Action.TheVariants.{CreateSite, DropLoad, Transfer, Withdraw, Pickup, Heal, RangedHeal, Dismantle, Attack, Harvest, Repair, Build, RangedMassAttack, RangedAttack, Suicide, ClaimController, Upgrade, Reserve, AttackController, RemoveSite, SpawnCreep, Move}
 use Rattle.intent_book.specs.declared.intent.Intent.{Intent}
-use Rattle.world_rules.specs.Intents.{all_actions, entries_of, fits, kept, last_of_each, names_tile, overrules, room_of, same_entry, those_in, undropped}
+use Rattle.world_rules.specs.Intents.{all_actions, entries_of, fits, kept, last_of_each, names_tile, overrules, room_of, same_entry, those_in}
 use Rattle.world_rules.specs.RoomParts.{RoomPart, in_every_room, in_frame, in_room, part_of}
 use Rattle.world_rules.specs.Changes.{next_id}
 use Rattle.world_rules.specs.Sites.{site_made}
-use Rattle.world_rules.specs.Tick.{Course, acted, harm_of, after_actions, after_kind, after_rule, after_rules, after_steps, begun, book, inner, movement, ruled, rule_of, sums_in}
+use Rattle.world_rules.specs.Tick.{Course, acted, harm_of, after_actions, after_kind, after_rule, after_rules, after_steps, begun, book, movement, ruled, rule_of, sums_in}
 use Rattle.world_rules.specs.Upkeep.{steps}
 use Rattle.world_rules.specs.Crossings.{crossed}
-use Rattle.world_rules.specs.World.{Frame, Placed, World}
-use Rattle.room_commutes.proofs.Members.{Has, contains_has, has_contained}
+use Rattle.world_rules.specs.World.{Frame, World}
+use Rattle.room_commutes.proofs.Members.{Has, has_contained}
 use Rattle.room_commutes.proofs.ActorsOnce.{entry_of}
 use Rattle.room_commutes.proofs.Ordered.{in_order-same}
-use Rattle.site_limit.specs.FewSites.{is_site_of, wants_site}
-use Rattle.site_limit.proofs.Rooms.{AllFit, fit_rule}
+use Rattle.site_limit.specs.FewSites.{wants_site}
+use Rattle.site_limit.proofs.Rooms.{fit_rule}
 use Rattle.site_limit.proofs.Steps.{fit_made, fit_moved, fit_steps}
 use Rattle.site_limit.proofs.Worlds.{AllFitIn, crossed_fits, every_fits, frame_fits, part_fits, room_fits, steps_fit}
 

@@ -1,29 +1,27 @@
 -- A tick keeps the limit of sites.
-use Rattle.std.proofs.Common.{◌≡◌, ℕ, ◌+◌, ◌≤◌, ◌<◌, Bool, true, false, cond, List, [], ◌∷◌, ◌++◌, length, map, Option, Some, None, inl, inr, refl, sym, ap, subst, ◌∙◌, arith, length-append}
+use Rattle.std.proofs.Common.{◌≡◌, ℕ, ◌+◌, ◌≤◌, Bool, List, ◌++◌, length, map, inl, inr, sym, subst, ◌∙◌, arith, length-append}
 use Rattle.std.proofs.lemmas.Bool.{cases_lt}
 use Rattle.std.specs.List.{count_by, filter}
-use Rattle.std.specs.Ordering.{nat_cmp}
 use Rattle.std.specs.Cmp.{nat_cmp_total}
-use Rattle.std.specs.FinMap.{entries, find, from_entries, get, get-entries, get-from_entries}
+use Rattle.std.specs.FinMap.{entries, get-entries, get-from_entries}
 use Rattle.game_tables.specs.Limits.{most_sites}
 use Rattle.object_store.specs.declared.account.Account.{Account}
-use Rattle.object_store.specs.declared.object.Object.{Object}
 use Rattle.object_store.specs.Stored.{Stored}
 use Rattle.intent_book.specs.declared.player_run.PlayerRun.{PlayerRun}
 use Rattle.upload_stream.specs.Streams.{Upload}
 use Rattle.tick_journal.specs.declared.entries.UploadEntry.{UploadEntry}
 use Rattle.visible_view.specs.Sights.{site_count}
-use Rattle.world_rules.specs.Rules.{Broken, IsPlayer}
+use Rattle.world_rules.specs.Rules.{IsPlayer}
 use Rattle.world_rules.specs.Sound.{IsSound}
 use Rattle.world_rules.specs.Tick.{intents_of, next_world}
 use Rattle.world_rules.specs.World.{Placed, World, listing_of, placed, world_of}
-use Rattle.world_rules.specs.declared.rule.Rule.TheVariants.{IdTwice, Sites}
+use Rattle.world_rules.specs.declared.rule.Rule.TheVariants.{IdTwice}
 use Rattle.room_commutes.proofs.Keyed.{keyed_stored}
 use Rattle.room_commutes.proofs.Members.{Has, filter_has, has_found, has_map}
 use Rattle.hosted_tick.specs.Hosting.{Held, state_of}
 use Rattle.hosted_tick.specs.Next.{AreRuns, Next, account_list}
 use Rattle.hosted_tick.proofs.Accounts.{accounts_listed}
-use Rattle.site_limit.specs.FewSites.{HaveFewSites, is_site_of, wants_site}
+use Rattle.site_limit.specs.FewSites.{HaveFewSites, is_site_of}
 use Rattle.site_limit.proofs.Accounts.{players_stay}
 use Rattle.site_limit.proofs.Counted.{few_keys, found_pair, length_keys, map_at_most, once_where}
 use Rattle.site_limit.proofs.Emitted.{runs_few}

@@ -1,14 +1,14 @@
 -- Where the sites of a player stand, through the changes of a room, and through the rules in force.
-use Rattle.std.proofs.Common.{◌≡◌, ℕ, ◌+◌, ◌-◌, ◌*◌, ◌==◌, ◌&&◌, ◌^◌, min, Bool, true, false, cond, List, [], ◌∷◌, ◌++◌, length, map, Option, Some, None, refl, sym, ap, subst, ◌∙◌}
-use Rattle.std.specs.Prelude.{max, nat_le, nat_lt, if◌then◌else◌, not}
+use Rattle.std.proofs.Common.{◌≡◌, ℕ, ◌+◌, ◌-◌, ◌*◌, ◌==◌, ◌&&◌, ◌^◌, min, Bool, true, false, cond, List, [], ◌∷◌, length, Option, Some, None, refl, sym, ap, subst, ◌∙◌}
+use Rattle.std.specs.Prelude.{max, nat_le, nat_lt, if◌then◌else◌}
 use Rattle.std.specs.Ordering.{nat_cmp, eq_by_cmp}
 use Rattle.std.specs.Cmp.{nat_cmp_total, unsigned_tied}
-use Rattle.std.specs.List.{find, filter}
+use Rattle.std.specs.List.{find}
 use Rattle.std.specs.FinMap.{FinMap, get, insert, keys, values, get-insert, get-remove}
 use Rattle.std.proofs.lemmas.Bool.{and_parts, eqb-true}
 use Rattle.game_tables.specs.Actions.{is_target}
 use Rattle.game_tables.specs.Bodies.{body_cost}
-use Rattle.game_tables.specs.Kinds.{is_building, is_controller, is_creep, is_pile, is_site}
+use Rattle.game_tables.specs.Kinds.{is_building, is_controller, is_pile, is_site}
 use Rattle.game_tables.specs.declared.action.Action.{Action}
 use Rattle.game_tables.specs.declared.action.Action.TheVariants.{DropLoad, Transfer, Withdraw, Pickup, Dismantle, Harvest, Repair, Build, Suicide, ClaimController, Upgrade, Reserve, AttackController, CreateSite, RemoveSite, SpawnCreep}
 use Rattle.game_tables.specs.declared.kind.Kind.{Kind}
@@ -27,7 +27,7 @@ use Rattle.world_rules.specs.Loads.{with_more, with_less, handed_over, transferr
 use Rattle.world_rules.specs.Work.{live_work, harvested_by, hits_gained, repair_cost, repaired_by, total_of, work_put, building_on, advanced, built_as, built_by}
 use Rattle.world_rules.specs.Fights.{dismantled_by, salvage, without_hits}
 use Rattle.world_rules.specs.Claims.{claimed_by, claimed_for, controller_hurt, full_time, live_claim, progressed, refreshed, risen, hurt_by, reserved_by, ticks_reserved, upgraded_by, work_taken, worked_on}
-use Rattle.world_rules.specs.Sites.{plan_of, removal_checks, site_checks, site_of}
+use Rattle.world_rules.specs.Sites.{removal_checks}
 use Rattle.world_rules.specs.Spawns.{begun_with, paid, payers, share, spawn_checks}
 use Rattle.world_rules.specs.Steps.{by_object, over_ids, over_objects, with_left, each}
 use Rattle.world_rules.specs.Tick.{rule_of}

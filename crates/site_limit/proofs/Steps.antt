@@ -1,15 +1,14 @@
 -- Where the sites of a player stand, through movement and through the steps of upkeep.
-use Rattle.std.proofs.Common.{◌≡◌, ℕ, ◌+◌, ◌-◌, ◌*◌, ◌==◌, ◌&&◌, ◌||◌, min, Bool, true, false, List, [], ◌∷◌, length, Option, Some, None, refl, sym, ap, subst, ◌∙◌}
+use Rattle.std.proofs.Common.{◌≡◌, ℕ, ◌+◌, ◌-◌, ◌==◌, ◌&&◌, ◌||◌, Bool, true, false, List, [], length, Option, Some, None, refl, ap, subst, ◌∙◌}
 use Rattle.std.specs.Prelude.{max, nat_lt, if◌then◌else◌}
 use Rattle.std.specs.List.{AllByRecursion, find, filter}
-use Rattle.std.specs.FinMap.{get, values}
-use Rattle.std.proofs.lemmas.Bool.{and_parts, eqb-true}
-use Rattle.game_tables.specs.Bodies.{live_count, load_room}
+use Rattle.std.specs.FinMap.{values}
+use Rattle.std.proofs.lemmas.Bool.{eqb-true}
+use Rattle.game_tables.specs.Bodies.{load_room}
 use Rattle.game_tables.specs.Kinds.{pile_decay, renewal_ticks}
 use Rattle.game_tables.specs.Kinds.{full_timer, is_building, is_creep, is_site, source_capacity}
 use Rattle.game_tables.specs.declared.kind.Kind.{Kind}
 use Rattle.game_tables.specs.declared.kind.Kind.TheVariants as kinds
-use Rattle.game_tables.specs.declared.kind.Part.TheVariants.{Move}
 use Rattle.object_store.specs.Controllers.{is_owned_room, is_taken}
 use Rattle.object_store.specs.declared.object.Object.{Object}
 use Rattle.intent_book.specs.declared.intent.Intent.{Intent}
@@ -17,17 +16,16 @@ use Rattle.world_rules.specs.RoomParts.{RoomPart, controller_of}
 use Rattle.world_rules.specs.RuleBook.{Step, Sums}
 use Rattle.world_rules.specs.Changes.{next_id, with_new, with_object, without}
 use Rattle.world_rules.specs.Checks.{all_hold}
-use Rattle.world_rules.specs.Claims.{controller_aged_as, controllers_aged, downgraded, owned_aged, reservation_aged}
-use Rattle.world_rules.specs.Drops.{fallen}
+use Rattle.world_rules.specs.Claims.{controller_aged_as, downgraded, owned_aged, reservation_aged}
 use Rattle.world_rules.specs.Movement.{Mover, has_mover, is_creep_on, moved_by, movers, stepped, worn_as}
 use Rattle.world_rules.specs.Moves.{candidates, fatigue, moved}
 use Rattle.world_rules.specs.Sites.{plan_of, site_checks, site_made, site_of}
-use Rattle.world_rules.specs.Spawns.{held_by, hatched, hatched_as, hatched_on, newborn, tile_for}
+use Rattle.world_rules.specs.Spawns.{held_by, hatched_as, hatched_on, newborn, tile_for}
 use Rattle.world_rules.specs.Steps.{over_objects}
-use Rattle.world_rules.specs.Upkeep.{aged, aged_as, buildings_decayed, decay_hits, decayed, decayed_as, decays, filled, filled_as, gone, hits_left, pile_decayed, recovered, recovered_as, renewed, renewed_as, source_renewed, spawn_capacity, standing_or_gone, steps, struck, struck_as, unloaded, unloaded_as, weathered, weathered_as}
+use Rattle.world_rules.specs.Upkeep.{aged_as, decay_hits, decayed_as, decays, filled_as, gone, hits_left, pile_decayed, recovered_as, renewed_as, source_renewed, spawn_capacity, standing_or_gone, steps, struck, struck_as, unloaded_as, weathered, weathered_as}
 use Rattle.room_commutes.proofs.Members.{Has}
 use Rattle.site_limit.specs.FewSites.{is_site_of}
-use Rattle.site_limit.proofs.Rooms.{AllFit, IsKnown, Keeps, controller_no_site, fit_dropped, fit_each, fit_fallen, fit_if, fit_new, fit_new_known, fit_object, fit_over, fit_without, no_site}
+use Rattle.site_limit.proofs.Rooms.{AllFit, IsKnown, Keeps, fit_dropped, fit_each, fit_fallen, fit_if, fit_new, fit_new_known, fit_object, fit_over, fit_without, no_site}
 
 -- ---- what stays of the same kind and owner
 

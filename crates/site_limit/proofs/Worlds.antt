@@ -1,32 +1,22 @@
 -- Where the sites of a player stand, through a tick of a whole world.
-use Rattle.std.proofs.Common.{◌≡◌, ℕ, ◌+◌, ◌*◌, ◌/◌, ◌==◌, ◌&&◌, ◌≤◌, ◌^◌, Bool, true, false, cond, List, [], ◌∷◌, ◌++◌, length, map, Option, Some, None, option_map, option_and_then, refl, sym, ap, subst, ◌∙◌, arith, length-append}
-use Rattle.std.specs.Prelude.{nat_lt, if◌then◌else◌, not}
-use Rattle.std.specs.List.{AllByRecursion, count_by, filter}
+use Rattle.std.proofs.Common.{◌≡◌, ℕ, ◌==◌, Bool, true, false, cond, List, [], ◌∷◌, Option, Some, None, option_map, option_and_then, refl, sym, ap, subst, ◌∙◌}
+use Rattle.std.specs.Prelude.{if◌then◌else◌, not}
+use Rattle.std.specs.List.{AllByRecursion}
 use Rattle.std.specs.Option.{option_or}
-use Rattle.std.specs.Ordering.{nat_cmp, eq_by_cmp}
 use Rattle.std.specs.Cmp.{nat_cmp_total, unsigned_tied}
-use Rattle.std.specs.FinMap.{get, insert, entries, keys, get-insert}
-use Rattle.std.proofs.lemmas.Bool.{cases_Bool, eqb-true}
+use Rattle.std.specs.FinMap.{get, keys, get-insert}
+use Rattle.std.proofs.lemmas.Bool.{eqb-true}
 use Rattle.game_tables.specs.Kinds.{is_creep}
-use Rattle.game_tables.specs.declared.action.Action.{Action}
-use Rattle.game_tables.specs.declared.action.Action.TheVariants.{CreateSite}
 use Rattle.object_store.specs.declared.object.Object.{Object}
-use Rattle.intent_book.specs.declared.intent.Intent.{Intent}
 use Rattle.world_rules.specs.Crossings.{Place, all_rested, beyond, crossed, crossed_by, crossed_over, crossed_to, crossers, may_enter, rested, still, with_object_on, with_place}
-use Rattle.world_rules.specs.Intents.{all_actions, entries_of, kept, names_tile, room_of}
 use Rattle.world_rules.specs.RoomParts.{RoomPart, in_every_room, in_frame, in_room, in_rooms, part_of}
-use Rattle.world_rules.specs.Changes.{next_id}
 use Rattle.world_rules.specs.RuleBook.{Step, Sums}
-use Rattle.world_rules.specs.Sites.{site_made}
-use Rattle.world_rules.specs.Tick.{Course, acted, after_actions, after_kind, after_rule, after_rules, after_steps, begun, book, inner, movement, ruled, rule_of, sums_in}
+use Rattle.world_rules.specs.Tick.{after_steps}
 use Rattle.world_rules.specs.World.{Frame, Placed, World}
 use Rattle.world_rules.proofs.Parts.{put_in, only, except, get_objects_in, get_with_room}
 use Rattle.room_commutes.proofs.InTick.{elsewhere}
-use Rattle.room_commutes.proofs.Members.{Has}
 use Rattle.room_commutes.proofs.Rested.{all_rested_get}
-use Rattle.site_limit.specs.FewSites.{is_site_of}
-use Rattle.site_limit.proofs.Rooms.{AllFit, Fits, Keeps, fit_rule}
-use Rattle.site_limit.proofs.Steps.{fit_made, fit_moved, fit_steps}
+use Rattle.site_limit.proofs.Rooms.{AllFit, Fits, Keeps}
 
 -- ---- a change of one room
 

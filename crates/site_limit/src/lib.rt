@@ -10,11 +10,12 @@ ghost use Rattle.hosted_tick.specs.Hosting.{Held, state_of};
 ghost use Rattle.hosted_tick.specs.Next.{Next};
 ghost use Rattle.site_limit.specs.FewSites.{HaveFewSites};
 
-/// Says that a tick of what players' modules emit keeps the limit of sites, which entries from elsewhere need not
-/// keep: where no player has more sites in a sound world than he may have, none has in the sound world after the
-/// tick. It does nothing when it runs.
+/// Says that a tick of what players' modules emit keeps the limit of sites, which entries from elsewhere need
+/// not keep: where no player has more sites in a sound world than he may have, none has in the sound world
+/// after the tick. It does nothing when it runs.
 pub fn ticks_keep_the_limit_of_sites()
-    ensures { (before after : Held) (uploads : List Upload) (records : List UploadEntry) (runs : List PlayerRun)
+    ensures { (before after : Held) (uploads : List Upload) (records : List UploadEntry)
+        (runs : List PlayerRun)
         → IsSound before.world → IsSound after.world
         → Next (state_of before) uploads records runs (state_of after)
         → HaveFewSites before.world → HaveFewSites after.world }

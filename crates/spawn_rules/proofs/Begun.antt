@@ -1,11 +1,10 @@
 -- A creep that a spawn begins to make.
-use Rattle.std.proofs.Common.{◌≡◌, ℕ, ◌≤◌, ◌==◌, ◌&&◌, nat_le, nat_lt, Bool, true, false, if◌then◌else◌, List, Option, Some, length, sym, ap, ◌∙◌}
+use Rattle.std.proofs.Common.{◌≡◌, ℕ, ◌≤◌, ◌==◌, ◌&&◌, nat_le, nat_lt, Bool, true, if◌then◌else◌, List, Some, length, sym, ap, ◌∙◌}
 use Rattle.std.specs.FinMap.{get, values}
 use Rattle.std.proofs.lemmas.Bool.{leb-true}
 use Rattle.game_tables.specs.Bodies.{body_cost, most_parts}
 use Rattle.game_tables.specs.Numbers.{kind_number}
 use Rattle.game_tables.specs.declared.kind.Kind.TheVariants.{Spawn}
-use Rattle.game_tables.specs.declared.kind.Part.{Part}
 use Rattle.room_terrain.specs.declared.terrain.Ground.{Ground}
 use Rattle.object_store.specs.declared.object.Object.{Object}
 use Rattle.object_store.specs.Tables.{Table, IsRising}

@@ -18,7 +18,7 @@ use Rattle.room_commutes.proofs.CreepsApart.{first_has}
 use Rattle.room_rules.specs.Calls.{IsReadyFor, KeepsUpTo}
 use Rattle.upkeep_rules.proofs.Split.{own_found}
 use Rattle.spawn_rules.specs.Spare.{is_spawn, may_hatch}
-use Rattle.spawn_rules.specs.inner.Hatching.{hatches, ids_from, is_left, left_from, next_of, HaveIds, IsHatchedFrom, IsHatchedTo, KeepsOthers}
+use Rattle.spawn_rules.specs.inner.Hatching.{hatches, is_left, left_from, next_of, HaveIds, IsHatchedFrom, IsHatchedTo, KeepsOthers}
 use Rattle.spawn_rules.proofs.InTurn.{hatched_by_spawns, left_above, left_next, none_left, none_past}
 
 -- ---- one turn

@@ -1,8 +1,8 @@
 -- Spawns take their turns, one after the other.
-use Rattle.std.proofs.Common.{◌≡◌, ◌⊎◌, inl, inr, ℕ, zero, suc, ◌+◌, ◌-◌, ◌*◌, ◌^◌, ◌<◌, ◌≤◌, ◌==◌, ◌&&◌, nat_le, nat_lt, Bool, true, false, cond, if◌then◌else◌, List, [], ◌∷◌, ◌++◌, length, map, Option, Some, None, option_map, refl, sym, ap, subst, ◌∙◌, arith}
+use Rattle.std.proofs.Common.{◌≡◌, ◌⊎◌, inl, inr, ℕ, ◌+◌, ◌-◌, ◌^◌, ◌<◌, ◌≤◌, ◌==◌, ◌&&◌, nat_le, nat_lt, Bool, true, false, cond, if◌then◌else◌, List, [], ◌∷◌, ◌++◌, map, Option, Some, None, refl, sym, ap, subst, ◌∙◌, arith}
 use Rattle.std.specs.List.{AllByRecursion, filter}
-use Rattle.std.specs.FinMap.{get, insert, keys}
-use Rattle.std.proofs.lemmas.Bool.{and_parts, cases_lt, eqb-true, eq-eqb, leb-true, le-leb, ltb-true, lt-ltb}
+use Rattle.std.specs.FinMap.{get, insert}
+use Rattle.std.proofs.lemmas.Bool.{cases_lt, eqb-true, eq-eqb, leb-true, le-leb, ltb-true, lt-ltb}
 use Rattle.std.proofs.lemmas.List.Elements.{filter-append}
 use Rattle.game_tables.specs.Numbers.{kind_number}
 use Rattle.game_tables.specs.declared.kind.Kind.{Kind}
@@ -15,7 +15,7 @@ use Rattle.world_rules.specs.Changes.{next_id}
 use Rattle.world_rules.specs.Changes.{with_new as new_in_part, with_object as with_in_part}
 use Rattle.world_rules.specs.Spawns.{hatched, hatched_as, hatched_on, newborn, tile_for}
 use Rattle.world_rules.specs.Steps.{by_object, over_ids}
-use Rattle.world_rules.proofs.TableParts.{found_by_id, get_table_part}
+use Rattle.world_rules.proofs.TableParts.{get_table_part}
 use Rattle.room_commutes.specs.Standing.{AreKeyed}
 use Rattle.room_commutes.proofs.CreepsApart.{first_has}
 use Rattle.room_commutes.proofs.Keyed.{keyed_if, keyed_new, keyed_object}
@@ -23,8 +23,8 @@ use Rattle.room_rules.specs.RoomRules.{Holds}
 use Rattle.room_rules.proofs.Changed.{stood_before}
 use Rattle.room_rules.proofs.Keeps.{IsSame, put_or_before}
 use Rattle.upkeep_rules.proofs.Turns.{keys_of_table}
-use Rattle.spawn_rules.specs.Spare.{is_spawn, may_hatch}
-use Rattle.spawn_rules.specs.inner.Hatching.{hatches, ids_from, is_left, left_from, HaveIds}
+use Rattle.spawn_rules.specs.Spare.{is_spawn}
+use Rattle.spawn_rules.specs.inner.Hatching.{hatches, ids_from, is_left}
 
 -- ---- which spawns are left
 

@@ -1,12 +1,11 @@
 -- What the rules of sites make of a room's part.
-use Rattle.std.proofs.Common.{◌≡◌, ℕ, ◌+◌, ◌-◌, ◌*◌, ◌%◌, ◌/◌, ◌^◌, ◌<◌, ◌≤◌, ◌==◌, ◌&&◌, nat_le, Bool, true, false, cond, if◌then◌else◌, List, Option, Some, None, refl, sym, ap, ◌∙◌, inl, inr, arith}
+use Rattle.std.proofs.Common.{◌≡◌, ℕ, ◌+◌, ◌-◌, ◌*◌, ◌^◌, ◌<◌, ◌≤◌, ◌==◌, ◌&&◌, nat_le, Bool, true, false, if◌then◌else◌, List, refl, sym, ap, ◌∙◌, inl, inr, arith}
 use Rattle.std.specs.List.{find}
 use Rattle.std.specs.Option.{is_some}
 use Rattle.std.proofs.lemmas.Bool.{both_ways, cases_lt, leb-true, ne_eqb}
 use Rattle.room_terrain.specs.declared.terrain.Ground.{Ground}
 use Rattle.game_tables.specs.Numbers.{kind_number}
 use Rattle.game_tables.specs.declared.kind.Kind.{Kind}
-use Rattle.object_store.specs.declared.object.Object.{Object}
 use Rattle.object_store.specs.Stores.{site_kinds}
 use Rattle.object_store.specs.Tables.{Table, IsOnTile, removed, with_new}
 use Rattle.intent_book.specs.declared.intent.Intent.{Intent}
@@ -15,8 +14,7 @@ use Rattle.world_rules.specs.Changes.{with_new as new_in_part, without as withou
 use Rattle.world_rules.specs.Checks.{all_hold, standing_at}
 use Rattle.world_rules.specs.Sites.{Plan, is_inner, plan_of, planned_kind, removal_checks, site_checks, site_made, site_of, site_removed}
 use Rattle.world_rules.proofs.Checked.{and_left, and_right}
-use Rattle.world_rules.proofs.TableParts.{part_without, tiles_new}
-use Rattle.room_rules.specs.Calls.{IsReady, Keeps}
+use Rattle.world_rules.proofs.TableParts.{part_without}
 use Rattle.spawn_rules.proofs.Made.{part_made}
 
 -- A kind that is built from sites has a number of at most 8.

@@ -1,13 +1,12 @@
 -- What the turn of a spawn leaves of the others, and of the memory.
-use Rattle.std.proofs.Common.{◌≡◌, ℕ, ◌+◌, ◌-◌, ◌*◌, ◌^◌, ◌<◌, ◌≤◌, ◌==◌, nat_lt, Bool, true, false, if◌then◌else◌, List, [], ◌∷◌, ◌++◌, Option, Some, None, refl, sym, ap, subst, ◌∙◌, inl, inr, arith}
-use Rattle.std.specs.List.{AllByRecursion, filter}
-use Rattle.std.proofs.lemmas.Bool.{lt-ltb, eqb-true}
+use Rattle.std.proofs.Common.{◌≡◌, ℕ, ◌+◌, ◌-◌, ◌*◌, ◌^◌, ◌<◌, ◌==◌, nat_lt, Bool, true, false, if◌then◌else◌, List, [], ◌∷◌, ◌++◌, Some, refl, sym, ap, ◌∙◌, inl, inr, arith}
+use Rattle.std.specs.List.{filter}
 use Rattle.room_terrain.specs.declared.terrain.Ground.{Ground}
 use Rattle.game_tables.specs.declared.kind.Kind.TheVariants.{Spawn}
 use Rattle.object_store.specs.declared.object.Object.{Object}
 use Rattle.object_store.specs.Tables.{Table, IsOnTile, IsRising, HasNoId, find_object, with_new, with_object}
 use Rattle.object_store.proofs.Rising.{all_filter, rises-replaced}
-use Rattle.world_rules.specs.RoomParts.{RoomPart, table_part}
+use Rattle.world_rules.specs.RoomParts.{table_part}
 use Rattle.world_rules.specs.Changes.{with_new as new_in_part, with_object as with_in_part}
 use Rattle.world_rules.specs.Spawns.{hatched_as, hatched_on, newborn, tile_for}
 use Rattle.world_rules.proofs.TableParts.{absent_new, absent_replaced, all_found, part_replaced, tiles_new, tiles_replaced}

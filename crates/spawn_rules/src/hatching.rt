@@ -1,9 +1,8 @@
 // Creeps that come of spawns.
-ghost use Rattle.std.specs.Prelude.{◌≡◌, ◌+◌, ◌^◌, ◌<◌, ◌≤◌, not, Option, IfSome, Some};
+ghost use Rattle.std.specs.Prelude.{◌≡◌, ◌+◌, ◌<◌, Option, IfSome, Some};
 ghost use Rattle.std.specs.Option.{is_some};
-ghost use Rattle.std.specs.List.{AllByRecursion};
 ghost use Rattle.game_tables.specs.declared.kind.Kind.TheVariants.{Spawn};
-ghost use Rattle.object_store.specs.Tables.{find_object, IsOnTile, IsRising};
+ghost use Rattle.object_store.specs.Tables.{find_object};
 ghost use Rattle.world_rules.specs.RoomParts.{table_part};
 ghost use Rattle.world_rules.specs.Moves.{direction_of};
 ghost use Rattle.world_rules.specs.Spawns.{hatched, hatched_as, hatched_on, is_free_for_creep, newborn, tile_for};
@@ -17,8 +16,8 @@ use object_store::{Object, RoomTable, Terrain};
 
 /// Spawns make creeps, one after the other in rising id: a timer of 2 or more falls by 1, and at 1 the creep
 /// comes onto the first tile in the eight directions, from the top clockwise, that is no wall and on which no
-/// creep stands and nothing that obstructs; else the spawn waits. It takes no memory but the spare of the room,
-/// of which each spawn may need one.
+/// creep stands and nothing that obstructs; else the spawn waits. It takes no memory but the spare of the
+/// room, of which each spawn may need one.
 pub fn hatch(ground: &Terrain, room: &mut RoomTable)
     requires ready { IsReadyFor (may_hatch room.old.objects) room.old }
     ensures rule { table_part ground.now room.new ≡ hatched (table_part ground.now room.old) }

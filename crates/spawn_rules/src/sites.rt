@@ -1,7 +1,6 @@
 // Sites that players make and remove.
-ghost use Rattle.std.specs.Prelude.{◌≡◌, ◌+◌, ◌*◌, ◌/◌, ◌%◌, ◌^◌, ◌<◌, ◌≤◌, List, length};
+ghost use Rattle.std.specs.Prelude.{◌≡◌, ◌+◌, ◌/◌, ◌%◌, ◌^◌, ◌<◌, List, length};
 ghost use Rattle.room_terrain.specs.declared.terrain.Ground.{Ground};
-ghost use Rattle.object_store.specs.Tables.{IsRising};
 ghost use Rattle.world_rules.specs.RoomParts.{table_part, RoomPart};
 ghost use Rattle.world_rules.specs.Checks.{all_hold};
 ghost use Rattle.world_rules.specs.Sites.{count_of, plan_of, site_checks, site_made, site_of, site_removed};
@@ -14,8 +13,8 @@ use intent_book::Intent;
 use object_store::{Object, Objects, RoomTable, Terrain};
 
 /// Rules an entry for a new site: where its checks hold in the room, a site of the player with no work in it
-/// stands on the tile, under the room's next serial. Else nothing is done. The tile is the actor, as rooms and
-/// tiles are numbered, and the amount the number of the kind.
+/// stands on the tile, under the room's next serial. Else nothing is done. The tile is the actor, as rooms
+/// and tiles are numbered, and the amount the number of the kind.
 pub fn create_site(ground: &Terrain, room: &mut RoomTable, intent: &Intent)
     requires ready { IsReady room.old }
     ensures rule { table_part ground.now room.new

@@ -5,7 +5,6 @@ use Rattle.std.specs.FinMap.{get, values}
 use Rattle.game_tables.specs.Bodies.{body_cost, load_room}
 use Rattle.game_tables.specs.Kinds.{is_building, is_creep, source_capacity}
 use Rattle.game_tables.specs.declared.kind.Kind.{Kind}
-use Rattle.game_tables.specs.declared.kind.Part.{Part}
 use Rattle.game_tables.specs.declared.kind.Kind.TheVariants.{Creep, Spawn}
 use Rattle.game_tables.specs.declared.action.Action.{Action}
 use Rattle.game_tables.specs.declared.action.Action.TheVariants.{DropLoad, Transfer, Withdraw, Pickup, Dismantle, Harvest, Repair, Build, Suicide, ClaimController, Upgrade, Reserve, AttackController, CreateSite, RemoveSite, SpawnCreep}

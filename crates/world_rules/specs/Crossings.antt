@@ -131,7 +131,8 @@ crossed_over (id ∷ later) world = crossed_over later (crossed_by world id (get
 
 -- It is a creep that moved onto a border tile.
 abbrev pub is_crosser : Object → Bool
-is_crosser object = is_creep object.kind && (object.other_ticks == 1) && (is_edge object.x || is_edge object.y)
+is_crosser object =
+    is_creep object.kind && (object.other_ticks == 1) && (is_edge object.x || is_edge object.y)
 
 -- the crossers of the world, in rising id
 abbrev pub crossers : World → List ℕ

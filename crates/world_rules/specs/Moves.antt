@@ -37,7 +37,8 @@ inside (negsuc z) = None
 -- the tile that lies in a direction of another, where it is in the room
 abbrev pub tile_towards : Direction → ℕ → ℕ → Option (ℕ × ℕ)
 tile_towards to x y =
-    option_and_then (λ column. option_map (λ row. (column, row)) (inside (pos y +ℤ dy to))) (inside (pos x +ℤ dx to))
+    option_and_then (λ column. option_map (λ row. (column, row)) (inside (pos y +ℤ dy to)))
+    (inside (pos x +ℤ dx to))
 
 -- ---- ground
 

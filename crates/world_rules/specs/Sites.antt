@@ -1,5 +1,5 @@
 -- Sites that players make and remove.
-use Rattle.std.specs.Prelude.{ℕ, ◌+◌, ◌*◌, ◌/◌, ◌%◌, ◌==◌, ◌&&◌, ◌||◌, not, Bool, false, nat_lt, nat_le, if◌then◌else◌, List, [], ◌∷◌, ◌++◌, slice_get, Option, Some, None}
+use Rattle.std.specs.Prelude.{ℕ, ◌+◌, ◌/◌, ◌%◌, ◌==◌, ◌&&◌, ◌||◌, not, Bool, false, nat_lt, nat_le, if◌then◌else◌, List, [], ◌∷◌, ◌++◌, slice_get, Option, Some, None}
 use Rattle.std.specs.List.{count_by, find}
 use Rattle.std.specs.Option.{is_some}
 use Rattle.std.specs.FinMap.{values}
@@ -73,7 +73,8 @@ has_place plan kind =
 -- The tile is no wall, and no source, controller, building or site stands there.
 abbrev pub is_free_tile : Plan → Kind → Bool
 is_free_tile plan kind =
-    is_open_ground (slice_get plan.grounds (tile plan.x plan.y)) && is_site_free plan.x plan.y kind plan.around
+    is_open_ground (slice_get plan.grounds (tile plan.x plan.y))
+    && is_site_free plan.x plan.y kind plan.around
 
 -- A creep stands on the tile.
 abbrev pub has_creep : Plan → Bool
@@ -149,4 +150,5 @@ site_made entry part =
 
 abbrev pub site_removed : Intent → RoomPart → RoomPart
 site_removed entry part =
-    if all_hold (removal_checks entry.player (standing_at part entry.actor)) then without entry.actor part else part
+    if all_hold (removal_checks entry.player (standing_at part entry.actor))
+    then without entry.actor part else part

@@ -55,4 +55,5 @@ Arrives part moves to from creep =
 -- The step wins its tile by the tables so far.
 abbrev pub leads : Step → List ℕ → List ℕ → Bool
 leads step comes best =
-    (slice_index comes (tile step.x step.y) == 2500) || nat_lt step.creep (slice_index best (tile step.x step.y))
+    (slice_index comes (tile step.x step.y) == 2500)
+    || nat_lt step.creep (slice_index best (tile step.x step.y))

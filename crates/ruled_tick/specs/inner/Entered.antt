@@ -98,8 +98,8 @@ pub record AreCounts (rooms : ℕ) (entries : List Entry) (counts : List ℕ) : 
   pub long : length counts ≡ rooms
   pub each : (room : ℕ) → room < rooms → slice_index counts room ≡ many_in room entries
 
--- a room to which nothing was done yet, with memory for what so many entries and a step of upkeep may make, or
--- with what it has, where that is more
+-- a room to which nothing was done yet, with memory for what so many entries and a step of upkeep may make,
+-- or with what it has, where that is more
 abbrev pub widened : ℕ → Room → Room
 widened count room =
     let wanted : ℕ = count + (4 * length room.table.objects + 196) in
@@ -109,7 +109,8 @@ widened count room =
 
 -- ---- rooms
 
--- The rule of an entry was called on a table of a room with these grounds, whose objects rise, and what it does to objects was added up.
+-- The rule of an entry was called on a table of a room with these grounds, whose objects rise, and what it
+-- does to objects was added up.
 pub record IsRuled (grounds : List Ground) (entry : Intent) (old new : Table) : Type 0 where
   pub rule : table_part grounds new ≡ (book.effect entry (table_part grounds old)).part
   pub harm : IsHarmedBy (book.harm entry (table_part grounds old)) old new
@@ -155,7 +156,8 @@ takes_part world entries player =
 
 -- These entries of a tick of a sound world were ruled so far, and those are still to come; these are the
 -- players.
-pub record IsActed (stored : Stored) (players : ℕ → Bool) (done later : List Entry) (rooms : List Room) : Type 0 where
+pub record IsActed (stored : Stored) (players : ℕ → Bool) (done later : List Entry)
+    (rooms : List Room) : Type 0 where
   pub many : length rooms ≡ length stored.rooms
   pub follow : FollowRooms players within stored (record stored { rooms = rooms })
   pub ready : (index : ℕ) (room : Room) → slice_get rooms index ≡ Some room

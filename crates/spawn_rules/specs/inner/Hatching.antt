@@ -43,7 +43,8 @@ pub record KeepsOthers (id : ℕ) (old new : Table) : Type 0 where
   pub ready : (many : ℕ) → IsReadyFor (many + 1) old → IsReadyFor many new
 
 -- The turns up to the next id were taken.
-pub record IsHatchedFrom (grounds : List Ground) (from : ℕ) (old : Table) (next : Option ℕ) (new : Table) : Type 0 where
+pub record IsHatchedFrom (grounds : List Ground) (from : ℕ) (old : Table) (next : Option ℕ)
+    (new : Table) : Type 0 where
   pub rule : over_ids hatches (ids_from (next_of next) new.objects) (table_part grounds new)
       ≡ over_ids hatches (ids_from from old.objects) (table_part grounds old)
   pub ready : IsReadyFor (left_from (next_of next) new.objects) new
@@ -54,7 +55,8 @@ pub record IsHatchedFrom (grounds : List Ground) (from : ℕ) (old : Table) (nex
   pub made : new.next + left_from (next_of next) new.objects ≤ old.next + left_from from old.objects
 
 pub record IsHatchedTo (grounds : List Ground) (start : Table) (from : ℕ) (now : Table) : Type 0 where
-  pub rule : over_ids hatches (ids_from from now.objects) (table_part grounds now) ≡ hatched (table_part grounds start)
+  pub rule : over_ids hatches (ids_from from now.objects) (table_part grounds now)
+      ≡ hatched (table_part grounds start)
   pub ready : IsReadyFor (left_from from now.objects) now
   pub ids : HaveIds now.objects
   pub index : now.index ≡ start.index

@@ -44,7 +44,8 @@ pub record IsPaidAt (kind : Kind) (owner cost place : ℕ) (old : Table) (left :
       ≡ unpaid (those_of kind owner (drop place old.objects)) cost (table_part grounds old)
 
 -- Those before a place paid.
-pub record IsPaidTo (kind : Kind) (owner cost : ℕ) (start : Table) (place left : ℕ) (now : Table) : Type 0 where
+pub record IsPaidTo (kind : Kind) (owner cost : ℕ) (start : Table) (place left : ℕ)
+    (now : Table) : Type 0 where
   pub has : HasThoseOf start now
   pub rule : (grounds : List Ground)
       → paid (those_of kind owner (drop place now.objects)) left (table_part grounds now)

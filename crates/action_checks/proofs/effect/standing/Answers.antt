@@ -1,7 +1,4 @@
-use Rattle.std.proofs.Common.{◌≡◌, ℕ, Option, Some, None, option_map, ap, ◌∙◌}
-use Rattle.object_store.specs.Tables.{find_object}
-use Rattle.object_store.specs.declared.object.Object.{Object}
-use Rattle.world_rules.specs.World.{Placed}
+use Rattle.std.proofs.Common.{Some, option_map, ap, ◌∙◌}
 use Rattle.world_rules.proofs.TableParts.{stands_at}
 use Rattle.action_checks.specs.inner.Passing.{placed_at}
 use Rattle.action_checks.proofs.effect.standing.Goals as goal

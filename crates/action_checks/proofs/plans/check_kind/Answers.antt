@@ -1,4 +1,4 @@
-use Rattle.std.proofs.Common.{◌≡◌, ◌&&◌, true, ◌∙◌}
+use Rattle.std.proofs.Common.{◌&&◌, ◌∙◌}
 use Rattle.std.specs.Option.{is_some}
 use Rattle.std.proofs.lemmas.Result.{err_from_is_err_and}
 use Rattle.world_rules.specs.Sites.{is_inner, room_checks, tile_checks}

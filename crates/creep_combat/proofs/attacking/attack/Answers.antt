@@ -7,7 +7,8 @@ use Rattle.world_rules.specs.Fights.{attacked_by, strength, struck_back}
 use Rattle.world_rules.proofs.TableParts.{has_the_id}
 use Rattle.room_rules.specs.Calls.{IsHarmedBy}
 use Rattle.room_rules.proofs.Harmed.{harmed_by_blow, harmed_by_two, unharmed, with_tallies}
-use Rattle.creep_combat.proofs.Found.{creep_found, strikes_back, target_found}
+use Rattle.room_rules.proofs.Parties.{creep_found, target_found}
+use Rattle.creep_combat.proofs.Found.{strikes_back}
 use Rattle.room_rules.proofs.Harmed.{harmed_between, shown_within}
 use Rattle.creep_combat.proofs.attacking.attack.Goals as goal
 

@@ -7,7 +7,7 @@ use Rattle.world_rules.specs.Fights.{blow, shot_by}
 use Rattle.world_rules.proofs.TableParts.{has_the_id}
 use Rattle.room_rules.specs.Calls.{IsHarmedBy}
 use Rattle.room_rules.proofs.Harmed.{harmed_by_blow, unharmed, with_tallies}
-use Rattle.creep_combat.proofs.Found.{target_found}
+use Rattle.room_rules.proofs.Parties.{target_found}
 use Rattle.room_rules.proofs.Harmed.{harmed_between, shown_within}
 use Rattle.creep_combat.proofs.attacking.ranged_attack.Goals as goal
 

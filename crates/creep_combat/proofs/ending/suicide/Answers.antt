@@ -8,7 +8,8 @@ use Rattle.world_rules.specs.Steps.{by_object}
 use Rattle.world_rules.proofs.TableParts.{all_found, part_replaced}
 use Rattle.room_rules.specs.Calls.{Keeps}
 use Rattle.room_rules.proofs.Calls.{keeps_after, keeps_itself, ready_set, set_in}
-use Rattle.creep_combat.proofs.Found.{acting_found, stands_under}
+use Rattle.room_rules.proofs.Parties.{stands}
+use Rattle.creep_combat.proofs.Found.{acting_found}
 use Rattle.creep_combat.proofs.ending.suicide.Goals as goal
 
 pub set-requires-clause-tile : goal.set-requires-clause-tile
@@ -22,7 +23,7 @@ set-requires-clause-tile c =
 pub set-requires-clause-there : goal.set-requires-clause-there
 set-requires-clause-there c =
     let found = acting_found Suicide c.args.intent.now c.args.room.now c.in-Some.creep c.in-Some.ensures in
-    stands_under c.args.intent.now.actor c.args.room.now.objects c.in-Some.creep found
+    stands c.args.intent.now.actor c.args.room.now.objects c.in-Some.creep found
 
 pub returns-clause-rule : goal.returns-clause-rule
 returns-clause-rule c =
@@ -30,7 +31,7 @@ returns-clause-rule c =
     let creep = c.in-Some.creep in
     let ended : Object = record creep { hits = 0 } in
     let found = acting_found Suicide c.args.intent.now table creep c.in-Some.ensures in
-    let there = stands_under c.args.intent.now.actor table.objects creep found in
+    let there = stands c.args.intent.now.actor table.objects creep found in
     λ grounds.
     ap (table_part grounds) c.set.ensures
     ∙ part_replaced grounds table ended there

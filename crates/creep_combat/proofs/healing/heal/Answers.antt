@@ -7,7 +7,7 @@ use Rattle.world_rules.specs.Fights.{cure, healed_by}
 use Rattle.world_rules.proofs.TableParts.{has_the_id}
 use Rattle.room_rules.specs.Calls.{IsHarmedBy}
 use Rattle.room_rules.proofs.Harmed.{harmed_by_cure, unharmed, with_tallies}
-use Rattle.creep_combat.proofs.Found.{target_found}
+use Rattle.room_rules.proofs.Parties.{target_found}
 use Rattle.room_rules.proofs.Harmed.{harmed_between, shown_within}
 use Rattle.creep_combat.proofs.healing.heal.Goals as goal
 

@@ -1,4 +1,4 @@
-use Rattle.std.proofs.Common.{◌≡◌, ℕ, ◌+◌, ◌==◌, true, Option, Some, None, Bor, option_map, option_and_then, slice_get, length, refl, sym, ap, subst, ◌∙◌, w64, FitsSigned}
+use Rattle.std.proofs.Common.{◌≡◌, ◌+◌, ◌==◌, true, Option, Some, None, Bor, option_map, option_and_then, slice_get, length, refl, sym, ap, subst, ◌∙◌, w64, FitsSigned}
 use Rattle.std.specs.List.{find}
 use Rattle.std.specs.Option.{is_some}
 use Rattle.std.proofs.lemmas.Int.{to_z-of_z}
@@ -14,11 +14,10 @@ use Rattle.world_rules.specs.Sites.{count_of}
 use Rattle.action_checks.specs.declared.plans.Plan.{Plan}
 use Rattle.counted_record.specs.Others.{others_in, others_of}
 use Rattle.sight_census.specs.declared.told.Told.{Told}
-use Rattle.sight_census.specs.Censuses.{Census, built, census_of, told_in}
+use Rattle.sight_census.specs.Censuses.{Census, built, told_in}
 use Rattle.visible_view.specs.Sights.{SeenRoom, Sight}
-use Rattle.visible_view.specs.Fields.{objects_at, room_at, room_place}
-use Rattle.host_calls.specs.Desks.{Desk, as_index, signed_32}
-use Rattle.host_calls.specs.Replies.{plan_seen}
+use Rattle.visible_view.specs.Fields.{objects_at, room_at}
+use Rattle.host_calls.specs.Desks.{as_index, signed_32}
 use Rattle.host_calls.specs.inner.Wishes.{IsPlanIn}
 use Rattle.host_calls.proofs.Planned.{built_counts, no_room, the_room, told_there}
 use Rattle.host_calls.proofs.making.plan_seen.Goals as goal

@@ -1,11 +1,11 @@
-use Rattle.std.proofs.Common.{◌≡◌, ℕ, ◌+◌, ◌-◌, ◌*◌, ◌^◌, ◌<◌, List, Option, sym, ap, subst, ◌∙◌}
+use Rattle.std.proofs.Common.{ℕ, ◌+◌, ◌-◌, ◌*◌, ◌^◌, ◌<◌, List, Option, sym, ap, subst, ◌∙◌}
 use Rattle.game_tables.specs.declared.kind.Part.{Part}
 use Rattle.object_store.specs.Tables.{Table, HasNoId, IsRising, with_new}
 use Rattle.world_rules.specs.RoomParts.{table_part}
 use Rattle.world_rules.specs.Spawns.{hatched_on}
 use Rattle.room_rules.specs.Calls.{KeepsUpTo}
 use Rattle.spawn_rules.specs.inner.Hatching.{KeepsOthers}
-use Rattle.spawn_rules.proofs.Turned.{after, between, fresh_between, hatched_after, keeps_after, others_after, set_in, spawn_tile}
+use Rattle.spawn_rules.proofs.Turned.{fresh_between, hatched_after, keeps_after, others_after, set_in, spawn_tile}
 use Rattle.spawn_rules.proofs.hatching.hatch_on.Goals as goal
 
 pub set-requires-clause-tile : goal.set-requires-clause-tile

@@ -1,4 +1,4 @@
-use Rattle.std.proofs.Common.{sym, ◌∙◌, ◌≤◌, arith}
+use Rattle.std.proofs.Common.{sym, ◌∙◌, ◌≤◌}
 use Rattle.world_rules.specs.RoomParts.{table_part}
 use Rattle.spawn_rules.proofs.Around.{none_there, nothing}
 use Rattle.spawn_rules.proofs.hatching.tile_for.Goals as goal

@@ -1,12 +1,11 @@
-use Rattle.std.proofs.Common.{◌≡◌, ℕ, ◌+◌, ◌-◌, ◌*◌, ◌^◌, ◌<◌, ◌≤◌, [], sym, ap, subst, ◌∙◌, refl, arith}
+use Rattle.std.proofs.Common.{◌+◌, ◌-◌, ◌^◌, ◌<◌, ◌≤◌, sym, ap, subst, ◌∙◌, refl, arith}
 use Rattle.object_store.specs.declared.object.Object.{Object}
-use Rattle.object_store.specs.Tables.{Table, IsOnTile, with_new}
-use Rattle.object_store.specs.Tallies.{tally_of}
+use Rattle.object_store.specs.Tables.{IsOnTile, with_new}
 use Rattle.world_rules.specs.RoomParts.{table_part}
 use Rattle.world_rules.specs.Sites.{plan_of, site_of}
 use Rattle.world_rules.proofs.TableParts.{tiles_new}
 use Rattle.room_rules.specs.Calls.{Keeps}
-use Rattle.spawn_rules.proofs.Sited.{no_site, site_added, site_number, site_tile}
+use Rattle.spawn_rules.proofs.Sited.{site_added, site_tile}
 use Rattle.spawn_rules.proofs.sites.create_site.Goals as goal
 
 pub returns-clause-rule : goal.returns-clause-rule

@@ -1,7 +1,6 @@
-use Rattle.std.proofs.Common.{ap, sym, subst}
+use Rattle.std.proofs.Common.{sym, subst}
 use Rattle.object_store.specs.Tables.{IsRising}
-use Rattle.object_store.specs.declared.object.Object.{Object}
-use Rattle.world_rules.specs.Sites.{Plan, plan_of}
+use Rattle.world_rules.specs.Sites.{plan_of}
 use Rattle.world_rules.specs.RoomParts.{table_part}
 use Rattle.world_rules.proofs.TableParts.{part_values}
 use Rattle.spawn_rules.proofs.sites.plan.Goals as goal

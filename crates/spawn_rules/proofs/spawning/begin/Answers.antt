@@ -1,7 +1,5 @@
-use Rattle.std.proofs.Common.{◌≡◌, ◌==◌, ℕ, ◌*◌, List, Option, Some, None, length, option_map, refl, sym, ap, subst, ◌∙◌}
-use Rattle.game_tables.specs.declared.kind.Part.{Part}
-use Rattle.object_store.specs.declared.object.Object.{Object}
-use Rattle.object_store.specs.Tables.{IsOnTile, IsRising, Table, find_object, with_object}
+use Rattle.std.proofs.Common.{◌≡◌, ◌==◌, ℕ, ◌*◌, None, length, refl, sym, ap, subst, ◌∙◌}
+use Rattle.object_store.specs.Tables.{IsOnTile, IsRising, find_object, with_object}
 use Rattle.world_rules.specs.RoomParts.{table_part}
 use Rattle.world_rules.specs.Spawns.{begun_with}
 use Rattle.world_rules.specs.Steps.{by_object}

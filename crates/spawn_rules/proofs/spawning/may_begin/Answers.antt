@@ -1,5 +1,4 @@
-use Rattle.std.proofs.Common.{ℕ, ◌-◌, ◌^◌, min, List, Some, ap, subst, sym, ◌∙◌}
-use Rattle.object_store.specs.declared.object.Object.{Object}
+use Rattle.std.proofs.Common.{◌-◌, min, Some, subst, sym, ◌∙◌}
 use Rattle.object_store.specs.Tables.{IsRising}
 use Rattle.world_rules.specs.Checks.{all_hold}
 use Rattle.world_rules.specs.Spawns.{held_by, spawn_checks}

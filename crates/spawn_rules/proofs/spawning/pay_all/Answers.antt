@@ -1,5 +1,5 @@
 use Rattle.spawn_rules.proofs.Paid.{all_left, all_paid, first_paid, next_paid}
-use Rattle.std.proofs.Common.{◌<◌, ◌≤◌, length, arith}
+use Rattle.std.proofs.Common.{◌≤◌, length, arith}
 use Rattle.spawn_rules.proofs.spawning.pay_all.Goals as goal
 
 pub loop-place-init : goal.loop-place-init

@@ -1,4 +1,4 @@
-use Rattle.std.proofs.Common.{◌≡◌, ◌++◌, refl, sym, ap, subst, ◌∙◌, w64, FitsSigned}
+use Rattle.std.proofs.Common.{refl, sym, ap, subst, ◌∙◌, w64, FitsSigned}
 use Rattle.std.proofs.lemmas.Int.{to_z-of_z}
 use Rattle.object_store.specs.declared.account.Account.{Account}
 use Rattle.intent_book.specs.declared.intent.Intent.{Intent}
@@ -6,7 +6,7 @@ use Rattle.world_rules.specs.Checks.{first_failing}
 use Rattle.world_rules.specs.Sites.{Plan, site_checks}
 use Rattle.host_calls.specs.Desks.{Desk}
 use Rattle.host_calls.specs.Replies.{plan_seen, record_checks, seen_room, site_code, site_code_in, site_wish}
-use Rattle.host_calls.specs.inner.Wishes.{IsPlanIn, recorded}
+use Rattle.host_calls.specs.inner.Wishes.{IsPlanIn}
 use Rattle.host_calls.proofs.Planned.{not_planned, planned}
 use Rattle.host_calls.proofs.Wanting.{checks_late, code_early, site_codes, unrecorded}
 use Rattle.host_calls.proofs.desk.Desk.create_site.Goals as goal
