@@ -21,9 +21,10 @@ def count_into(done, counts):
         done[key] = done.get(key, 0) + count
 
 
-def play_drawn(checks, name, first, ticks, players, calls, changes):
-    """A run of so many ticks. `calls` draws the calls of a player for a world, and `changes` counts what became of a world in a tick, by the
-    worlds before and after it and the runs. Answers how often each action did something, and nothing, and how often each change came."""
+def drawn(first, ticks, players, calls, changes):
+    """A run of so many ticks, as bench/game.py has it. `calls` draws the calls of a player for a world, and `changes` counts what became of a
+    world in a tick, by the worlds before and after it and the runs. Answers the uploads, the steps, and how often each action did something, and
+    nothing, and how often each change came."""
     it, uploads, steps, done = full(first), [], [], {}
     for tick in range(ticks):
         tables = [(number, Table(calls(it, number))) for number in players]
@@ -33,6 +34,12 @@ def play_drawn(checks, name, first, ticks, players, calls, changes):
         before, it = it, ticked(it, runs)
         count_into(done, changes(before, it, runs))
         steps.append(Step([(number, "accepted", table.content) for number, table in tables], runs, it))
+    return uploads, steps, done
+
+
+def play_drawn(checks, name, first, ticks, players, calls, changes):
+    """The same in the program. Answers how often each action did something, and nothing, and how often each change came."""
+    uploads, steps, done = drawn(first, ticks, players, calls, changes)
     checks.note(f"the worlds of {name} keep the rules", world_faults(first, steps))
     compared_runs.play(checks, name, first, ticks, uploads, steps=steps)
     return done

@@ -160,11 +160,17 @@ PARTS = {
 }
 
 
-def counted(bench, ticks):
-    """The instructions of each function with what it calls, of a run of so many ticks."""
+def profiled(bench, ticks):
+    """The path of what valgrind's callgrind says of a run of so many ticks."""
     out = bench.path("callgrind")
     subprocess.run(["valgrind", "--tool=callgrind", f"--callgrind-out-file={out}", *bench.command(ticks)], stdout=subprocess.DEVNULL, stderr=subprocess.DEVNULL, check=True)
-    told = subprocess.run(["callgrind_annotate", "--inclusive=yes", "--threshold=100", out], capture_output=True, text=True, check=True).stdout
+    return out
+
+
+def counted(bench, ticks):
+    """The instructions of each function with what it calls, of a run of so many ticks."""
+    words = ["callgrind_annotate", "--inclusive=yes", "--threshold=100", profiled(bench, ticks)]
+    told = subprocess.run(words, capture_output=True, text=True, check=True).stdout
     found = {}
     for count, name in re.findall(r"^\s*([0-9,]+)\s+\([^)]*\)\s+\S*?:(\S+)", told, re.M):
         name = name.partition("::<")[0]

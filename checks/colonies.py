@@ -844,10 +844,10 @@ def check_full_record():
 
 
 class Draw:
-    """Random worlds of rooms in which things of three players stand close together, and random calls of all actions in them."""
+    """Random worlds of rooms in which things of players stand close together, and random calls of all actions in them."""
 
-    def __init__(self, seed):
-        self.random = random.Random(seed)
+    def __init__(self, seed, players=(1, 2, 3)):
+        self.random, self.players = random.Random(seed), players
 
     def chance(self, share):
         return self.random.random() < share
@@ -901,7 +901,7 @@ class Draw:
 
     def fixed(self, tiles, serials, home):
         """What stands in a room for good, but for its first spawn."""
-        whose = [home, home, 1, 2, 3]
+        whose = [home, home, *self.players]
         numbers = [SPAWN] * self.some(0, 1, 1) + [EXTENSION] * self.random.randrange(4) + [STORAGE] * self.some(0, 1) + [CONTAINER] * self.random.randrange(1, 4) + [ROAD] * 4
         found = [self.controller(serials.pop(), tiles.pop(), home)] if self.chance(0.85) else []
         found += [source(serials.pop(), *tiles.pop(), energy=self.random.randint(0, 3000), timer=self.some(0, 1, 40)) for _ in range(2)]
@@ -910,14 +910,17 @@ class Draw:
 
     def creeps(self, tiles, serials, home, at):
         """16 creeps, of which some stand beside the controller, and can mostly claim it."""
-        owners, tiles = [home] * 4 + [1, 2, 3], self.random.sample(tiles, len(tiles))
+        owners, tiles = [home] * 4 + [*self.players], self.random.sample(tiles, len(tiles))
         near = [tile for tile in tiles if at and max(abs(tile[0] - at[0]), abs(tile[1] - at[1])) == 1][:4]
         found = [self.creep(serials.pop(), tile, self.random.choice(owners), *["claim"] * self.chance(0.8)) for tile in near]
         rest = [tile for tile in tiles if tile not in near]
         return found + [self.creep(serials.pop(), tile, self.random.choice(owners)) for tile in rest[: 16 - len(found)]]
 
+    def name(self, index):
+        return f"E{index % 6}S{index // 6}"
+
     def room(self, index):
-        home, serials = self.some(1, 2, 3), self.random.sample(range(1, 150), 60)
+        home, serials = self.some(*self.players), self.random.sample(range(1, 150), 60)
         left, top = self.some(1, 20, 40), self.some(1, 20, 40)
         around = [(x, y) for x in range(left, left + 9) for y in range(top, top + 9)]
         at = self.random.choice(around)
@@ -930,7 +933,7 @@ class Draw:
         open_tiles = [tile for tile in free if tile not in taken]
         objects += self.creeps(open_tiles, serials, home, next(((one["x"], one["y"]) for one in objects if one["kind"] == "controller"), None))
         objects += [thing("pile", serials.pop(), *tile, energy=self.random.randint(1, 200)) for tile in self.random.sample(open_tiles, 4)]
-        return room(f"E{index % 6}S{index // 6}", 200, *[worked_rooms.with_ids(index, one) for one in objects], terrain=terrain)
+        return room(self.name(index), 200, *[worked_rooms.with_ids(index, one) for one in objects], terrain=terrain)
 
     def world(self, rooms):
         points = {1: 10**12, 2: 16_000_000, 3: 10**12}

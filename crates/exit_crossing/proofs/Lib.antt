@@ -13,4 +13,4 @@ mod Sound
 mod Resting
 mod Rested
 mod Members
-mod Sorted
+pub mod Sorted

@@ -4,7 +4,7 @@ ghost use Rattle.std.specs.List.{AllByRecursion};
 ghost use Rattle.game_tables.specs.Limits.{most_memory};
 ghost use Rattle.world_rules.specs.World.{world_of};
 ghost use Rattle.world_rules.specs.Tick.{intents_of};
-ghost use Rattle.kept_entries.specs.Turns.{AreKept};
+ghost use Rattle.kept_entries.specs.Split.{AreSplit};
 ghost use Rattle.world_rules.specs.Sound.{HaveSerials};
 ghost use Rattle.upload_stream.specs.Entries.{upload_of};
 ghost use Rattle.hosted_tick.specs.Hosting.{AreLinked, IsHosted, modules_of, state_of};
@@ -13,10 +13,10 @@ ghost use Rattle.hosted_tick.specs.Next.{AreRuns, Next};
 use crate::judge::judge_all;
 use crate::modules::Modules;
 use crate::runs::run_all;
-use intent_book::PlayerRun;
-use kept_entries::{Entry, kept_entries};
+use intent_book::{Intents, PlayerRun};
+use kept_entries::{intents_by_room, no_intents_by_room};
 use object_store::World;
-use ruled_tick::{all_intents, next_world};
+use room_step::{all_intents, next_world};
 pub use std::alloc::AllocError as NoMemory;
 use std::alloc::Global;
 use std::marker::Model;
@@ -76,8 +76,8 @@ impl Hosted {
     {
         let Hosted { world, mut modules } = self;
         let records = judge_all(alloc, &world, uploads, &mut modules)?;
-        let Wanted { runs, entries } = run_players(alloc, &world, &modules)?;
-        let after = next_world(alloc, world, &entries, &runs)?;
+        let Wanted { runs, lists } = run_players(alloc, &world, &modules)?;
+        let after = next_world(alloc, world, &lists, &runs)?;
         Ok(Ticked {
             hosted: Hosted {
                 world: after,
@@ -89,38 +89,39 @@ impl Hosted {
     }
 }
 
-// The runs of a tick, and which of the entries that they want count.
+// The runs of a tick, and what they want, room by room.
 #[derive(Drop)]
 struct Wanted {
     runs: Vec<PlayerRun>,
-    entries: Vec<Entry>,
+    lists: Vec<Intents>,
 }
 
-// Runs all players on the world as it is. Where its objects stand is listed once, for all of them and for
-// the choice of the entries; where nobody has a module it is not listed.
+// Runs all players on the world as it is. Where its objects stand is listed once, for all of them and to tell
+// the rooms of the entries; where nobody has a module it is not listed.
 fn run_players(alloc: Global, world: &World, modules: &Modules) -> Result<Wanted, NoMemory>
     requires hosted { IsHosted world.now }
     requires linked { AreLinked modules.now.entries }
     ensures runs { IfOk result
         (λ wanted. AreRuns (world_of world.now)
         (modules_of modules.now.entries) world.now.accounts wanted.runs.items) }
-    ensures kept { IfOk result
-        (λ wanted. AreKept (world_of world.now) (intents_of wanted.runs.items) wanted.entries.items) }
-    ensures few { IfOk result (λ wanted. length wanted.entries.items ≤ 2 ^ 18) }
+    ensures rooms { IfOk result (λ wanted. length wanted.lists.items ≡ length world.now.rooms) }
+    ensures split { IfOk result
+        (λ wanted. AreSplit (world_of world.now) (intents_of wanted.runs.items) wanted.lists.items) }
+    ensures few { IfOk result (λ wanted. length (intents_of wanted.runs.items) ≤ 2 ^ 18) }
     ensures short { IfOk result
         (λ wanted. AllByRecursion (λ run. length run.memory ≤ most_memory) wanted.runs.items) }
 {
     if modules.is_empty() {
         return Ok(Wanted {
             runs: Vec::new(alloc),
-            entries: Vec::new(alloc),
+            lists: no_intents_by_room(alloc, world)?,
         });
     }
     let roster = Roster::of(alloc, world)?;
     let runs = run_all(alloc, world, &roster, modules)?;
     let intents = all_intents(alloc, &runs)?;
-    let entries = kept_entries(alloc, world, &roster, &intents)?;
-    Ok(Wanted { runs, entries })
+    let lists = intents_by_room(alloc, world, &roster, &intents)?;
+    Ok(Wanted { runs, lists })
 }
 
 /// A world after a tick, and what is recorded of the tick.

@@ -5,4 +5,4 @@ pub mod Standing
 pub mod Walks
 pub mod Turns
 pub mod Steps
-pub mod Rooms
+pub mod Frames

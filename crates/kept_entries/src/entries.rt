@@ -12,7 +12,7 @@ ghost use Rattle.kept_entries.specs.inner.Choosing.{Makes, Runs, StandFor, by_ac
 use crate::NoMemory;
 use game_tables::{Action, Kind, dominates};
 use intent_book::Intent;
-use object_store::World;
+use object_store::{Object, World};
 use std::alloc::Global;
 use world_roster::Roster;
 
@@ -52,8 +52,8 @@ pub fn kept_entries(
     counting(alloc, entries)
 }
 
-// Those of the entries that count, in their turn.
-fn counting(alloc: Global, mut entries: Vec<Entry>) -> Result<Vec<Entry>, NoMemory>
+/// Those of the entries that count, in their turn.
+pub(crate) fn counting(alloc: Global, mut entries: Vec<Entry>) -> Result<Vec<Entry>, NoMemory>
     ensures { IfOk result (λ kept. Makes (λ intents. in_turn (undropped (last_of_each intents)))
         entries.items kept.items) }
 {
@@ -103,8 +103,8 @@ fn fitting_room(world: &World, roster: &Roster, intent: &Intent) -> Option<u32>
     }
 }
 
-// Whether the actor of the action is a tile.
-fn is_of_tile(action: Action) -> bool
+/// Whether the actor of the action is a tile.
+pub(crate) fn is_of_tile(action: Action) -> bool
     ensures { result ≡ names_tile action }
 {
     matches!(action, Action::CreateSite)
@@ -131,11 +131,16 @@ fn object_room(roster: &Roster, intent: &Intent) -> Option<u32>
     ensures none { IfNone result (acts_for intent.now (object_in roster.now intent.now.actor) ≡ false) }
 {
     match roster.get(intent.actor) {
-        Some(standing)
-            if may_act(intent.action, standing.object.kind)
-                && standing.object.owner == intent.player => { Some(standing.room) }
+        Some(standing) if may_act_for(intent, standing.object) => Some(standing.room),
         _ => None,
     }
+}
+
+/// Whether the object may be the entry's actor.
+pub(crate) fn may_act_for(intent: &Intent, object: &Object) -> bool
+    ensures { result ≡ acts_for intent.now (Some object.now) }
+{
+    may_act(intent.action, object.kind) && object.owner == intent.player
 }
 
 // Whether objects of the kind have the action.

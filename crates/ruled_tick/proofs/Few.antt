@@ -11,7 +11,7 @@ use Rattle.intent_book.specs.declared.intent.Intent.{Intent}
 use Rattle.kept_entries.specs.declared.entries.Entry.{Entry}
 use Rattle.kept_entries.specs.Turns.{in_turn, placed, placed_in, AreKept}
 use Rattle.world_rules.specs.World.{World}
-use Rattle.world_rules.specs.Intents.{all_actions, fits, same_entry, last_of_each, overrules, kept, comes_before, put_in_order, in_order, entries_of}
+use Rattle.world_rules.specs.Intents.{all_actions, fits, same_entry, last_of_each, overrules, kept, undropped, comes_before, put_in_order, in_order, entries_of}
 
 length_put : (intent : Intent) (list : List Intent) → length (put_in_order intent list) ≡ length (intent ∷ list)
 length_put intent [] = refl
@@ -32,11 +32,12 @@ length_last (intent ∷ later) =
 fewer_filtered : (test : Intent → Bool) (list : List Intent) → length (filter test list) ≤ length list
 fewer_filtered test list = omega (arith, length-filter test list, count_by-le-length test list)
 
-fewer_kept : (world : World) (list : List Intent) → length (kept world list) ≤ length list
-fewer_kept world list =
-    let fitting : List Intent = filter (fits world) list in
+-- Of those that pass a test the last ones, without those that are overruled.
+pub fewer_standing : (test : Intent → Bool) (list : List Intent) → length (undropped (last_of_each (filter test list))) ≤ length list
+fewer_standing test list =
+    let fitting : List Intent = filter test list in
     let standing : List Intent = last_of_each fitting in
-    omega (arith, fewer_filtered (λ entry. not (list_any (λ one. overrules one entry) standing)) standing, length_last fitting, fewer_filtered (fits world) list)
+    omega (arith, fewer_filtered (λ entry. not (list_any (λ one. overrules one entry) standing)) standing, length_last fitting, fewer_filtered test list)
 
 -- ---- each entry has its turn once
 
@@ -91,10 +92,10 @@ turned_none : (all : List Action) → length (turned all []) ≡ 0
 turned_none [] = refl
 turned_none (action ∷ all) = turned_none all
 
-in_turn_many : (list : List Intent) → length (in_turn list) ≡ length list
+pub in_turn_many : (list : List Intent) → length (in_turn list) ≡ length list
 in_turn_many [] = turned_none all_actions
 in_turn_many (intent ∷ list) = omega (arith, turned_more all_actions intent list, once_among intent.action, in_turn_many list)
 
 pub kept_few : (world : World) (list : List Intent) (entries : List Entry) → AreKept world list entries → length entries ≤ length list
 kept_few world list entries are =
-    omega (arith, ap length are, length-map entries placed, length-map (in_turn (kept world list)) (placed_in world), in_turn_many (kept world list), fewer_kept world list)
+    omega (arith, ap length are, length-map entries placed, length-map (in_turn (kept world list)) (placed_in world), in_turn_many (kept world list), fewer_standing (fits world) list)

@@ -8,9 +8,7 @@ use Rattle.std.proofs.lemmas.List.Sums.{sum_by-cons}
 use Rattle.object_store.specs.declared.account.Account.{Account}
 use Rattle.object_store.specs.declared.world.Room.{Room}
 use Rattle.object_store.specs.Stored.{Stored, AreRising, IsLast}
-use Rattle.intent_book.specs.declared.player_run.PlayerRun.{PlayerRun}
 use Rattle.world_rules.specs.World.{world_of}
-use Rattle.world_rules.specs.Tick.{account_after, run_of}
 use Rattle.world_rules.specs.Sound.{IsSound}
 use Rattle.world_rules.proofs.Keys.{keyed, find_mapped}
 use Rattle.world_rules.proofs.Follows.{follows_self}
@@ -20,7 +18,6 @@ use Rattle.room_rules.specs.RoomRules.{is_player}
 use Rattle.room_rules.specs.Within.{between}
 use Rattle.room_rules.proofs.Followed.{followed_sound}
 use Rattle.room_rules.proofs.Sound.{sound_keeps}
-use Rattle.ruled_tick.specs.inner.Ticked.{accounted}
 
 -- a room that stays follows itself
 stays_at : (w : Stored) → IsSound w → (k : ℕ) (found : Option Room) → slice_get w.rooms k ≡ found → FollowsAt (is_player (world_of w)) between found found
@@ -81,10 +78,3 @@ module _ (f : Account → Account) (same : (account : Account) → (f account).p
   pub changed_last : (player : ℕ) (accounts : List Account) → IsLast player accounts → IsLast player (map f accounts)
   changed_last player [] last = tt
   changed_last player (account ∷ accounts) last = (subst (λ (n : ℕ). n < player) (sym (same account)) last.0, changed_last player accounts last.1)
-
-pub after-player : (gain : ℕ) (account : Account) (run : Option PlayerRun) → (account_after gain account run).player ≡ account.player
-after-player gain account None = refl
-after-player gain account (Some run) = refl
-
-pub accounted-player : (gain : ℕ → ℕ) (runs : List PlayerRun) (account : Account) → (accounted gain runs account).player ≡ account.player
-accounted-player gain runs account = after-player (gain account.player) account (run_of account.player runs)

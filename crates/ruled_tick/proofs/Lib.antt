@@ -13,6 +13,7 @@ pub mod Ticking
 pub mod Worlds
 pub mod Rested
 pub mod Leaving
+pub mod Readied
 pub mod Ruled
 pub mod Follows
 pub mod Few

@@ -14,7 +14,7 @@ use Rattle.room_rules.specs.Calls.{AreActorsOnce}
 use Rattle.room_commutes.proofs.ActorsOnce.{moves_once}
 use Rattle.ruled_tick.specs.inner.Ticked.{is_move_in, moves_in}
 
-abbrev is_move : Intent → Bool
+abbrev pub is_move : Intent → Bool
 is_move entry = action_number entry.action == action_number Move
 
 -- ---- entries and their rooms
@@ -108,7 +108,7 @@ with_nothing : (list : List Intent) → list ++ [] ≡ list
 with_nothing [] = refl
 with_nothing (entry ∷ list) = ap (λ (more : List Intent). entry ∷ more) (with_nothing list)
 
-moves_in_turn : (list : List Intent) → filter is_move (in_turn list) ≡ entries_of Move list
+pub moves_in_turn : (list : List Intent) → filter is_move (in_turn list) ≡ entries_of Move list
 moves_in_turn list = turns_of list all_actions ∙ with_nothing (entries_of Move list)
 
 pub moves_kept : (world : World) (list : List Intent) (entries : List Entry) → AreKept world list entries → (k : ℕ) → moves_in k entries ≡ those_in world k (entries_of Move (kept world list))

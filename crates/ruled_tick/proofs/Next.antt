@@ -3,22 +3,21 @@ use Rattle.std.proofs.Common.{◌≡◌, ℕ, ◌+◌, ◌-◌, ◌^◌, min, Li
 use Rattle.std.specs.Ordering.{nat_cmp}
 use Rattle.std.specs.FinMap.{FinMap, from_entries, entries}
 use Rattle.intent_book.specs.declared.intent.Intent.{Intent}
-use Rattle.intent_book.specs.declared.player_run.PlayerRun.{PlayerRun}
 use Rattle.object_store.specs.declared.account.Account.{Account}
 use Rattle.object_store.specs.Stored.{Stored}
 use Rattle.kept_entries.specs.declared.entries.Entry.{Entry}
 use Rattle.kept_entries.specs.Turns.{AreKept}
 use Rattle.world_rules.specs.World.{World, world_of}
 use Rattle.world_rules.specs.Crossings.{crossed, crossed_over}
-use Rattle.world_rules.specs.Tick.{account_raised, account_after, book, gained, intents_of, plain_world, next_world, ruled, run_of}
+use Rattle.world_rules.specs.Tick.{account_raised, book, gained, plain_world, ruled}
 use Rattle.world_rules.specs.Sound.{IsSound}
 use Rattle.world_rules.proofs.Keys.{keyed, accounts_sorted, entries_of_sorted}
 use Rattle.object_store.specs.declared.world.Room.{Room}
 use Rattle.exit_crossing.specs.declared.leaving.Crosser.{Crosser}
 use Rattle.exit_crossing.specs.Crossing.{AreCrossers, IsReadyToCross, KeepsFrames}
-use Rattle.ruled_tick.specs.inner.Entered.{AreOfPlayers, AreGains}
-use Rattle.ruled_tick.specs.inner.Ticked.{accounted, raised_by, IsRuledRooms}
-use Rattle.ruled_tick.proofs.Follows.{accounted-player, after-player, changed-IsSound}
+use Rattle.ruled_tick.specs.inner.Entered.{AreGains}
+use Rattle.ruled_tick.specs.inner.Ticked.{raised_by, IsRuledRooms}
+use Rattle.ruled_tick.proofs.Follows.{changed-IsSound}
 use Rattle.ruled_tick.proofs.Leaving.{as_many, over_accounts, over_other, over_tick}
 
 abbrev player_of : Account → ℕ
@@ -57,7 +56,7 @@ module _ (change : ℕ → ℕ → Account → Account) (same : (gain : ℕ) (ac
       )
 
 -- The first world is ruled rooms with these accounts, and the second comes of it by the crossings.
-module _ (w : Stored) (entries : List Entry) (sound : IsSound w) (next : Stored) (crossers : List Crosser) (r : IsRuledRooms w entries next crossers) (f : Account → Account) (same : (account : Account) → (f account).player ≡ account.player)
+module _ (w : Stored) (Tells : List Intent → Type 0) (Proper : Type 0) (sound : IsSound w) (next : Stored) (crossers : List Crosser) (r : IsRuledRooms w Tells Proper next crossers) (f : Account → Account) (same : (account : Account) → (f account).player ≡ account.player)
     (pushed : Stored) (is : pushed ≡ record next { accounts = map f w.accounts }) where
   ids : List ℕ
   ids = map (λ crosser. crosser.id) crossers
@@ -65,7 +64,7 @@ module _ (w : Stored) (entries : List Entry) (sound : IsSound w) (next : Stored)
   pushed_is : pushed ≡ record r.rested { tick = w.tick + 1; accounts = map f w.accounts }
   pushed_is = is ∙ ap (λ (s : Stored). record s { accounts = map f w.accounts }) r.next
 
-  pub pushed-IsSound : AreOfPlayers (world_of w) entries → IsSound pushed
+  pub pushed-IsSound : Proper → IsSound pushed
   pushed-IsSound of =
       subst IsSound (sym (pushed_is ∙ (λ i. record r.rested { tick = w.tick + 1; accounts = map f (sym r.accounts i) }))) (changed-IsSound f same r.rested (w.tick + 1) (r.sound of))
 
@@ -82,14 +81,14 @@ module _ (w : Stored) (entries : List Entry) (sound : IsSound w) (next : Stored)
   abbrev gone : World
   gone = crossed_over (map (λ crosser. crosser.id) crossers) (world_of r.rested)
 
-  abbrev after_rooms : World
+  abbrev pub after_rooms : World
   after_rooms = record gone { tick = w.tick + 1 }
 
-  gone_accounts : gone.accounts ≡ (world_of w).accounts
+  pub gone_accounts : gone.accounts ≡ (world_of w).accounts
   gone_accounts =
       over_accounts (map (λ crosser. crosser.id) crossers) (world_of r.rested) ∙ ap (λ (accounts : List Account). from_entries {R = nat_cmp} (keyed player_of accounts)) r.accounts
 
-  pub is_ruled : (intents : List Intent) → AreKept (world_of w) intents entries → after_rooms ≡ ruled book crossed (world_of w) intents
+  pub is_ruled : (intents : List Intent) → Tells intents → after_rooms ≡ ruled book crossed (world_of w) intents
   is_ruled intents are =
       let tick : gone.tick ≡ w.tick = over_tick (map (λ crosser. crosser.id) crossers) (world_of r.rested) ∙ r.tick in
       (λ i. record gone { tick = sym tick i + 1 })
@@ -106,27 +105,15 @@ module _ (w : Stored) (entries : List Entry) (sound : IsSound w) (next : Stored)
     many keeps = as_many pushed.rooms later.rooms keeps.rooms ∙ ap length pushed_rooms ∙ r.rooms
 
 -- with the points raised
-pub plain-IsRuled : (w : Stored) (entries : List Entry) → IsSound w → (next : Stored) (crossers : List Crosser) → IsRuledRooms w entries next crossers → (pushed later : Stored) → (intents : List Intent)
+pub plain-IsRuled : (w : Stored) (Tells : List Intent → Type 0) (Proper : Type 0) → IsSound w → (next : Stored) (crossers : List Crosser) → IsRuledRooms w Tells Proper next crossers → (pushed later : Stored) → (intents : List Intent)
     → pushed ≡ record next { accounts = map (raised_by (gained book (world_of w) intents)) w.accounts }
-    → world_of later ≡ crossed_over (map (λ crosser. crosser.id) crossers) (world_of pushed) → AreKept (world_of w) intents entries → world_of later ≡ plain_world (world_of w) intents
-plain-IsRuled w entries sound next crossers r pushed later intents is crossing are =
+    → world_of later ≡ crossed_over (map (λ crosser. crosser.id) crossers) (world_of pushed) → Tells intents → world_of later ≡ plain_world (world_of w) intents
+plain-IsRuled w Tells Proper sound next crossers r pushed later intents is crossing are =
     let f : Account → Account = raised_by (gained book (world_of w) intents) in
-    later_is w entries sound next crossers r f (λ account. refl) pushed is later crossing
-    ∙ earned_is (λ gain player account. account_raised gain account) (λ gain account. refl) w (after_rooms w entries sound next crossers r f (λ account. refl) pushed is) intents sound
-    (gone_accounts w entries sound next crossers r f (λ account. refl) pushed is)
-    (is_ruled w entries sound next crossers r f (λ account. refl) pushed is intents are)
-
--- with the accounts after the runs
-pub ran-IsNext : (w : Stored) (entries : List Entry) → IsSound w → (next : Stored) (crossers : List Crosser) → IsRuledRooms w entries next crossers → (runs : List PlayerRun) (pushed later : Stored)
-    → pushed ≡ record next { accounts = map (accounted (gained book (world_of w) (intents_of runs)) runs) w.accounts }
-    → world_of later ≡ crossed_over (map (λ crosser. crosser.id) crossers) (world_of pushed) → AreKept (world_of w) (intents_of runs) entries → world_of later ≡ next_world (world_of w) runs
-ran-IsNext w entries sound next crossers r runs pushed later is crossing are =
-    let gain : ℕ → ℕ = gained book (world_of w) (intents_of runs) in
-    let f : Account → Account = accounted gain runs in
-    later_is w entries sound next crossers r f (accounted-player gain runs) pushed is later crossing
-    ∙ earned_is (λ gain player account. account_after gain account (run_of player runs)) (λ gain account. after-player gain account (run_of account.player runs)) w (after_rooms w entries sound next crossers r f (accounted-player gain runs) pushed is) (intents_of runs) sound
-    (gone_accounts w entries sound next crossers r f (accounted-player gain runs) pushed is)
-    (is_ruled w entries sound next crossers r f (accounted-player gain runs) pushed is (intents_of runs) are)
+    later_is w Tells Proper sound next crossers r f (λ account. refl) pushed is later crossing
+    ∙ earned_is (λ gain player account. account_raised gain account) (λ gain account. refl) w (after_rooms w Tells Proper sound next crossers r f (λ account. refl) pushed is) intents sound
+    (gone_accounts w Tells Proper sound next crossers r f (λ account. refl) pushed is)
+    (is_ruled w Tells Proper sound next crossers r f (λ account. refl) pushed is intents are)
 
 -- what is read beside the accounts
 pub read_gains : (gain : ℕ → ℕ) (accounts read : List Account) (gains got : List ℕ) → read ≡ accounts → got ≡ gains → AreGains gain accounts gains → AreGains gain read got

@@ -1,5 +1,5 @@
 -- Who takes part in a tick: players with accounts, and those whose entries for sites count.
-use Rattle.std.proofs.Common.{◌≡◌, ℕ, zero, suc, ◌+◌, ◌<◌, ◌≤◌, ◌==◌, ◌&&◌, ◌||◌, nat_lt, Bool, true, false, List, [], ◌∷◌, ◌++◌, map, length, get_or, Option, Some, None, slice_get, refl, sym, ap, subst, ◌∙◌, inl, inr, arith}
+use Rattle.std.proofs.Common.{◌≡◌, ℕ, zero, suc, ◌<◌, ◌≤◌, ◌==◌, ◌&&◌, ◌||◌, nat_lt, Bool, true, false, List, [], ◌∷◌, ◌++◌, map, length, get_or, Option, Some, None, slice_get, refl, sym, ap, subst, ◌∙◌, inl, inr, arith}
 use Rattle.std.specs.List.{AllByRecursion, flat_map, list_any}
 use Rattle.std.proofs.lemmas.Bool.{and_parts, eq-eqb, eqb-true, ltb-true}
 use Rattle.game_tables.specs.declared.action.Action.{Action}
@@ -90,20 +90,25 @@ all_append : {A : Type 0} (P : A → Type 0) (one other : List A) → AllByRecur
 all_append P [] other first second = second
 all_append P (x ∷ one) other first second = (first.0, all_append P one other first.1 second)
 
-all_has : {A : Type 0} (P : A → Type 0) (list : List A) → ((x : A) → Has list x → P x) → AllByRecursion P list
+pub all_has : {A : Type 0} (P : A → Type 0) (list : List A) → ((x : A) → Has list x → P x) → AllByRecursion P list
 all_has P [] each = tt
 all_has P (x ∷ list) each = (each x (inl refl), all_has P list (λ y has. each y (inr has)))
+
+-- What holds of each entry of a list holds of those in their turn.
+module _ (those : List Intent) (P : Intent → Type 0) (each : (entry : Intent) → Has those entry → P entry) where
+  in_turn_of : (actions : List Action) → AllByRecursion P (flat_map (λ action. entries_of action those) actions)
+  in_turn_of [] = tt
+  in_turn_of (action ∷ later) =
+      all_append P (entries_of action those) (flat_map (λ action. entries_of action those) later)
+      (all_has P (entries_of action those) (λ entry has. each entry (entry_of action those entry (has_contained (entries_of action those) entry has)).0))
+      (in_turn_of later)
+
+  pub all_in_turn : AllByRecursion P (in_turn those)
+  all_in_turn = in_turn_of all_actions
 
 module _ (world : World) (list : List Intent) where
   -- What holds of each entry that counts holds of those in their turn.
   module _ (P : Intent → Type 0) (each : (entry : Intent) → Has (kept world list) entry → P entry) where
-    in_turn_of : (actions : List Action) → AllByRecursion P (flat_map (λ action. entries_of action (kept world list)) actions)
-    in_turn_of [] = tt
-    in_turn_of (action ∷ later) =
-        all_append P (entries_of action (kept world list)) (flat_map (λ action. entries_of action (kept world list)) later)
-        (all_has P (entries_of action (kept world list)) (λ entry has. each entry (entry_of action (kept world list) entry (has_contained (entries_of action (kept world list)) entry has)).0))
-        (in_turn_of later)
-
     placed_of : (entries : List Intent) → AllByRecursion P entries → AllByRecursion (λ (pair : Option ℕ × Intent). P pair.1) (map (placed_in world) entries)
     placed_of [] all = tt
     placed_of (entry ∷ entries) all = (all.0, placed_of entries all.1)
@@ -114,9 +119,9 @@ module _ (world : World) (list : List Intent) where
 
     all_kept : (entries : List Entry) → AreKept world list entries → AllByRecursion (λ (entry : Entry). P entry.intent) entries
     all_kept entries are =
-        of_pairs entries (subst (AllByRecursion (λ (pair : Option ℕ × Intent). P pair.1)) (sym are) (placed_of (in_turn (kept world list)) (in_turn_of all_actions)))
+        of_pairs entries (subst (AllByRecursion (λ (pair : Option ℕ × Intent). P pair.1)) (sym are) (placed_of (in_turn (kept world list)) (all_in_turn (kept world list) P each)))
 
-  of_somebody : (entry : Intent) → Has (kept world list) entry → 1 ≤ entry.player
+  pub of_somebody : (entry : Intent) → Has (kept world list) entry → 1 ≤ entry.player
   of_somebody entry has =
       let counts = (kept_counts world list entry).0 (has_contained (kept world list) entry has) in
       ltb-true 0 entry.player (and_parts (nat_lt 0 entry.player) (has_actor world entry) counts.last.good).0

@@ -13,7 +13,8 @@ use Rattle.object_store.specs.declared.world.Room.{Room}
 use Rattle.object_store.specs.Tables.{Table, IsRising, IsOnTile, HasId}
 use Rattle.object_store.specs.Stored.{Stored}
 use Rattle.world_rules.specs.World.{Placed, listed_room, placed_from, world_of}
-use Rattle.world_rules.specs.RoomParts.{RoomPart}
+use Rattle.room_terrain.specs.declared.terrain.Ground.{Ground}
+use Rattle.world_rules.specs.RoomParts.{RoomPart, table_part}
 use Rattle.world_rules.specs.RuleBook.{Sums, Step, Follows, StaysInRoom}
 use Rattle.world_rules.specs.RoomTick.{room_after_steps}
 use Rattle.world_rules.specs.Steps.{each}
@@ -61,7 +62,7 @@ rested_part room rise =
     (λ i. record { rules = 1; index = room.table.index; grounds = room.terrain; next = room.table.next; objects = from_entries (keyed (λ (o : Object). o.id) (sym (all_rest room.table.objects) i)) })
     ∙ sym (each-stored rests rests_id room.table.index room rise).part
 
-rested_rise : (objects : List Object) → IsRising objects → IsRising (map still objects)
+pub rested_rise : (objects : List Object) → IsRising objects → IsRising (map still objects)
 rested_rise objects rise = subst IsRising (all_rest objects) (IsRising-filter_map rests rests_id objects rise)
 
 still_tile : (object : Object) → IsOnTile object → IsOnTile (still object)
@@ -121,6 +122,10 @@ pub beside_are : (table : Table) → AreSumsOf (sums_beside table) table
 unfolding sums_beside
 beside_are table = record { damage = λ id has. refl; healing = λ id has. refl }
 
+-- the part of a room after movement and upkeep
+pub part_ticked : (moves : List Intent) (room later : Room) → IsTicked moves room later → (sums : Sums) → AreSumsOf sums room.table → part_stored later ≡ ticked_part moves sums (part_stored room)
+part_ticked moves room later ticked sums are = ap (λ (grounds : List Ground). table_part grounds later.table) ticked.terrain ∙ ticked.table.part sums are
+
 module _ (stored : Stored) (sound : IsSound stored) (before : List Room) (players : ℕ → Bool) (follow : FollowRooms players within stored (record stored { rooms = before }))
     (rooms : List Room) (moves : ℕ → List Intent) (alone : (k : ℕ) → AreActorsOnce (moves k)) (are : (k : ℕ) → IsTickedAt (moves k) (slice_get before k) (slice_get rooms k)) where
   abbrev pub at_rest : Stored
@@ -135,7 +140,7 @@ module _ (stored : Stored) (sound : IsSound stored) (before : List Room) (player
       let stepped : RoomPart = moved (moves k) part in
       let early : RoomPart = room_after_steps sums first_steps stepped in
       let done : RoomPart = ticked_part (moves k) sums part in
-      let is : part_stored (rested_room mate) ≡ each rests done = rested_part mate ticked.rising ∙ ap (each rests) (ticked.part sums (beside_are room.table)) in
+      let is : part_stored (rested_room mate) ≡ each rests done = rested_part mate ticked.table.rising ∙ ap (each rests) (part_ticked (moves k) room mate ticked sums (beside_are room.table)) in
       let kept : KeepsRoomRules players within stepped = keeps_moved players (moves k) part (alone k) came.keeps in
       let upkept : KeepsRoomRules players stage_moved done = later_lead sums players early (first_lead sums players stepped kept) in
       let follows : Follows part (each rests done) =
@@ -144,8 +149,8 @@ module _ (stored : Stored) (sound : IsSound stored) (before : List Room) (player
       record {
         name = ticked.name ∙ came.name;
         terrain = ticked.terrain ∙ came.terrain;
-        index = ticked.index ∙ came.index;
-        rising = rested_rise mate.table.objects ticked.rising;
+        index = ticked.table.index ∙ came.index;
+        rising = rested_rise mate.table.objects ticked.table.rising;
         follows = subst (Follows first) (sym is) (follows_trans first part (each rests done) came.follows follows);
         keeps = subst (KeepsRoomRules players between) (sym is) (keeps_rest players done upkept);
       }

@@ -6,7 +6,6 @@ use Rattle.game_tables.specs.Kinds.{is_building, is_creep}
 use Rattle.room_terrain.specs.declared.terrain.Ground.{Ground}
 use Rattle.intent_book.specs.declared.intent.Intent.{Intent}
 use Rattle.object_store.specs.declared.object.Object.{Object}
-use Rattle.object_store.specs.declared.world.Room.{Room}
 use Rattle.object_store.specs.Tables.{Table, IsRising, IsOnTile, HasId, HasNoId, find_object}
 use Rattle.object_store.specs.Tallies.{Tallies, tally_of}
 use Rattle.world_rules.specs.RoomParts.{RoomPart, table_part}
@@ -23,7 +22,7 @@ use Rattle.world_rules.proofs.TableParts.{get_table_part}
 use Rattle.room_rules.specs.Calls.{AreSumsOf, IsReadyFor, KeepsUpTo}
 use Rattle.upkeep_rules.specs.Falling.{many_fighters, may_fall, may_leave}
 use Rattle.exit_crossing.specs.Crossing.{most_arrivals}
-use Rattle.ruled_tick.specs.inner.Ticked.{HasMemory, IsReadyToTick, IsTicked}
+use Rattle.ruled_tick.specs.inner.Ticked.{HasMemory, IsReadyToTick, IsTickedTable}
 use Rattle.ruled_tick.proofs.Rested.{beside_are, steps_follow, sums_beside}
 
 -- ---- how many piles may be made
@@ -194,19 +193,16 @@ module _ (moves : List Intent) (grounds : List Ground) (start one two : Table) (
         omega (arith, kept.used, kept.made, spare, few)
 
 -- the whole
-pub ticked_room : (moves : List Intent) (room later : Room) (one two three four : Table) → later.name ≡ room.name → later.terrain ≡ room.terrain → HasMoved moves room.terrain room.table one two
-    → ((sums : Sums) → AreSumsOf sums two → table_part room.terrain three ≡ room_after_steps sums early_steps (table_part room.terrain two)) → three.index ≡ two.index → AllByRecursion IsOnTile three.objects → HasMemory (length three.objects + most_arrivals) three four
-    → ((grounds : List Ground) (sums : Sums) → table_part grounds later.table ≡ room_after_steps sums last_steps (table_part grounds four)) → KeepsUpTo (may_fall four.objects) four later.table → IsRising later.table.objects
-    → IsTicked moves room later
-ticked_room moves room later one two three four name terrain has rule index tiles memory last kept rise = record {
-  name = name;
-  terrain = terrain;
-  index = kept.index ∙ ap (λ (t : Table). t.index) memory.same ∙ index_three moves room.terrain room.table one two has three four rule index tiles memory;
+pub ticked_table : (moves : List Intent) (grounds : List Ground) (start last one two three four : Table) → HasMoved moves grounds start one two
+    → ((sums : Sums) → AreSumsOf sums two → table_part grounds three ≡ room_after_steps sums early_steps (table_part grounds two)) → three.index ≡ two.index → AllByRecursion IsOnTile three.objects → HasMemory (length three.objects + most_arrivals) three four
+    → ((grounds : List Ground) (sums : Sums) → table_part grounds last ≡ room_after_steps sums last_steps (table_part grounds four)) → KeepsUpTo (may_fall four.objects) four last → IsRising last.objects
+    → IsTickedTable moves grounds start last
+ticked_table moves grounds start last one two three four has rule index tiles memory ends kept rise = record {
+  index = kept.index ∙ ap (λ (t : Table). t.index) memory.same ∙ index_three moves grounds start one two has three four rule index tiles memory;
   part = λ sums are.
-      ap (λ (grounds : List Ground). table_part grounds later.table) terrain
-      ∙ last room.terrain sums
-      ∙ ap (room_after_steps sums last_steps) (part_four moves room.terrain room.table one two has three four rule index tiles memory ∙ part_three moves room.terrain room.table one two has three four rule index tiles memory sums are);
+      ends grounds sums
+      ∙ ap (room_after_steps sums last_steps) (part_four moves grounds start one two has three four rule index tiles memory ∙ part_three moves grounds start one two has three four rule index tiles memory sums are);
   rising = rise;
   tiles = kept.tiles;
-  spare = spare_four moves room.terrain room.table one two has three four rule index tiles memory later.table kept;
+  spare = spare_four moves grounds start one two has three four rule index tiles memory last kept;
 }

@@ -24,6 +24,7 @@ use Rattle.room_rules.specs.Calls.{AreSumsOf}
 use Rattle.room_commutes.proofs.Everywhere.{every_here, in_tick_every, in_tick_steps}
 use Rattle.room_commutes.proofs.InTick.{IsInTick, at_start}
 use Rattle.ruled_tick.specs.inner.Ticked.{ticked_part, IsTickedAt}
+use Rattle.ruled_tick.proofs.Rested.{part_ticked}
 
 -- ---- changes one after the other, seen at a room
 
@@ -118,7 +119,7 @@ module _ (w : Stored) (used : AreSerialsUsed (world_of w)) (places : (k : ℕ) (
       stored_objects later alone k id ∙ ap (option_and_then (found_in_table id)) at ∙ sym (get_part mate id)) in
       let given : RoomPart = record { rules = 1; index = k; grounds = room.terrain; next = room.table.next; objects = objects_in (world_of w) k } in
       let same : part_stored room ≡ given = λ i. record { rules = 1; index = place i; grounds = room.terrain; next = room.table.next; objects = sym objects i } in
-      let part : part_stored mate ≡ change k given = ticked.part (sums k) (told k room is) ∙ ap (change k) same in
+      let part : part_stored mate ≡ change k given = part_ticked (moves k) room mate ticked (sums k) (told k room is) ∙ ap (change k) same in
       (λ i. record { rules = 1; frame = frame_then i; objects = objects_then i })
       ∙ (λ i. record { rules = 1; frame = Some (record { name = ticked.name i; grounds = ticked.terrain i; next = (part i).next }); objects = (part i).objects })
       ∙ sym (ap (changed_as (change k) k (seen (world_of w) k)) frame)

@@ -5,7 +5,7 @@ ghost use Rattle.world_rules.specs.RoomParts.{table_part};
 ghost use Rattle.world_rules.specs.Tick.{book};
 ghost use Rattle.object_store.specs.Tables.{AreTalliesOf};
 ghost use Rattle.room_rules.specs.Calls.{IsHarmedBy, IsReady, Keeps};
-ghost use Rattle.ruled_tick.specs.inner.Entered.{many_in, widened, AreCounts, IsGained, IsRuled, IsRuledIn};
+ghost use Rattle.ruled_tick.specs.inner.Entered.{many_in, wanted_spare, widened, widened_table, AreCounts, IsGained, IsRuled, IsRuledIn};
 
 use controller_rules::{attack_controller, claim, reserve, upgrade};
 use creep_combat::{attack, heal, mass_attack, ranged_attack, ranged_heal, suicide};
@@ -27,7 +27,7 @@ pub fn widen_all(alloc: Global, rooms: &mut [Room], entries: &[Entry]) -> Result
 {
     let counts = counts_of(alloc, rooms.len(), entries)?;
     for (index, room) in rooms.iter_mut().enumerate() {
-        widen(alloc, room, counts[index])?;
+        widen(alloc, &mut room.table, counts[index])?;
     }
     Ok(())
 }
@@ -61,23 +61,37 @@ fn counts_of(alloc: Global, rooms: usize, entries: &[Entry]) -> Result<Vec<u32>,
     Ok(counts)
 }
 
-// Forgets what was done to the objects of a room, and gives its table the memory that so many entries may
-// need, by a copy where it hasn't as much. Where its objects and that memory come to 2^32, it is refused as
-// one without memory; a room that keeps the rules has at most 7,500 objects.
-fn widen(alloc: Global, room: &mut Room, entries: u32) -> Result<(), NoMemory>
-    ensures { OnOk result (room.new ≡ widened entries room.old) }
+/// Begins a tick in a room's table: forgets what was done to its objects, and gives it memory for what so many
+/// entries and a step of upkeep may make, by a copy where it hasn't as much.
+pub fn widen(alloc: Global, table: &mut RoomTable, entries: u32) -> Result<(), NoMemory>
+    ensures { OnOk result (table.new ≡ widened_table entries table.old) }
 {
-    room.table.clear_sums();
-    let len = u64::from(room.table.len());
-    let spare = u64::from(entries) + (4 * len + 196);
-    if spare <= u64::from(room.table.spare()) {
-        return Ok(());
+    table.clear_sums();
+    if wanted(table, entries) > u64::from(table.spare()) {
+        *table = copied(alloc, table, entries)?;
     }
-    if len + spare > u64::from(u32::MAX) {
+    Ok(())
+}
+
+/// A copy of a table with memory for what so many entries and a step of upkeep may make. Where its objects and
+/// that memory come to 2^32, it is refused as one without memory; a room that keeps the rules has at most 7,500
+/// objects.
+pub fn copied(alloc: Global, table: &RoomTable, entries: u32) -> Result<RoomTable, NoMemory>
+    ensures { IfOk result
+        (λ copy. copy ≡ record table.now { spare = wanted_spare entries (length table.now.objects) }) }
+{
+    let spare = wanted(table, entries);
+    if u64::from(table.len()) + spare > u64::from(u32::MAX) {
         return Err(NoMemory);
     }
-    room.table = room.table.copy(alloc, spare)?;
-    Ok(())
+    table.copy(alloc, spare)
+}
+
+// The memory for what so many entries and a step of upkeep may make.
+fn wanted(table: &RoomTable, entries: u32) -> u64
+    ensures { result ≡ wanted_spare entries (length table.now.objects) }
+{
+    u64::from(entries) + (4 * u64::from(table.len()) + 196)
 }
 
 fn rule_in(room: &mut Room, intent: &Intent) -> u32
@@ -91,8 +105,9 @@ fn rule_in(room: &mut Room, intent: &Intent) -> u32
     points
 }
 
-// The rule of each action, and the points that its player gains, which only an upgrade gives.
-fn rule(ground: &Terrain, table: &mut RoomTable, intent: &Intent) -> u32
+/// Rules an entry on the table of its room, and answers the points that its player gains, which only an
+/// upgrade gives. What fighters do to objects is added up beside the table.
+pub fn rule(ground: &Terrain, table: &mut RoomTable, intent: &Intent) -> u32
     requires ready { IsReady table.old }
     ensures rule { table_part ground.now table.new
         ≡ (book.effect intent.now (table_part ground.now table.old)).part }

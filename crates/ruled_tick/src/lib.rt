@@ -7,5 +7,8 @@ mod gains;
 mod rooms;
 mod tick;
 
+pub use act::{copied, rule, widen};
+pub use gains::add_gain;
+pub use rooms::tick_table;
 pub use std::alloc::AllocError as NoMemory;
-pub use tick::{all_intents, next_world, tick_plain, tick_taken};
+pub use tick::{raised_points, tick_plain, tick_taken};

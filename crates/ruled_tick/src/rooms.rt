@@ -3,13 +3,13 @@ ghost use Rattle.std.specs.Prelude.{◌≡◌, IsTrue, ◌<◌, ◌^◌, ◌∷�
 ghost use Rattle.object_store.specs.declared.world.Room.{Room};
 ghost use Rattle.kept_entries.specs.declared.entries.Entry.{Entry};
 ghost use Rattle.room_rules.specs.Calls.{AreActorsOnce};
-ghost use Rattle.ruled_tick.specs.inner.Ticked.{moves_in, AreMoves, AreTicked, IsReadyToTick, IsTicked, HasMemory};
+ghost use Rattle.ruled_tick.specs.inner.Ticked.{moves_in, AreMoves, AreTicked, IsReadyToTick, IsTicked, IsTickedTable, HasMemory};
 
 use creep_move::settle_moves;
 use game_tables::Action;
 use intent_book::{Intent, Intents};
 use kept_entries::Entry;
-use object_store::{Room, RoomTable};
+use object_store::{Room, RoomTable, Terrain};
 use spawn_rules::hatch;
 use std::alloc::{AllocError as NoMemory, Global};
 use upkeep_rules::{age_controllers, upkeep_first, upkeep_last};
@@ -68,18 +68,28 @@ fn tick_room(room: &mut Room, moves: &[Intent]) -> Result<(), NoMemory>
     requires once { AreActorsOnce moves.now }
     ensures { OnOk result (IsTicked moves.now room.old room.new) }
 {
-    settle_moves(&room.terrain, &mut room.table, moves);
-    let most_left = 2 * u64::from(room.table.len());
-    take_memory(&mut room.table, most_left)?;
-    upkeep_first(&mut room.table);
-    let most_hatched = u64::from(room.table.len());
-    take_memory(&mut room.table, most_hatched)?;
-    hatch(&room.terrain, &mut room.table);
-    age_controllers(&mut room.table);
-    let most_made = u64::from(room.table.len()) + MOST_ARRIVALS;
-    take_memory(&mut room.table, most_made)?;
-    upkeep_last(&mut room.table);
-    let _rising = room.table.objects();
+    tick_table(&room.terrain, &mut room.table, moves)
+}
+
+/// Lets the creeps of a room move, by these moves all at once, and keeps the room up, by the steps of upkeep in
+/// their order. A room that has no serials for what the steps may make is refused as one without memory.
+pub fn tick_table(ground: &Terrain, table: &mut RoomTable, moves: &[Intent]) -> Result<(), NoMemory>
+    requires ready { IsReadyToTick table.old }
+    requires once { AreActorsOnce moves.now }
+    ensures { OnOk result (IsTickedTable moves.now ground.now table.old table.new) }
+{
+    settle_moves(ground, table, moves);
+    let most_left = 2 * u64::from(table.len());
+    take_memory(table, most_left)?;
+    upkeep_first(table);
+    let most_hatched = u64::from(table.len());
+    take_memory(table, most_hatched)?;
+    hatch(ground, table);
+    age_controllers(table);
+    let most_made = u64::from(table.len()) + MOST_ARRIVALS;
+    take_memory(table, most_made)?;
+    upkeep_last(table);
+    let _rising = table.objects();
     Ok(())
 }
 

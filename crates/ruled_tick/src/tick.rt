@@ -1,21 +1,21 @@
 // One tick of the whole world.
-ghost use Rattle.std.specs.Prelude.{◌≡◌, IsTrue, ◌<◌, ◌≤◌, ◌-◌, ◌+◌, ◌^◌, ℕ, List, [], map, length, option_map, IfOk, OnOk};
+ghost use Rattle.std.specs.Prelude.{◌≡◌, IsTrue, ◌<◌, ◌≤◌, ◌-◌, ◌+◌, ◌^◌, ℕ, List, [], map, length, IfOk, OnOk};
 ghost use Rattle.object_store.specs.Stored.{AreRising};
 ghost use Rattle.intent_book.specs.declared.intent.Intent.{Intent};
 ghost use Rattle.kept_entries.specs.Turns.{AreKept};
 ghost use Rattle.world_rules.specs.World.{world_of};
-ghost use Rattle.world_rules.specs.Tick.{book, plain_world, next_world, intents_of, gained, account_raised, account_after, run_of, bucket_after, points_after};
+ghost use Rattle.world_rules.specs.Tick.{book, plain_world, gained, account_raised, points_after};
 ghost use Rattle.world_rules.specs.Sound.{IsSound, HaveSerials};
 ghost use Rattle.ruled_tick.specs.Players.{AreByPlayers};
-ghost use Rattle.ruled_tick.specs.inner.Entered.{AreGains};
-ghost use Rattle.ruled_tick.specs.inner.Ticked.{accounted, raised_by, IsRuledRooms, AreInPlace};
+ghost use Rattle.ruled_tick.specs.inner.Entered.{AreGains, AreOfPlayers};
+ghost use Rattle.ruled_tick.specs.inner.Ticked.{raised_by, IsRuledRooms, AreInPlace};
 
 use crate::act::{enter, widen_all};
 use crate::gains::add_gain;
 use crate::rooms::tick_all;
 use exit_crossing::{Crosser, all_crossers, cross};
-use game_tables::{most_bucket, most_points, unit_instructions};
-use intent_book::{Intent, PlayerRun};
+use game_tables::most_points;
+use intent_book::Intent;
 use kept_entries::{Entry, kept_entries};
 use object_store::{Account, Bytes, Room, World};
 use std::alloc::{AllocError as NoMemory, Global};
@@ -62,52 +62,6 @@ pub fn tick_taken(alloc: Global, world: World, entries: &[Entry]) -> Result<Worl
     Ok(next)
 }
 
-/// The world after one tick with these runs, in place of the world before, which is taken: its rooms are
-/// ruled with all that they want, and each account gets its limit of CPU units into its bucket, up to
-/// 10,000, without what its player's run used, and the memory text that the run left. A player has one run
-/// at most; of two, the first would count for the bucket and the memory text, and what both want would be
-/// ruled.
-///
-/// `entries` are those that count of what the runs want (`all_intents`, `kept_entries`).
-pub fn next_world(
-    alloc: Global,
-    world: World,
-    entries: &[Entry],
-    runs: &[PlayerRun],
-) -> Result<World, NoMemory>
-    requires tick { world.tick < 2 ^ 64 - 1 }
-    requires sound { IsSound world }
-    requires few { length entries.now ≤ 2 ^ 18 }
-    requires serials { HaveSerials world.rooms }
-    requires kept { (list : List Intent) × AreKept (world_of world) list entries.now }
-    ensures next { IfOk result (λ next. AreKept (world_of world) (intents_of runs.now) entries.now
-        → world_of next ≡ next_world (world_of world) runs.now) }
-    ensures sound { IfOk result (λ next. (list : List Intent) → AreKept (world_of world) list entries.now
-        → AreByPlayers (world_of world) list → IsSound next) }
-    ensures accounts { IfOk result
-        (λ next. (list : List Intent) → AreKept (world_of world) list entries.now → next.accounts
-        ≡ map (λ account.
-        account_after (gained book (world_of world) list account.player) account
-        (run_of account.player runs.now)) world.accounts) }
-    ensures rooms { IfOk result (λ next. length next.rooms ≡ length world.rooms) }
-{
-    let (mut next, accounts, gains, crossers) = ruled_rooms(alloc, world, entries)?;
-    push_accounted(alloc, &accounts, &gains, runs, &mut next)?;
-    cross(&mut next, &crossers);
-    Ok(next)
-}
-
-/// What all runs want, in their order.
-pub fn all_intents(alloc: Global, runs: &[PlayerRun]) -> Result<Vec<Intent>, NoMemory>
-    ensures { IfOk result (λ intents. intents.items ≡ intents_of runs.now) }
-{
-    let mut intents = Vec::new(alloc);
-    for run in runs {
-        intents.extend_from_slice(run.intents.as_slice())?;
-    }
-    Ok(intents)
-}
-
 // The world after a tick with these entries, before crossings and without accounts yet, its accounts as they
 // were, what their players gained, and the creeps that are to cross.
 fn ruled_rooms(
@@ -120,7 +74,9 @@ fn ruled_rooms(
     requires few { length entries.now ≤ 2 ^ 18 }
     requires serials { HaveSerials world.rooms }
     requires kept { (list : List Intent) × AreKept (world_of world) list entries.now }
-    ensures rooms { IfOk result (λ parts. IsRuledRooms world entries.now parts.0 parts.3.items) }
+    ensures rooms { IfOk result (λ parts. IsRuledRooms world
+        (λ list. AreKept (world_of world) list entries.now) (AreOfPlayers (world_of world) entries.now)
+        parts.0 parts.3.items) }
     ensures accounts { IfOk result (λ parts. parts.1.items ≡ world.accounts) }
     ensures within { IfOk result (λ parts. length parts.1.items < 2 ^ 32) }
     ensures gains { IfOk result (λ parts. (list : List Intent) → AreKept (world_of world) list entries.now
@@ -188,89 +144,9 @@ fn raised(alloc: Global, account: &Account, gain: u64) -> Result<Account, NoMemo
     })
 }
 
-// The points of an account with those that its player gained, up to their bound.
-fn raised_points(account: &Account, gain: u64) -> u64
+/// The points of an account with those that its player gained, up to their bound.
+pub fn raised_points(account: &Account, gain: u64) -> u64
     ensures { result ≡ points_after account.now gain }
 {
     account.points.saturating_add(gain).min(most_points())
-}
-
-// The accounts after the runs, with the points that their players gained.
-fn push_accounted(
-    alloc: Global,
-    accounts: &[Account],
-    gains: &[u64],
-    runs: &[PlayerRun],
-    next: &mut World,
-) -> Result<(), NoMemory>
-    requires rising { AreRising accounts.now }
-    requires within { length accounts.now < 2 ^ 32 }
-    requires gains { (gain : ℕ → ℕ) × AreGains gain accounts.now gains.now }
-    requires none { next.old.accounts ≡ [] }
-    ensures { OnOk result ((gain : ℕ → ℕ) → AreGains gain accounts.now gains.now
-        → next.new ≡ record next.old { accounts = map (accounted gain runs.now) accounts.now }) }
-{
-    for (index, account) in accounts.iter().enumerate() {
-        next.push_account(after_runs(alloc, account, gains[index], runs)?)?;
-    }
-    Ok(())
-}
-
-fn after_runs(
-    alloc: Global,
-    account: &Account,
-    gain: u64,
-    runs: &[PlayerRun],
-) -> Result<Account, NoMemory>
-    ensures { IfOk result
-        (λ next. next ≡ account_after gain account.now (run_of account.now.player runs.now)) }
-{
-    match run_of(runs, account.player) {
-        Some(run) => filled(alloc, account, gain, run.used, &run.memory),
-        None => filled(alloc, account, gain, 0, &account.memory),
-    }
-}
-
-// The run of a player.
-fn run_of(runs: &[PlayerRun], player: u32) -> Option<&PlayerRun>
-    ensures { option_map (λ run. run.now) result ≡ run_of player runs.now }
-{
-    runs.iter().find(|run| run.player == player)
-}
-
-// The account with its bucket after a run that took so many instructions, with the points that its player
-// gained, and with a memory text.
-fn filled(
-    alloc: Global,
-    account: &Account,
-    gain: u64,
-    used: u64,
-    memory: &Bytes,
-) -> Result<Account, NoMemory>
-    ensures { IfOk result
-        (λ next. next ≡ record account.now {
-          bucket = bucket_after account.now used;
-          points = points_after account.now gain;
-          memory = memory.now;
-        }) }
-{
-    Ok(Account {
-        player: account.player,
-        limit: account.limit,
-        bucket: filled_bucket(account, used),
-        points: raised_points(account, gain),
-        memory: Bytes::of(alloc, memory.as_slice())?,
-    })
-}
-
-// The bucket with the limit added and the used units taken out, up to its bound.
-fn filled_bucket(account: &Account, used: u64) -> u32
-    ensures { result ≡ bucket_after account.now used }
-{
-    let whole = used / unit_instructions();
-    let begun = u64::from(used % unit_instructions() != 0);
-    let saved = u64::from(account.limit) + u64::from(account.bucket);
-    saved
-        .saturating_sub(whole + begun)
-        .min(u64::from(most_bucket())) as u32
 }

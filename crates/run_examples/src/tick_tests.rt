@@ -1,11 +1,13 @@
 // Single ticks of worlds that were read from files.
-ghost use Rattle.std.specs.Prelude.{IsTrue};
-ghost use Rattle.world_rules.specs.Sound.{HaveSerials};
+ghost use Rattle.std.specs.Prelude.{◌<◌, ◌≤◌, ◌^◌, IsTrue, length};
+ghost use Rattle.world_rules.specs.Sound.{HaveSerials, IsSound};
 
 use crate::worlds::room;
+use exit_crossing::Crosser;
 use game_tables::{Action, Body};
 use intent_book::Intent;
 use object_store::World;
+use room_step::{Crossers, StepDone, step_room};
 use ruled_tick::tick_plain;
 use std::alloc::{AllocError, Global};
 use std::test::Fail;
@@ -134,5 +136,128 @@ fn entries_of_two_rooms_are_ruled(rt: HostRuntime) -> Result<(), Fail> {
     );
     assert_eq!(rt; memory_of(&next, 1), b"one".as_slice());
     assert_eq!(rt; memory_of(&next, 2), b"two".as_slice());
+    Ok(())
+}
+
+// The step of a room of a world by itself.
+fn step_at(
+    alloc: Global,
+    world: &World,
+    index: u32,
+    intents: &[Intent],
+) -> Result<StepDone, AllocError>
+    requires sound { IsSound world.now }
+    requires serials { HaveSerials world.now.rooms }
+    requires index { index < length world.now.rooms }
+    requires few { length intents.now ≤ 2 ^ 18 }
+{
+    step_room(
+        alloc,
+        index,
+        world.terrain(index),
+        world.room(index),
+        intents,
+    )
+}
+
+#[test]
+fn rooms_step_by_themselves(rt: HostRuntime) -> Result<(), Fail> {
+    let text = two_rooms(rt.alloc())?;
+    let Ok(file) = read_world(rt.alloc(), text.as_bytes()) else {
+        return Err("refused".into());
+    };
+    if !have_serials(&file.world) || file.world.rooms() != 2 {
+        return Err("another world".into());
+    }
+    // (what another room's creep wants does nothing here)
+    let intents = [
+        entry(1, Action::DropLoad, 4_294_967_297, 7),
+        entry(1, Action::DropLoad, 4, 5),
+        entry(2, Action::DropLoad, 3, 0),
+    ];
+    let first = step_at(rt.alloc(), &file.world, 0, &intents)?;
+    let second = step_at(rt.alloc(), &file.world, 1, &intents)?;
+    assert_eq!(rt; (first.room.len(), first.room.next()), (6, 9));
+    assert_eq!(rt; (second.room.len(), second.room.next()), (4, 5));
+    assert_eq!(rt; first.room.get(4).map(|creep| creep.energy), Some(15));
+    assert_eq!(rt;
+        second.room.get(4_294_967_297).map(|creep| creep.energy),
+        Some(43)
+    );
+    assert_eq!(rt;
+        second.room.get(4_294_967_299).map(|source| source.energy),
+        Some(1_500)
+    );
+    assert_eq!(rt;
+        (first.player, first.points, first.crossers.len()),
+        (0, 0, 0)
+    );
+    assert!(rt; first.room.spare() >= 196);
+    Ok(())
+}
+
+#[test]
+fn a_room_tells_who_leaves_and_who_gains(rt: HostRuntime) -> Result<(), Fail> {
+    let empty = room(rt.alloc(), "E0S0", 1, "")?;
+    let colony = room(
+        rt.alloc(),
+        "E1S0",
+        5,
+        "{\"id\":4294967297,\"kind\":\"controller\",\"x\":10,\"y\":10,\"owner\":2,\"extra\":1,\"timer\":9},{\"id\":4294967298,\"kind\":\"creep\",\"x\":11,\"y\":10,\"owner\":2,\"body\":[\"work\",\"work\",\"carry\",\"move\"],\"energy\":5,\"timer\":1500},{\"id\":4294967299,\"kind\":\"creep\",\"x\":1,\"y\":25,\"owner\":1,\"body\":[\"move\"],\"timer\":1500},{\"id\":4294967300,\"kind\":\"creep\",\"x\":25,\"y\":1,\"owner\":1,\"body\":[\"move\"],\"timer\":1500}",
+    )?;
+    let text = format!(in rt.alloc();
+        "{{\"version\":1,\"tick\":0,\"rooms\":[{empty},{colony}],\"players\":[{{\"player\":1,\"limit\":20}},{{\"player\":2,\"limit\":20}}]}}"
+    )?;
+    let Ok(file) = read_world(rt.alloc(), text.as_bytes()) else {
+        return Err("refused".into());
+    };
+    if !have_serials(&file.world) || file.world.rooms() != 2 {
+        return Err("another world".into());
+    }
+    let upgrade = Intent {
+        target: 4_294_967_297,
+        ..entry(2, Action::Upgrade, 4_294_967_298, 0)
+    };
+    // (to the left and to the top)
+    let intents = [
+        entry(1, Action::Move, 4_294_967_300, 1),
+        upgrade,
+        entry(1, Action::Move, 4_294_967_299, 7),
+    ];
+    let done = step_at(rt.alloc(), &file.world, 1, &intents)?;
+    assert_eq!(rt; (done.player, done.points), (2, 2));
+    let leaving = |place: u64| done
+        .crossers
+        .nth(place)
+        .map(|crosser| (crosser.id, crosser.room));
+    assert_eq!(rt; leaving(0), Some((4_294_967_299, 1)));
+    assert_eq!(rt; leaving(1), Some((4_294_967_300, 1)));
+    assert_eq!(rt; leaving(2), None);
+    assert_eq!(rt;
+        done.room
+            .get(4_294_967_299)
+            .map(|creep| (creep.x, creep.other_ticks)),
+        Some((0, 0))
+    );
+    let nothing = step_at(rt.alloc(), &file.world, 0, &intents)?;
+    assert_eq!(rt;
+        (nothing.room.len(), nothing.player, nothing.points),
+        (0, 0, 0)
+    );
+    Ok(())
+}
+
+#[test]
+fn crossers_are_a_list(rt: HostRuntime) -> Result<(), Fail> {
+    let mut list = Crossers::new(rt.alloc());
+    assert!(rt; list.is_empty());
+    list.push(Crosser { id: 7, room: 3 })?;
+    list.push(Crosser { id: 8, room: 2 })?;
+    assert_eq!(rt; (list.len(), list.is_empty()), (2, false));
+    assert_eq!(rt;
+        list.nth(1).map(|crosser| (crosser.id, crosser.room)),
+        Some((8, 2))
+    );
+    assert_eq!(rt; list.as_slice().len(), 2);
     Ok(())
 }

@@ -98,14 +98,17 @@ pub record AreCounts (rooms : ℕ) (entries : List Entry) (counts : List ℕ) : 
   pub long : length counts ≡ rooms
   pub each : (room : ℕ) → room < rooms → slice_index counts room ≡ many_in room entries
 
--- a room to which nothing was done yet, with memory for what so many entries and a step of upkeep may make,
--- or with what it has, where that is more
+-- the memory for what so many entries and a step of upkeep may make of so many objects
+abbrev pub wanted_spare : ℕ → ℕ → ℕ
+wanted_spare count objects = count + (4 * objects + 196)
+
+-- a table to whose objects nothing was done yet, with that memory, or with what it has, where that is more
+abbrev pub widened_table : ℕ → Table → Table
+widened_table count table =
+    record table { spare = max table.spare (wanted_spare count (length table.objects)); tallies = no_tallies }
+
 abbrev pub widened : ℕ → Room → Room
-widened count room =
-    let wanted : ℕ = count + (4 * length room.table.objects + 196) in
-    record room {
-      table = record room.table { spare = max room.table.spare wanted; tallies = no_tallies };
-    }
+widened count room = record room { table = widened_table count room.table }
 
 -- ---- rooms
 

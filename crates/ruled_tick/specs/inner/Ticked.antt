@@ -3,26 +3,23 @@ use Rattle.std.specs.Prelude.{◌≡◌, ℕ, ◌+◌, ◌-◌, ◌*◌, ◌^◌
 use Rattle.std.specs.List.{AllByRecursion, filter}
 use Rattle.game_tables.specs.Actions.{action_number}
 use Rattle.game_tables.specs.declared.action.Action.TheVariants.{Move}
+use Rattle.room_terrain.specs.declared.terrain.Ground.{Ground}
 use Rattle.object_store.specs.declared.account.Account.{Account}
 use Rattle.object_store.specs.declared.world.Room.{Room}
 use Rattle.object_store.specs.Tables.{Table, IsRising, IsOnTile, HasNoId}
 use Rattle.object_store.specs.Stored.{Stored}
 use Rattle.intent_book.specs.declared.intent.Intent.{Intent}
-use Rattle.intent_book.specs.declared.player_run.PlayerRun.{PlayerRun}
 use Rattle.kept_entries.specs.declared.entries.Entry.{Entry}
-use Rattle.kept_entries.specs.Turns.{AreKept}
 use Rattle.world_rules.specs.World.{world_of}
-use Rattle.world_rules.specs.RoomParts.{RoomPart}
+use Rattle.world_rules.specs.RoomParts.{RoomPart, table_part}
 use Rattle.world_rules.specs.RuleBook.{Sums}
 use Rattle.world_rules.specs.RoomTick.{room_after_steps}
 use Rattle.world_rules.specs.Moves.{moved}
 use Rattle.world_rules.specs.Crossings.{crossed, crossed_over}
 use Rattle.world_rules.specs.Upkeep.{steps}
-use Rattle.world_rules.specs.Tick.{account_after, account_raised, book, inner, run_of}
+use Rattle.world_rules.specs.Tick.{account_raised, book, inner}
 use Rattle.world_rules.specs.Sound.{IsSound}
 use Rattle.room_rules.specs.Calls.{AreSumsOf, IsMovable}
-use Rattle.room_rules.specs.Followed.{part_stored}
-use Rattle.ruled_tick.specs.inner.Entered.{AreOfPlayers}
 use Rattle.exit_crossing.specs.declared.leaving.Crosser.{Crosser}
 use Rattle.exit_crossing.specs.Crossing.{AreCrossers, IsReadyToCross, most_arrivals}
 
@@ -58,16 +55,20 @@ pub record HasMemory (many : ℕ) (old new : Table) : Type 0 where
   pub serials : old.next + many ≤ 2 ^ 32 - 1
   pub same : new ≡ record old { spare = max old.spare many }
 
+-- A table of a room with these grounds after movement and upkeep.
+pub record IsTickedTable (moves : List Intent) (grounds : List Ground) (old new : Table) : Type 0 where
+  pub index : new.index ≡ old.index
+  pub part : (sums : Sums) → AreSumsOf sums old
+      → table_part grounds new ≡ ticked_part moves sums (table_part grounds old)
+  pub rising : IsRising new.objects
+  pub tiles : AllByRecursion IsOnTile new.objects
+  pub spare : most_arrivals ≤ new.spare
+
 -- A room after movement and upkeep.
 pub record IsTicked (moves : List Intent) (room later : Room) : Type 0 where
   pub name : later.name ≡ room.name
   pub terrain : later.terrain ≡ room.terrain
-  pub index : later.table.index ≡ room.table.index
-  pub part : (sums : Sums) → AreSumsOf sums room.table
-      → part_stored later ≡ ticked_part moves sums (part_stored room)
-  pub rising : IsRising later.table.objects
-  pub tiles : AllByRecursion IsOnTile later.table.objects
-  pub spare : most_arrivals ≤ later.table.spare
+  pub table : IsTickedTable moves room.terrain room.table later.table
 
 abbrev pub IsTickedAt : List Intent → Option Room → Option Room → Type 0
 IsTickedAt moves None None = Unit {0}
@@ -83,26 +84,22 @@ AreTicked entries old new =
 abbrev pub raised_by : (ℕ → ℕ) → Account → Account
 raised_by gain account = account_raised (gain account.player) account
 
--- an account after these runs, with the points that its player gained
-abbrev pub accounted : (ℕ → ℕ) → List PlayerRun → Account → Account
-accounted gain runs account = account_after (gain account.player) account (run_of account.player runs)
-
 -- Each table's index is its room's place.
 abbrev pub AreInPlace : List Room → Type 0
 AreInPlace rooms = (index : ℕ) (room : Room) → slice_get rooms index ≡ Some room → room.table.index ≡ index
 
 -- Without accounts, it is a tick of the rooms up to crossings, and with these to cross it is the tick by any
--- entries of which these are the ones that count.
-pub record IsRuledRooms (stored : Stored) (entries : List Entry) (later : Stored)
+-- entries of which the first holds. The world is sound where the second does.
+pub record IsRuledRooms (stored : Stored) (Tells : List Intent → Type 0) (Proper : Type 0) (later : Stored)
     (list : List Crosser) : Type 0 where
   pub rested : Stored
   pub tick : rested.tick ≡ stored.tick
   pub accounts : rested.accounts ≡ stored.accounts
   pub rooms : length rested.rooms ≡ length stored.rooms
-  pub sound : AreOfPlayers (world_of stored) entries → IsSound rested
+  pub sound : Proper → IsSound rested
   pub ready : IsReadyToCross rested.rooms
   pub crossers : AreCrossers rested.rooms list
-  pub same : (intents : List Intent) → AreKept (world_of stored) intents entries
+  pub same : (intents : List Intent) → Tells intents
       → crossed_over (map (λ crosser. crosser.id) list) (world_of rested)
       ≡ crossed (inner book (world_of stored) intents).world
   pub next : later ≡ record rested { tick = stored.tick + 1; accounts = [] }

@@ -1,5 +1,5 @@
 use Rattle.std.proofs.Common.{◌/◌, refl, arith}
-use Rattle.kept_entries.proofs.Rooms.{has_room, no_room}
+use Rattle.kept_entries.proofs.Frames.{has_room, no_room}
 use Rattle.kept_entries.proofs.entries.tile_room.Goals as goal
 
 pub returns-then-room-from-clause-some : goal.returns-then-room-from-clause-some

@@ -17,7 +17,7 @@ use Rattle.ruled_tick.proofs.Gaining.{gained_all, gained_first, gained_more, gai
 use Rattle.ruled_tick.proofs.Moves.{actors_once}
 use Rattle.ruled_tick.proofs.Next.{read_gains}
 use Rattle.ruled_tick.proofs.Places.{written_back}
-use Rattle.ruled_tick.proofs.Ruled.{are_ruled, ready, ready_to_tick, ticked_ids, ticked_places, ticked_tiles}
+use Rattle.ruled_tick.proofs.Ruled.{are_ruled, ready_rooms, ready_to_tick, ticked_ids, ticked_places, ticked_tiles}
 use Rattle.ruled_tick.proofs.tick.ruled_rooms.Goals as goal
 
 pub loop-entry-init : goal.loop-entry-init
@@ -155,7 +155,7 @@ world_of_rooms-requires-clause-places c =
     let same : second ≡ new = written_back items new c.loop-entry.rooms.len (long ∙ ap length value) full in
     let final : take c.loop-entry.rooms.len (last ++ drop (length last) second) ≡ last =
     written_back second last c.loop-entry.rooms.len (all_long ∙ ap length third ∙ sym (ap length same)) (full ∙ sym (ap length same ∙ long ∙ ap length value)) in
-    subst AreInPlace (sym (final ∙ rested)) (ready world c.requires.sound entries c.requires.kept.0 c.requires.kept.1 i items c.loop-entry.invariant.acted c.loop-entry-test.false new ticked).places
+    subst AreInPlace (sym (final ∙ rested)) (ready_rooms world c.requires.sound entries c.requires.kept.0 c.requires.kept.1 i items c.loop-entry.invariant.acted c.loop-entry-test.false new ticked).places
 
 pub returns-clause-rooms : goal.returns-clause-rooms
 returns-clause-rooms c =

@@ -1,9 +1,9 @@
-use Rattle.std.proofs.Common.{◌≤◌, List, map, length, sym, ap, subst, ◌∙◌}
+use Rattle.std.proofs.Common.{◌≡◌, ◌≤◌, ◌^◌, List, map, length, sym, ap, subst, ◌∙◌}
 use Rattle.std.specs.List.{AllByRecursion}
 use Rattle.game_tables.specs.Limits.{most_memory}
+use Rattle.intent_book.specs.declared.intent.Intent.{Intent}
 use Rattle.intent_book.specs.declared.player_run.PlayerRun.{PlayerRun}
-use Rattle.kept_entries.specs.declared.entries.Entry.{Entry}
-use Rattle.kept_entries.specs.Turns.{AreKept}
+use Rattle.kept_entries.specs.Split.{AreSplit}
 use Rattle.world_rules.specs.Tick.{book, gained, intents_of, next_world}
 use Rattle.world_rules.specs.World.{world_of}
 use Rattle.upload_stream.specs.Entries.{upload_of}
@@ -13,21 +13,23 @@ use Rattle.hosted_tick.proofs.After.{hosted_after, next_of}
 use Rattle.hosted_tick.proofs.Players.{wanted_by_players}
 use Rattle.hosted_tick.proofs.hosted.Hosted.tick.Goals as goal
 
--- (the entries count of what the runs want)
-pub next_world-requires-clause-kept : goal.next_world-requires-clause-kept
-next_world-requires-clause-kept c =
-    let wanted = intents_of c.in_ok-runs.field-0.runs.items in
-    (wanted, subst (λ (entries : List Entry). AreKept (world_of c.self.inside.world) wanted entries) (sym c.deref.ensures.value) c.in_ok-runs.ensures.kept)
+pub next_world-requires-clause-few : goal.next_world-requires-clause-few
+next_world-requires-clause-few c = subst (λ (r : List PlayerRun). length (intents_of r) ≤ 2 ^ 18) (sym c.deref-2.ensures.value) c.in_ok-runs.ensures.few
+
+pub next_world-requires-clause-split : goal.next_world-requires-clause-split
+next_world-requires-clause-split c =
+    let world = world_of c.self.inside.world in
+    let wanted = c.in_ok-runs.field-0 in
+    subst (λ (lists : List (List Intent)). AreSplit world (intents_of c.deref-2.result.now) lists) (sym c.deref.ensures.value)
+    (subst (λ (r : List PlayerRun). AreSplit world (intents_of r) wanted.lists.items) (sym c.deref-2.ensures.value) c.in_ok-runs.ensures.split)
 
 pub returns-clause-next : goal.returns-clause-next
 returns-clause-next c =
     let world = c.self.inside.world in
     let runs = c.in_ok-runs.field-0.runs.items in
-    let lent = subst (λ (entries : List Entry). AreKept (world_of world) (intents_of runs) entries) (sym c.deref.ensures.value) c.in_ok-runs.ensures.kept in
-    let kept = subst (λ (r : List PlayerRun). AreKept (world_of world) (intents_of r) c.deref.result.now) (sym c.deref-2.ensures.value) lent in
     next_of c.args.self world c.self.inside.modules.entries c.judge_all.new.modules.entries (map upload_of c.args.uploads.now) c.in_ok-records.records.items runs c.in_ok-after.after
     c.self.view_is c.requires.hosted.sound c.in_ok-records.ensures.judged c.in_ok-runs.ensures.runs
-    (c.in_ok-after.ensures.next kept ∙ ap (λ (r : List PlayerRun). next_world (world_of world) r) c.deref-2.ensures.value)
+    (c.in_ok-after.ensures.next ∙ ap (λ (r : List PlayerRun). next_world (world_of world) r) c.deref-2.ensures.value)
 
 pub returns-clause-hosted : goal.returns-clause-hosted
 returns-clause-hosted c =
@@ -35,9 +37,7 @@ returns-clause-hosted c =
     let runs = c.deref-2.result.now in
     let hosted = subst (λ (h : Held). IsHosted h.world) (sym c.self.view_is) c.requires.hosted in
     let short = subst (AllByRecursion (λ (run : PlayerRun). length run.memory ≤ most_memory)) (sym c.deref-2.ensures.value) c.in_ok-runs.ensures.short in
-    let lent = subst (λ (entries : List Entry). AreKept (world_of world) (intents_of c.in_ok-runs.field-0.runs.items) entries) (sym c.deref.ensures.value) c.in_ok-runs.ensures.kept in
-    let kept = subst (λ (r : List PlayerRun). AreKept (world_of world) (intents_of r) c.deref.result.now) (sym c.deref-2.ensures.value) lent in
     let by = subst (λ (r : List PlayerRun). AreByPlayers (world_of world) (intents_of r)) (sym c.deref-2.ensures.value)
     (wanted_by_players world (modules_of c.judge_all.new.modules.entries) c.in_ok-runs.field-0.runs.items hosted.sound.accounts c.in_ok-runs.ensures.runs) in
     let ensured = c.in_ok-after.ensures in
-    hosted_after world c.in_ok-after.after (gained book (world_of world) (intents_of runs)) runs hosted short (ensured.sound (intents_of runs) kept by) ensured.rooms (ensured.accounts (intents_of runs) kept)
+    hosted_after world c.in_ok-after.after (gained book (world_of world) (intents_of runs)) runs hosted short (ensured.sound by) ensured.rooms ensured.accounts

@@ -1,0 +1,15 @@
+pub mod Keeping
+pub mod Gainer
+pub mod Running
+pub mod Gains
+pub mod Coming
+pub mod Stepped
+pub mod Accounted
+pub mod Named
+pub mod Splitting
+pub mod Following
+pub mod Inside
+pub mod Earned
+pub mod Added
+pub mod Whole
+pub mod Next

@@ -1,0 +1,37 @@
+use Rattle.std.proofs.Common.{◌≡◌, List, ap, sym, ◌∙◌, length, arith}
+use Rattle.std.proofs.lemmas.Result.{IfOk-weaker}
+use Rattle.kept_entries.specs.Turns.{in_turn}
+use Rattle.intent_book.specs.declared.intent.Intent.{Intent}
+use Rattle.object_store.specs.Tables.{Table}
+use Rattle.world_rules.specs.RoomParts.{RoomPart, table_part}
+use Rattle.world_rules.specs.RoomTick.{kept_in}
+use Rattle.room_step.specs.Stepping.{IsStepped}
+use Rattle.room_step.specs.declared.step.StepDone.{StepDone}
+use Rattle.room_step.specs.inner.Course.{intents_in}
+use Rattle.room_step.proofs.Stepped.{few_entries, stepped_copy}
+use Rattle.room_step.proofs.step.step_room.Goals as goal
+
+pub overflow_cast-len : goal.overflow_cast-len
+overflow_cast-len c =
+    omega (arith, c.requires.few, c.len.ensures, c.in_ok-entries.entries.ok, few_entries (table_part c.args.ground.now c.args.room.now) c.args.intents.now c.in_ok-entries.entries.items (c.in_ok-entries.ensures c.args.ground.now))
+
+pub step_entries-requires-clause-few : goal.step_entries-requires-clause-few
+step_entries-requires-clause-few c =
+    omega (arith, c.requires.few, ap length c.deref.ensures.value, few_entries (table_part c.args.ground.now c.args.room.now) c.args.intents.now c.in_ok-entries.entries.items (c.in_ok-entries.ensures c.args.ground.now))
+
+pub step_entries-requires-clause-kept : goal.step_entries-requires-clause-kept
+step_entries-requires-clause-kept c =
+    let grounds = c.args.ground.now in
+    let same : table_part grounds c.in_ok-table.table ≡ table_part grounds c.args.room.now = ap (table_part grounds) c.in_ok-table.ensures in
+    (c.args.intents.now, ap intents_in c.deref.ensures.value ∙ c.in_ok-entries.ensures grounds ∙ ap (λ (part : RoomPart). in_turn (kept_in part c.args.intents.now)) (sym same))
+
+pub returns-clause-stepped : goal.returns-clause-stepped
+returns-clause-stepped c =
+    let grounds = c.args.ground.now in
+    let list = c.args.intents.now in
+    let copy : Table = c.in_ok-table.table in
+    let same : table_part grounds copy ≡ table_part grounds c.args.room.now = ap (table_part grounds) c.in_ok-table.ensures in
+    IfOk-weaker c.step_entries.result (λ (done : StepDone). (list : List Intent) → intents_in c.deref.result.now ≡ in_turn (kept_in (table_part grounds copy) list) → IsStepped grounds list copy done)
+    (IsStepped grounds list c.args.room.now)
+    (λ done is. stepped_copy grounds list c.args.room.now copy done same (is list (ap intents_in c.deref.ensures.value ∙ c.in_ok-entries.ensures grounds ∙ ap (λ (part : RoomPart). in_turn (kept_in part list)) (sym same))))
+    c.step_entries.ensures.stepped

@@ -1,0 +1,3 @@
+-- Definitions that private functions and proofs cite alone.
+pub mod Course
+pub mod Rooms

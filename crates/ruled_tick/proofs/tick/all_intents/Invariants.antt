@@ -1,6 +1,0 @@
-use Rattle.std.proofs.Common.{◌≡◌, take}
-use Rattle.world_rules.specs.Tick.{intents_of}
-use Rattle.ruled_tick.proofs.tick.all_intents.Given as goal
-
-abbrev pub invariant-loop-run : goal.invariant-loop-run
-invariant-loop-run l = l.intents.items ≡ intents_of (take l.run-index l.runs)
