@@ -13,7 +13,7 @@ use Rattle.world_rules.specs.World.{Placed, Frame, placed, placed_from, world_li
 use Rattle.world_rules.specs.Rules.{Broken, IsWithinCounts, HasOpenCorner, HasNoBirth, IsOnWrongTile, HasWrongOwner, IsInRangeAs}
 use Rattle.rule_check.specs.declared.view.RoomView.{RoomView}
 use Rattle.rule_check.specs.Views.{viewed_room, IsOrdered}
-use Rattle.rule_check.specs.inner.Checks.{IsLeast, RoomAt, AnyOf, AnyObject, AreWithinCounts, HasNameBefore, IsUnborn, HasWrongHolder, IsBlocked, KeptBelow, ids_in, owners_in}
+use Rattle.rule_check.specs.inner.Checks.{IsLeast, RoomAt, AnyOf, AnyObject, AreWithinCounts, HasNameBefore, IsUnborn, HasWrongHolder, IsBlocked, ids_in, owners_in}
 use Rattle.rule_check.proofs.Minima.{least_like, all_at}
 use Rattle.rule_check.proofs.Twice.{count_two, count_cons, two_of, TwoOf}
 use Rattle.rule_check.proofs.Found.{times}
@@ -104,9 +104,9 @@ least_id rooms accounts found =
     (λ n many. subst (λ (k : ℕ). 2 ≤ k) (sym (times_ids rooms n)) many)
 
 -- after that rule no id is there twice
-pub each_once : (rooms : List RoomView) (accounts : List Account) (place : ℕ) → 5 < place → KeptBelow place (the_world rooms accounts) → EachOnce rooms accounts
-each_once rooms accounts place past kept n =
-    let not_twice : 2 ≤ times n (placed (the_world rooms accounts)) → ⊥ = kept rules.IdTwice n (omega arith) in
+pub each_once : (rooms : List RoomView) (accounts : List Account) → ((n : ℕ) → Broken rules.IdTwice n (the_world rooms accounts) → ⊥) → EachOnce rooms accounts
+each_once rooms accounts kept n =
+    let not_twice : 2 ≤ times n (placed (the_world rooms accounts)) → ⊥ = kept n in
     omega arith
 
 -- ---- single objects

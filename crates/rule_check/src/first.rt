@@ -1,8 +1,8 @@
 // The first rule that is broken.
 ghost use Rattle.std.specs.Prelude.{◌≡◌, ◌<◌, ◌^◌, ℕ, length, IfOk, IfSome, IfNone};
 ghost use Rattle.std.specs.List.{AllByRecursion};
-ghost use Rattle.world_rules.specs.Rules.{Broken, IsFirstBroken, KeepsRules, rule_place};
-ghost use Rattle.rule_check.specs.inner.Checks.{IsLeast, KeptBelow};
+ghost use Rattle.world_rules.specs.Rules.{Broken, IsFirstBroken, KeepsRules};
+ghost use Rattle.rule_check.specs.inner.Checks.{IsLeast, IsPastIds};
 ghost use Rattle.rule_check.specs.Views.{viewed, IsOrdered};
 
 use crate::counts::{are_within_counts, least_crowded};
@@ -18,8 +18,8 @@ use object_store::Account;
 use std::alloc::{AllocError, Global};
 use world_rules::Rule;
 
-// The order of the tests.
-const ORDER: [Rule; 12] = [
+/// The order of the tests.
+pub(crate) const ORDER: [Rule; 12] = [
     Rule::Counts,
     Rule::RoomTwice,
     Rule::Corner,
@@ -62,15 +62,15 @@ pub fn first_broken(
     Ok(None)
 }
 
-// The least number at which this rule is broken, where the ones before it are kept.
-fn least_broken(
+/// The least number at which this rule is broken, where no id is there twice if that is tested before.
+pub(crate) fn least_broken(
     alloc: Global,
     rule: Rule,
     rooms: &[RoomView],
     accounts: &[Account],
 ) -> Result<Option<u64>, AllocError>
     requires ordered { AllByRecursion IsOrdered rooms.now }
-    requires kept { KeptBelow (rule_place rule) (viewed rooms.now accounts.now 0) }
+    requires once { IsPastIds rule (viewed rooms.now accounts.now 0) }
     ensures { IfOk result (λ found. IsLeast (λ n. Broken rule n (viewed rooms.now accounts.now 0)) found) }
 {
     match rule {

@@ -5,6 +5,7 @@
 mod counts;
 mod first;
 mod ids;
+mod keeps;
 mod least;
 mod objects;
 mod players;
@@ -15,4 +16,5 @@ mod tiles;
 mod view;
 
 pub use first::first_broken;
+pub use keeps::keeps_rules;
 pub use view::RoomView;

@@ -24,29 +24,29 @@ returns-in_ok-ids_of-in-IdTwice c = rw c.in-IdTwice.is (least_id c.args.rooms.no
 pub returns-in-Tile : goal.returns-in-Tile
 returns-in-Tile c =
     rw c.in-Tile.is
-    (least_tile c.args.rooms.now c.args.accounts.now c.least_object-in-Tile.result (each_once c.args.rooms.now c.args.accounts.now 6 (omega arith) (rw c.in-Tile.is at c.requires.kept)) c.least_object-in-Tile.ensures)
+    (least_tile c.args.rooms.now c.args.accounts.now c.least_object-in-Tile.result (each_once c.args.rooms.now c.args.accounts.now (rw c.in-Tile.is at c.requires.once (omega arith))) c.least_object-in-Tile.ensures)
 
 pub returns-in-Shared : goal.returns-in-Shared
 returns-in-Shared c =
     rw c.in-Shared.is
     (IfOk-weaker c.least_blocked.result (λ found. IsLeast (AnyOf (λ room. IsBlocked room.objects.now) c.args.rooms.now) found) (λ found. IsLeast (λ n. Broken rules.Shared n (the_world c.args.rooms.now c.args.accounts.now)) found)
-    (λ found. least_shared_tile c.args.rooms.now c.args.accounts.now found c.requires.ordered (each_once c.args.rooms.now c.args.accounts.now 7 (omega arith) (rw c.in-Shared.is at c.requires.kept))) c.least_blocked.ensures)
+    (λ found. least_shared_tile c.args.rooms.now c.args.accounts.now found c.requires.ordered (each_once c.args.rooms.now c.args.accounts.now (rw c.in-Shared.is at c.requires.once (omega arith)))) c.least_blocked.ensures)
 
 pub returns-in-Owner : goal.returns-in-Owner
 returns-in-Owner c =
     rw c.in-Owner.is
-    (least_owner c.args.rooms.now c.args.accounts.now c.least_object-in-Owner.result (each_once c.args.rooms.now c.args.accounts.now 8 (omega arith) (rw c.in-Owner.is at c.requires.kept)) c.least_object-in-Owner.ensures)
+    (least_owner c.args.rooms.now c.args.accounts.now c.least_object-in-Owner.result (each_once c.args.rooms.now c.args.accounts.now (rw c.in-Owner.is at c.requires.once (omega arith))) c.least_object-in-Owner.ensures)
 
 pub returns-in-Controllers : goal.returns-in-Controllers
 returns-in-Controllers c =
     rw c.in-Controllers.is
-    (least_controllers c.args.rooms.now c.args.accounts.now c.first_room-in-Controllers.result c.requires.ordered (each_once c.args.rooms.now c.args.accounts.now 9 (omega arith) (rw c.in-Controllers.is at c.requires.kept))
+    (least_controllers c.args.rooms.now c.args.accounts.now c.first_room-in-Controllers.result c.requires.ordered (each_once c.args.rooms.now c.args.accounts.now (rw c.in-Controllers.is at c.requires.once (omega arith)))
     c.first_room-in-Controllers.ensures)
 
 pub returns-in-Range : goal.returns-in-Range
 returns-in-Range c =
     rw c.in-Range.is
-    (least_range c.args.rooms.now c.args.accounts.now c.least_object-in-Range.result (each_once c.args.rooms.now c.args.accounts.now 10 (omega arith) (rw c.in-Range.is at c.requires.kept)) c.least_object-in-Range.ensures)
+    (least_range c.args.rooms.now c.args.accounts.now c.least_object-in-Range.result (each_once c.args.rooms.now c.args.accounts.now (rw c.in-Range.is at c.requires.once (omega arith))) c.least_object-in-Range.ensures)
 
 pub returns-in_ok-players_of-in-PlayerTwice : goal.returns-in_ok-players_of-in-PlayerTwice
 returns-in_ok-players_of-in-PlayerTwice c =
