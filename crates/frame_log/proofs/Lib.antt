@@ -1,0 +1,4 @@
+pub mod Frames
+pub mod Ends
+pub mod Once
+pub mod Reading

@@ -1,0 +1,100 @@
+// A log on a disk in memory: what its bytes are, and what a stop at each call of the disk leaves.
+ghost use Rattle.std.specs.Prelude.{◌<◌, ◌^◌, length};
+
+use frame_log::{AppendFault, Behind, Log, read_frame};
+use std::alloc::{AllocError, Global};
+use std::test::Fail;
+use world_io::{Disk, MemoryDisk};
+
+// Two bytes, none, and one more, behind open gates.
+const WHOLE: &[u8] =
+    b"\x01\x02\0\0\0\0\0\0\0ab\x01\0\0\0\0\0\0\0\0\x01\x01\0\0\0\0\0\0\0c\0";
+
+// A disk of these bytes, of which all calls fail after the one of the number `stop`.
+fn disk_of(alloc: Global, bytes: &[u8], stop: Option<u64>) -> Result<MemoryDisk, AllocError>
+    requires { length bytes.now < 2 ^ 62 }
+{
+    Ok(MemoryDisk::new(
+        Vec::from_slice(alloc, bytes)?,
+        Vec::new(alloc),
+        stop,
+    ))
+}
+
+// What stands at a gate of a disk of these bytes: a content, or nothing where the gate is closed. A frame that
+// is broken is an error.
+fn behind(alloc: Global, bytes: &[u8], gate: u64) -> Result<Option<Vec<u8>>, Fail>
+    requires { length bytes.now < 2 ^ 62 }
+{
+    let mut disk = disk_of(alloc, bytes, None)?;
+    let len = bytes.len() as u64;
+    if gate >= len {
+        return Err("no gate".into());
+    }
+    match read_frame(alloc, &mut disk, len, gate) {
+        Ok(Behind::Closed) => Ok(None),
+        Ok(Behind::Frame(content)) => Ok(Some(content)),
+        Ok(Behind::Broken) => Err("broken".into()),
+        Err(_) => Err("no memory".into()),
+    }
+}
+
+#[test]
+fn contents_are_kept_and_read_back(rt: HostRuntime) -> Result<(), Fail> {
+    let alloc = rt.alloc();
+    let mut disk = disk_of(alloc, &[0, 5, 6], None)?;
+    let Ok(mut log) = Log::create(alloc, &mut disk, b"ab") else {
+        return Err("not made".into());
+    };
+    assert!(rt; log.append(alloc, &mut disk, b"").is_ok());
+    assert!(rt; log.append(alloc, &mut disk, b"c").is_ok());
+    assert_eq!(rt; disk.bytes(), WHOLE);
+    for (gate, content) in [(0, b"ab".as_slice()), (11, b"".as_slice()), (20, b"c".as_slice())] {
+        assert_eq!(rt; behind(alloc, WHOLE, gate)?.as_deref(), Some(content));
+    }
+    assert!(rt; behind(alloc, WHOLE, 30)?.is_none());
+    assert!(rt; behind(alloc, &WHOLE[..30], 20).is_err());
+    let long = vec![in alloc; 7u8; 70_000]?;
+    assert!(rt; log.append(alloc, &mut disk, &long).is_ok());
+    assert_eq!(rt; disk.bytes().len(), 31 + 9 + 70_000);
+    Ok(())
+}
+
+// How many of the contents `ab` and `c` stand on an image.
+fn standing(alloc: Global, image: &[u8]) -> Result<u64, Fail>
+    requires { length image.now < 2 ^ 62 }
+{
+    if image.len() <= 1 || image[0] == 0 {
+        return Ok(0);
+    }
+    if behind(alloc, image, 0)?.as_deref() != Some(b"ab".as_slice()) {
+        return Err("another first content".into());
+    }
+    match behind(alloc, image, 11)? {
+        None => Ok(1),
+        Some(content) if content.as_slice() == b"c" => Ok(2),
+        Some(_) => Err("another second content".into()),
+    }
+}
+
+#[test]
+fn a_stop_leaves_what_stood(rt: HostRuntime) -> Result<(), Fail> {
+    let alloc = rt.alloc();
+    for stop in 0..10 {
+        for pick in [0, 1, 2, 255] {
+            let mut disk = disk_of(alloc, &[], Some(stop))?;
+            let mut done = 0;
+            if let Ok(mut log) = Log::create(alloc, &mut disk, b"ab") {
+                done = 1;
+                match log.append(alloc, &mut disk, b"c") {
+                    Ok(()) => done = 2,
+                    Err(_) => assert_eq!(rt; log.append(alloc, &mut disk, b"d"), Err(AppendFault::Closed)),
+                }
+            }
+            let image = disk.crash(alloc, pick)?;
+            let stands = standing(alloc, image.bytes())?;
+            assert!(rt; done <= stands && stands <= 2);
+        }
+    }
+    Ok(())
+}
