@@ -4,7 +4,11 @@
 #![tactic(auto)]
 
 #[cfg(test)]
+mod base_tests;
+#[cfg(test)]
 mod bytes_tests;
+#[cfg(test)]
+mod content_tests;
 #[cfg(test)]
 mod device_tests;
 #[cfg(test)]

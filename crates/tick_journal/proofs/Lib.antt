@@ -1,1 +1,9 @@
+pub mod AccountLists
+pub mod BaseContents
+pub mod Canonical
+pub mod Listed
+pub mod ListsAhead
+pub mod Recorded
+pub mod Rising
+pub mod Ticks
 pub mod Written

@@ -3,13 +3,14 @@ use Rattle.std.proofs.Common.{◌≡◌, ℕ, List, [], ◌∷◌, ◌++◌, map
 use Rattle.std.specs.List.{flat_map}
 use Rattle.byteorder.specs.Endian.{little_bytes}
 use Rattle.room_terrain.specs.Tiles.{ground_number}
-use Rattle.intent_book.specs.declared.player_run.PlayerRun.{PlayerRun}
 use Rattle.object_store.specs.declared.world.Room.{Room}
 use Rattle.object_store.specs.Stored.{Stored}
 use Rattle.world_bytes.specs.Forms.{account_bytes, intent_bytes, room_bytes}
 use Rattle.world_bytes.proofs.Written.{then_written}
+use Rattle.tick_journal.specs.declared.entries.RunEntry.{RunEntry}
 use Rattle.tick_journal.specs.declared.entries.UploadEntry.{UploadEntry}
-use Rattle.tick_journal.specs.Contents.{magic, signed_bytes, base_room, base_content, upload_bytes, outcome_bytes, run_bytes, tick_content, whole_record}
+use Rattle.tick_journal.specs.declared.tick_record.TickRecord.{TickRecord}
+use Rattle.tick_journal.specs.Contents.{magic, signed_bytes, base_room, base_content, upload_bytes, outcome_bytes, run_bytes, tick_content}
 use Rattle.tick_journal.specs.inner.Lists.{listed}
 
 -- a list behind its number, and behind another piece
@@ -37,18 +38,18 @@ upload_written entry old a b c new e f g h =
     let three = then_written old b c _ (little_bytes 4 (length entry.bytes)) two g in
     then_written old c new _ entry.bytes three h
 
-pub run_written : (run : PlayerRun) (old a b c new : List ℕ) → a ≡ old ++ little_bytes 4 run.player → b ≡ a ++ outcome_bytes run.outcome → c ≡ b ++ little_bytes 8 run.used → new ≡ c ++ listed intent_bytes run.intents → new ≡ old ++ run_bytes run
+pub run_written : (run : RunEntry) (old a b c new : List ℕ) → a ≡ old ++ little_bytes 4 run.player → b ≡ a ++ outcome_bytes run.outcome → c ≡ b ++ little_bytes 8 run.used → new ≡ c ++ listed intent_bytes run.intents → new ≡ old ++ run_bytes run
 unfolding run_bytes
 run_written run old a b c new e f g h =
     let two = then_written old a b (little_bytes 4 run.player) (outcome_bytes run.outcome) e f in
     let three = then_written old b c _ (little_bytes 8 run.used) two g in
     list_written intent_bytes run.intents old c new _ three h
 
-pub tick_written : (uploads : List UploadEntry) (runs : List PlayerRun) (world : Stored) (tag tick a b c whole : List ℕ) → tag ≡ 0x54 ∷ [] → tick ≡ tag ++ little_bytes 8 world.tick → a ≡ tick ++ listed upload_bytes uploads → b ≡ a ++ listed run_bytes runs → c ≡ b ++ listed account_bytes world.accounts → whole ≡ c ++ listed room_bytes (map (λ room. room.table) world.rooms) → whole ≡ tick_content (whole_record uploads runs world)
+pub tick_written : (entry : TickRecord) (tag tick a b c whole : List ℕ) → tag ≡ 0x54 ∷ [] → tick ≡ tag ++ little_bytes 8 entry.tick → a ≡ tick ++ listed upload_bytes entry.uploads → b ≡ a ++ listed run_bytes entry.runs → c ≡ b ++ listed account_bytes entry.accounts → whole ≡ c ++ listed room_bytes entry.rooms → whole ≡ tick_content entry
 unfolding tick_content
-tick_written uploads runs world tag tick a b c whole e f g h i j =
-    let one = then_written [] tag tick (0x54 ∷ []) (little_bytes 8 world.tick) e f in
-    let two = list_written upload_bytes uploads [] tick a _ one g in
-    let three = list_written run_bytes runs [] a b _ two h in
-    let four = list_written account_bytes world.accounts [] b c _ three i in
-    list_written room_bytes (map (λ (room : Room). room.table) world.rooms) [] c whole _ four j
+tick_written entry tag tick a b c whole e f g h i j =
+    let one = then_written [] tag tick (0x54 ∷ []) (little_bytes 8 entry.tick) e f in
+    let two = list_written upload_bytes entry.uploads [] tick a _ one g in
+    let three = list_written run_bytes entry.runs [] a b _ two h in
+    let four = list_written account_bytes entry.accounts [] b c _ three i in
+    list_written room_bytes entry.rooms [] c whole _ four j

@@ -5,15 +5,15 @@ use Rattle.std.specs.List.{flat_map}
 use Rattle.std.specs.Int.{w32, cast_unsigned}
 use Rattle.byteorder.specs.Endian.{little_bytes}
 use Rattle.room_terrain.specs.Tiles.{ground_number}
-use Rattle.object_store.specs.declared.account.Account.{Account}
 use Rattle.object_store.specs.declared.world.Room.{Room}
-use Rattle.object_store.specs.Tables.{Table}
 use Rattle.object_store.specs.Stored.{Stored}
 use Rattle.intent_book.specs.declared.player_run.PlayerRun.{PlayerRun}
 use Rattle.intent_book.specs.declared.player_run.RunOutcome.{RunOutcome}
 use Rattle.intent_book.specs.declared.player_run.RunOutcome.TheVariants.{Finished, Trapped, Spent}
 use Rattle.world_bytes.specs.Forms.{account_bytes, intent_bytes, room_bytes}
+use Rattle.tick_journal.specs.declared.entries.RunEntry.{RunEntry}
 use Rattle.tick_journal.specs.declared.entries.UploadEntry.{UploadEntry}
+use Rattle.tick_journal.specs.declared.tick_record.TickRecord.{TickRecord}
 
 -- ---- the base
 
@@ -44,15 +44,6 @@ base_content world =
 
 -- ---- a tick
 
--- what is recorded of a tick: the number of the world after it, the uploads with their results, the runs, and
--- accounts and rooms after it
-pub record TickRecord : Type 0 where
-  pub tick : ℕ
-  pub uploads : List UploadEntry
-  pub runs : List PlayerRun
-  pub accounts : List Account
-  pub rooms : List Table
-
 -- an upload: its player, the number of its result, and its bytes behind their number
 unfoldable pub upload_bytes : UploadEntry → List ℕ
 upload_bytes entry =
@@ -66,7 +57,7 @@ outcome_bytes Spent = 2 ∷ 0 ∷ []
 
 -- a run: its player, its outcome, the instructions that it used, and what it wants behind its number; the
 -- memory text stands in the account
-unfoldable pub run_bytes : PlayerRun → List ℕ
+unfoldable pub run_bytes : RunEntry → List ℕ
 run_bytes run =
     little_bytes 4 run.player
     ++ outcome_bytes run.outcome
@@ -88,13 +79,18 @@ tick_content entry =
     ++ little_bytes 4 (length entry.rooms)
     ++ flat_map room_bytes entry.rooms
 
+-- what is recorded of a run: all but its memory text
+abbrev pub run_entry : PlayerRun → RunEntry
+run_entry run =
+    record { player = run.player; outcome = run.outcome; used = run.used; intents = run.intents }
+
 -- the record of a tick that holds every account and every room
 abbrev pub whole_record : List UploadEntry → List PlayerRun → Stored → TickRecord
 whole_record uploads runs world =
     record {
       tick = world.tick;
       uploads = uploads;
-      runs = runs;
+      runs = map run_entry runs;
       accounts = world.accounts;
       rooms = map (λ room. room.table) world.rooms;
     }

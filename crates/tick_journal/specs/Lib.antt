@@ -1,2 +1,5 @@
+pub mod Accounts
+pub mod BaseForms
 pub mod Contents
+pub mod TickForms
 pub mod inner

@@ -10,6 +10,12 @@ use object_store::Room;
 use room_terrain::Ground;
 use world_bytes::{put_length, write_room};
 
+/// What a base content begins with.
+pub(crate) const MARK: [u8; 4] = *b"SWSJ";
+
+/// The version of a base content: the number of the rules in force.
+pub(crate) const VERSION: u32 = 1;
+
 // Writes a column or a row.
 fn put_signed(number: i32, out: &mut Vec<u8>) -> Result<(), NoMemory>
     ensures { OnOk result (out.new.items ≡ out.old.items ++ signed_bytes number) }

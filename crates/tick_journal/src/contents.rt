@@ -1,14 +1,15 @@
 // The contents of frames, as bytes.
 ghost use Rattle.std.specs.Prelude.{◌≡◌, ◌++◌, IfOk, OnOk};
 ghost use Rattle.byteorder.specs.Endian.{little_bytes};
-ghost use Rattle.tick_journal.specs.Contents.{base_content as base_bytes, magic, tick_content as tick_bytes, whole_record};
+ghost use Rattle.tick_journal.specs.Contents.{base_content, magic, tick_content as tick_bytes, whole_record};
 
-use crate::base::put_base_rooms;
-use crate::entries::UploadEntry;
-use crate::parts::{put_accounts, put_runs, put_tables, put_uploads};
+use crate::base::{MARK, VERSION, put_base_rooms};
+use crate::entries::{RunEntry, UploadEntry};
+use crate::parts::{put_accounts, put_player_runs, put_rooms, put_runs, put_tables, put_uploads};
+use crate::tick_record::TickRecord;
 use byte_fields::{put_u32, put_u64};
 use intent_book::PlayerRun;
-use object_store::{Account, Room, World};
+use object_store::{Account, Room, RoomTable, World};
 use std::alloc::{AllocError as NoMemory, Global};
 
 // The most bytes of a content beside the entries of its lists.
@@ -20,12 +21,25 @@ const TICK_ROOM: u16 = 12;
 
 const BASE_ROOM: u16 = 2_520;
 
-// Reckons the bytes of rooms: so many for each, and 52 for an object, whose body is left out.
+// Reckons the bytes of a room: so many, and 52 for an object, whose body is left out.
+fn room_size(each: u16, table: &RoomTable) -> usize {
+    usize::from(each) + 52 * (table.len() as usize)
+}
+
+// Reckons the bytes of rooms.
 fn rooms_size(each: u16, rooms: &[Room]) -> usize {
     let mut bytes = 0usize;
     for room in rooms {
-        let objects = room.table.len() as usize;
-        bytes = bytes.saturating_add(usize::from(each) + 52 * objects);
+        bytes = bytes.saturating_add(room_size(each, &room.table));
+    }
+    bytes
+}
+
+// Reckons the bytes of tables in a tick.
+fn tables_size(tables: &[RoomTable]) -> usize {
+    let mut bytes = 0usize;
+    for table in tables {
+        bytes = bytes.saturating_add(room_size(TICK_ROOM, table));
     }
     bytes
 }
@@ -50,13 +64,25 @@ fn uploads_size(uploads: &[UploadEntry]) -> usize {
     bytes
 }
 
-// Reckons the bytes of runs: 26 for an intent, whose body is left out.
-fn runs_size(runs: &[PlayerRun]) -> usize {
+// Reckons the bytes of a run of so many intents: 26 for each, whose body is left out.
+fn run_size(intents: usize) -> usize {
+    intents.saturating_mul(26).saturating_add(18)
+}
+
+// Reckons the bytes of runs.
+fn player_runs_size(runs: &[PlayerRun]) -> usize {
     let mut bytes = 0usize;
     for run in runs {
-        let intents = run.intents.as_slice().len();
-        bytes = bytes.saturating_add(18);
-        bytes = bytes.saturating_add(intents.saturating_mul(26));
+        bytes = bytes.saturating_add(run_size(run.intents.as_slice().len()));
+    }
+    bytes
+}
+
+// Reckons the bytes of recorded runs.
+fn runs_size(runs: &[RunEntry]) -> usize {
+    let mut bytes = 0usize;
+    for run in runs {
+        bytes = bytes.saturating_add(run_size(run.intents.as_slice().len()));
     }
     bytes
 }
@@ -70,19 +96,19 @@ fn together(sizes: &[usize]) -> usize {
     bytes
 }
 
-// Writes what a journal begins with: its mark, its version, which is 1, and the tick of its world.
+// Writes what a journal begins with: its mark, its version and the tick of its world.
 fn put_start(tick: u64, out: &mut Vec<u8>) -> Result<(), NoMemory>
     ensures { OnOk result
         (out.new.items ≡ out.old.items ++ (magic ++ little_bytes 4 1 ++ little_bytes 8 tick)) }
 {
-    out.extend_from_slice(b"SWSJ")?;
-    put_u32(out, 1)?;
+    out.extend_from_slice(&MARK)?;
+    put_u32(out, VERSION)?;
     put_u64(out, tick)
 }
 
 /// The content of a journal's first frame: the world that it begins with.
-pub fn base_content(alloc: Global, world: &World) -> Result<Vec<u8>, NoMemory>
-    ensures { IfOk result (λ bytes. bytes.items ≡ base_bytes world.now) }
+pub fn write_base(alloc: Global, world: &World) -> Result<Vec<u8>, NoMemory>
+    ensures { IfOk result (λ bytes. bytes.items ≡ base_content world.now) }
 {
     let rooms = rooms_size(BASE_ROOM, world.room_list());
     let accounts = accounts_size(world.account_list());
@@ -104,13 +130,43 @@ pub fn tick_content(
 {
     let rooms = rooms_size(TICK_ROOM, world.room_list());
     let accounts = accounts_size(world.account_list());
-    let entries = [uploads_size(uploads), runs_size(runs), accounts, rooms];
+    let entries = [
+        uploads_size(uploads),
+        player_runs_size(runs),
+        accounts,
+        rooms,
+    ];
     let mut out = Vec::with_capacity(alloc, together(&entries))?;
     out.push(b'T')?;
     put_u64(&mut out, world.tick())?;
     put_uploads(uploads, &mut out)?;
-    put_runs(runs, &mut out)?;
+    put_player_runs(runs, &mut out)?;
     put_accounts(world.account_list(), &mut out)?;
-    put_tables(world.room_list(), &mut out)?;
+    put_rooms(world.room_list(), &mut out)?;
+    Ok(out)
+}
+
+/// The content of a tick's frame. A record that has no form is written too, and is not read again as
+/// it was.
+pub fn write_tick(alloc: Global, entry: &TickRecord) -> Result<Vec<u8>, NoMemory>
+    ensures { IfOk result (λ bytes. bytes.items ≡ tick_bytes entry.now) }
+{
+    let judged = entry.uploads.as_slice();
+    let runs = entry.runs.as_slice();
+    let accounts = entry.accounts.as_slice();
+    let tables = entry.rooms.as_slice();
+    let sizes = [
+        uploads_size(judged),
+        runs_size(runs),
+        accounts_size(accounts),
+        tables_size(tables),
+    ];
+    let mut out = Vec::with_capacity(alloc, together(&sizes))?;
+    out.push(b'T')?;
+    put_u64(&mut out, entry.tick)?;
+    put_uploads(judged, &mut out)?;
+    put_runs(runs, &mut out)?;
+    put_accounts(accounts, &mut out)?;
+    put_tables(tables, &mut out)?;
     Ok(out)
 }

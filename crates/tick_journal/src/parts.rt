@@ -1,14 +1,14 @@
 // Uploads, runs, accounts and rooms of a tick, written to the end of bytes.
 ghost use Rattle.std.specs.Prelude.{◌≡◌, ◌++◌, map, OnOk};
-ghost use Rattle.tick_journal.specs.Contents.{outcome_bytes, run_bytes, upload_bytes};
+ghost use Rattle.tick_journal.specs.Contents.{outcome_bytes, run_bytes, run_entry, upload_bytes};
 ghost use Rattle.tick_journal.specs.inner.Lists.{listed};
 ghost use Rattle.world_bytes.specs.Forms.{account_bytes, intent_bytes, room_bytes};
 
 use crate::NoMemory;
-use crate::entries::UploadEntry;
+use crate::entries::{RunEntry, UploadEntry};
 use byte_fields::{put_u32, put_u64};
 use intent_book::{Intent, PlayerRun, RunOutcome};
-use object_store::{Account, Room};
+use object_store::{Account, Room, RoomTable};
 use world_bytes::{put_length, write_account, write_intent, write_room};
 
 // Writes an upload, with its bytes behind their number.
@@ -54,23 +54,53 @@ fn put_intents(intents: &[Intent], out: &mut Vec<u8>) -> Result<(), NoMemory>
     Ok(())
 }
 
-// Writes a run without its memory text.
-fn put_run(run: &PlayerRun, out: &mut Vec<u8>) -> Result<(), NoMemory>
-    ensures { OnOk result (out.new.items ≡ out.old.items ++ run_bytes run.now) }
+// Writes a run.
+fn put_run(
+    player: u32,
+    outcome: RunOutcome,
+    used: u64,
+    intents: &[Intent],
+    out: &mut Vec<u8>,
+) -> Result<(), NoMemory>
+    ensures { OnOk result (out.new.items ≡ out.old.items ++ run_bytes
+        (record { player = player; outcome = outcome; used = used; intents = intents.now })) }
 {
-    put_u32(out, run.player)?;
-    out.extend_from_slice(&outcome_numbers(run.outcome))?;
-    put_u64(out, run.used)?;
-    put_intents(run.intents.as_slice(), out)
+    put_u32(out, player)?;
+    out.extend_from_slice(&outcome_numbers(outcome))?;
+    put_u64(out, used)?;
+    put_intents(intents, out)
 }
 
-/// Writes runs behind their number.
-pub(crate) fn put_runs(runs: &[PlayerRun], out: &mut Vec<u8>) -> Result<(), NoMemory>
+/// Writes recorded runs behind their number.
+pub(crate) fn put_runs(runs: &[RunEntry], out: &mut Vec<u8>) -> Result<(), NoMemory>
     ensures { OnOk result (out.new.items ≡ out.old.items ++ listed run_bytes runs.now) }
 {
     put_length(runs.len() as u64, out)?;
     'each: for run in runs {
-        put_run(run, out)?;
+        put_run(
+            run.player,
+            run.outcome,
+            run.used,
+            run.intents.as_slice(),
+            out,
+        )?;
+    }
+    Ok(())
+}
+
+/// Writes runs without their memory texts, behind their number.
+pub(crate) fn put_player_runs(runs: &[PlayerRun], out: &mut Vec<u8>) -> Result<(), NoMemory>
+    ensures { OnOk result (out.new.items ≡ out.old.items ++ listed run_bytes (map run_entry runs.now)) }
+{
+    put_length(runs.len() as u64, out)?;
+    'each: for run in runs {
+        put_run(
+            run.player,
+            run.outcome,
+            run.used,
+            run.intents.as_slice(),
+            out,
+        )?;
     }
     Ok(())
 }
@@ -86,8 +116,19 @@ pub(crate) fn put_accounts(accounts: &[Account], out: &mut Vec<u8>) -> Result<()
     Ok(())
 }
 
+/// Writes tables of rooms behind their number.
+pub(crate) fn put_tables(tables: &[RoomTable], out: &mut Vec<u8>) -> Result<(), NoMemory>
+    ensures { OnOk result (out.new.items ≡ out.old.items ++ listed room_bytes tables.now) }
+{
+    put_length(tables.len() as u64, out)?;
+    'each: for table in tables {
+        write_room(table.index(), table, out)?;
+    }
+    Ok(())
+}
+
 /// Writes rooms without their names and terrains, behind their number.
-pub(crate) fn put_tables(rooms: &[Room], out: &mut Vec<u8>) -> Result<(), NoMemory>
+pub(crate) fn put_rooms(rooms: &[Room], out: &mut Vec<u8>) -> Result<(), NoMemory>
     ensures { OnOk result
         (out.new.items ≡ out.old.items ++ listed room_bytes (map (λ room. room.table) rooms.now)) }
 {

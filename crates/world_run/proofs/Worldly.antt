@@ -1,5 +1,5 @@
 -- Runs of stored worlds are runs of the worlds that they store: the same journal, the same lines, the same ticks.
-use Rattle.std.proofs.Common.{◌≡◌, ℕ, suc, ◌+◌, ◌<◌, ◌≤◌, List, [], ◌∷◌, ◌++◌, length, map, take, Option, Some, None, option_map, refl, sym, ap, subst, ◌∙◌, append_assoc}
+use Rattle.std.proofs.Common.{◌≡◌, ℕ, suc, ◌≤◌, List, [], ◌∷◌, ◌++◌, length, map, take, Option, Some, None, option_map, refl, sym, ap, subst, ◌∙◌, append_assoc}
 use Rattle.std.specs.Prelude.{slice_get}
 use Rattle.std.specs.List.{All, AllByRecursion, flat_map}
 use Rattle.std.specs.FinMap.{get, values}
@@ -11,7 +11,7 @@ use Rattle.object_store.specs.declared.object.Object.{Object}
 use Rattle.object_store.specs.declared.world.Room.{Room}
 use Rattle.object_store.specs.Tallies.{no_tallies}
 use Rattle.object_store.specs.Stored.{Stored}
-use Rattle.object_store.specs.Tables.{Table, IsRising}
+use Rattle.object_store.specs.Tables.{IsRising}
 use Rattle.intent_book.specs.declared.player_run.PlayerRun.{PlayerRun}
 use Rattle.world_rules.specs.World.{World, Frame, Listing, ListedRoom, framed_from, listing_of, world_of}
 use Rattle.world_rules.specs.World as worlds
@@ -23,12 +23,13 @@ use Rattle.world_rules.proofs.Lifting.{frames_stored, frame_stored, part_of_stor
 use Rattle.std.proofs.lemmas.Option.{get_or_from_slice_get, slice_get_within}
 use Rattle.world_bytes.specs.Forms.{room_bytes}
 use Rattle.upload_stream.specs.Streams.{Upload}
-use Rattle.tick_journal.specs.Contents.{base_room, base_content, tick_content, whole_record}
+use Rattle.tick_journal.specs.Contents.{base_content, tick_content, whole_record}
 use Rattle.tick_journal.specs.declared.entries.UploadEntry.{UploadEntry}
+use Rattle.tick_journal.proofs.BaseContents.{as_read_same}
 use Rattle.hosted_tick.specs.Hosting.{Held, IsHosted, state_of}
 use Rattle.world_run.specs.Lines.{object_count, total_energy, start_line, tick_line, tick_lines}
 use Rattle.world_run.specs.Listed.{listed_room, listed}
-use Rattle.world_run.specs.Runs.{Step, HasSerials, IsExhausted, Follow, last_of, opened, base_frame, step_frame, step_lines, journal, output, frame, AppendsPart, Fills}
+use Rattle.world_run.specs.Runs.{Step, HasSerials, IsExhausted, Follow, last_of, base_frame, step_frame, step_lines, journal, output, frame, AppendsPart, Fills}
 use Rattle.world_run.specs.inner.Held as held
 use Rattle.world_run.specs.Ends.{CutsLast}
 
@@ -82,17 +83,9 @@ listed_is stored s =
 
 -- ---- that room is in no frame and in no line
 
-flat_same : {A B : Type 0} (f : A → List B) (g : A → A) → ((x : A) → f (g x) ≡ f x) → (xs : List A) → flat_map f (map g xs) ≡ flat_map f xs
-flat_same f g same [] = refl
-flat_same f g same (x ∷ xs) = let rest = flat_same f g same xs in λ i. same x i ++ rest i
-
 mapped_same : {A B : Type 0} (f : A → B) (g : A → A) → ((x : A) → f (g x) ≡ f x) → (xs : List A) → map f (map g xs) ≡ map f xs
 mapped_same f g same [] = refl
 mapped_same f g same (x ∷ xs) = let rest = mapped_same f g same xs in λ i. same x i ∷ rest i
-
-room_same : (room : Room) → base_room (bare_room room) ≡ base_room room
-unfolding base_room room_bytes
-room_same room = refl
 
 table_same : (room : Room) → room_bytes (bare_room room).table ≡ room_bytes room.table
 unfolding room_bytes
@@ -110,13 +103,6 @@ many_tables (room ∷ rooms) = ap suc (many_tables rooms)
 many_rooms : (rooms : List Room) → length (map bare_room rooms) ≡ length rooms
 many_rooms [] = refl
 many_rooms (room ∷ rooms) = ap suc (many_rooms rooms)
-
-base_same : (stored : Stored) → base_content (bare stored) ≡ base_content stored
-unfolding base_content
-base_same stored =
-    let many = many_rooms stored.rooms in
-    let flat = flat_same base_room bare_room room_same stored.rooms in
-    rw (many, flat)
 
 tick_same : (uploads : List UploadEntry) (runs : List PlayerRun) (stored : Stored) → tick_content (whole_record uploads runs (bare stored)) ≡ tick_content (whole_record uploads runs stored)
 unfolding tick_content
@@ -160,7 +146,7 @@ abbrev AreSound : List held.Step → Type 0
 AreSound steps = AllByRecursion (λ step. IsSound step.after.world) steps
 
 base_shown : (first : Stored) → IsSound first → base_frame (world_of first) ≡ held.base_frame first
-base_shown first s = ap frame (ap base_content (listed_is first s) ∙ base_same first)
+base_shown first s = ap frame (ap base_content (listed_is first s) ∙ as_read_same first)
 
 step_shown : (step : held.Step) → IsSound step.after.world → step_frame (shown step) ≡ held.step_frame step
 step_shown step s = ap frame (ap (λ (w : Stored). tick_content (whole_record step.uploads step.runs w)) (listed_is step.after.world s) ∙ tick_same step.uploads step.runs step.after.world)

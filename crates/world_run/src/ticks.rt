@@ -19,7 +19,7 @@ use crate::status::Status;
 use hosted_tick::{Hosted, Ticked};
 use object_store::World;
 use std::alloc::{AllocError as NoMemory, Global};
-use tick_journal::{base_content, tick_content};
+use tick_journal::{tick_content, write_base};
 use upload_stream::{Upload, uploads_at};
 use world_io::{Disk, Sink, write_all};
 
@@ -144,7 +144,7 @@ fn record_start<O: Sink, D: Disk>(
 fn base_frame_of(alloc: Global, world: &World) -> Result<Vec<u8>, NoMemory>
     ensures { IfOk result (λ bytes. bytes.items ≡ base_frame world.now) }
 {
-    frame_of(alloc, &base_content(alloc, world)?)
+    frame_of(alloc, &write_base(alloc, world)?)
 }
 
 // The frame of a tick.

@@ -5,6 +5,6 @@ use Rattle.tick_journal.proofs.parts.put_run.Goals as goal
 pub returns : goal.returns
 returns c =
     on_ok_weaker c.put_intents.result
-    (λ written. run_written c.args.run.now c.args.out.now.items c.put_u32.new.out.items c.extend_from_slice.new.self.items c.put_u64.new.out.items c.put_intents.new.out.items
-    c.in_ok-put_u32.ensures.written (rw c.outcome_numbers.ensures at c.in_ok-extend_from_slice.ensures.items) c.in_ok-put_u64.ensures.written (rw c.as_slice.ensures at written))
+    (run_written _ c.args.out.now.items c.put_u32.new.out.items c.extend_from_slice.new.self.items c.put_u64.new.out.items c.put_intents.new.out.items
+    c.in_ok-put_u32.ensures.written (rw c.outcome_numbers.ensures at c.in_ok-extend_from_slice.ensures.items) c.in_ok-put_u64.ensures.written)
     c.put_intents.ensures

@@ -1,5 +1,5 @@
 use Rattle.tick_journal.proofs.Written.{base_written}
-use Rattle.tick_journal.proofs.contents.base_content.Goals as goal
+use Rattle.tick_journal.proofs.contents.write_base.Goals as goal
 
 pub returns : goal.returns
 returns c =
