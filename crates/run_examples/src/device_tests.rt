@@ -201,7 +201,11 @@ struct Watched<D> {
 impl<D: Disk> Disk for Watched<D> {
     ghost seen = { λ w. D.seen w.inner };
 
+    ghost moments = { λ w. D.moments w.inner };
+
     ghost faults = { λ w. D.faults w.inner };
+
+    ghost left_now = { λ w. D.left_now w.inner };
 
     fn len(&mut self) -> Result<u64, Failed> {
         self.inner.len()

@@ -12,6 +12,8 @@ mod content_tests;
 #[cfg(test)]
 mod device_tests;
 #[cfg(test)]
+mod disk_tests;
+#[cfg(test)]
 mod file_tests;
 #[cfg(test)]
 mod text_tests;

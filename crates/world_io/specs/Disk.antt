@@ -16,10 +16,14 @@ abbrev pub ReadsAt : Option (List ℕ) → ℕ → ℕ → List ℕ → Type 0
 ReadsAt None at room found = ⊤
 ReadsAt (Some bytes) at room found = found ≡ take room (drop at bytes)
 
+-- these bytes at the place, over what was there or past the old end, and all others as before
+abbrev pub written_at : ℕ → List ℕ → List ℕ → List ℕ
+written_at at piece bytes = take at bytes ++ piece ++ drop (at + length piece) bytes
+
 -- These bytes stand at the place now, over what was there or past the old end; all others stay.
 abbrev pub WritesAt : Option (List ℕ) → ℕ → List ℕ → Option (List ℕ) → Type 0
 WritesAt None at bytes new = ⊤
-WritesAt (Some old) at bytes new = new ≡ Some (take at old ++ bytes ++ drop (at + length bytes) old)
+WritesAt (Some old) at bytes new = new ≡ Some (written_at at bytes old)
 
 -- The first bytes are left, so many of them.
 abbrev pub CutTo : Option (List ℕ) → ℕ → Option (List ℕ) → Type 0

@@ -1,5 +1,10 @@
 pub mod Causes
 pub mod Told
 pub mod Disk
+pub mod Moments
 pub mod Outages
 pub mod Steady
+pub mod Changes
+pub mod InMemory
+pub mod Picks
+pub mod inner

@@ -1,5 +1,5 @@
 // A source, a sink and a disk over files of the system.
-ghost use Rattle.std.specs.Prelude.{◌≡◌, ℕ, ◌<◌, ◌≤◌, ◌+◌, ◌^◌, length, take, None, IsNone, IsErr, IfOk, OnOk, IfSome, OnSome, MatchOption};
+ghost use Rattle.std.specs.Prelude.{◌≡◌, ℕ, ◌<◌, ◌≤◌, ◌+◌, ◌^◌, [], length, take, None, IsNone, IsErr, IfOk, OnOk, IfSome, OnSome, MatchOption, refl};
 ghost use Rattle.std.specs.Io.{ReadsAtMost, WritesAtMost};
 ghost use Rattle.std.specs.Io.KnownBytes.{ReadConsumes, WriteAppends, Keeps, Consumes, IsAtEnd};
 ghost use Rattle.world_io.specs.Causes.{HasCause};
@@ -139,7 +139,11 @@ impl FileDisk {
 impl Disk for FileDisk {
     ghost seen = { λ _. None };
 
+    ghost moments = { λ _. [] };
+
     ghost faults = { λ d. d.faults.count };
+
+    ghost left_now = { λ _. refl };
 
     fn len(&mut self) -> Result<u64, Failed>
         ensures told { IfOk result (λ n. LengthIs None n) }

@@ -2,12 +2,15 @@
 // failed.
 #![tactic(auto)]
 
+mod change;
 mod count;
 mod disk;
 mod files;
 mod memory;
 mod memory_disk;
 mod outages;
+mod pending;
+mod settle;
 mod sink;
 mod source;
 mod steady;
@@ -17,6 +20,7 @@ pub use disk::Disk;
 pub use files::{FileDisk, FileSink, FileSource};
 pub use memory::{MemorySink, MemorySource};
 pub use memory_disk::MemoryDisk;
+pub use settle::{cut_synced, write_synced};
 pub use sink::{Sink, write_all};
 pub use source::{Failed, ReadStop, Source, read_all};
 pub use steady::{SteadySink, SteadySource};

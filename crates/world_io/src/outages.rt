@@ -34,12 +34,23 @@ impl Outages {
         ensures counted { Counted self.old self.new result }
         ensures cause { HasCause self.old.faults.count self.new.faults.count result }
     {
-        let is_out = self.is_out();
-        self.calls = self.calls.saturating_add(1);
-        if is_out {
-            return Err(self.faults.raise());
+        if self.is_out() {
+            return Err(self.fail_call());
         }
+        self.calls = self.calls.saturating_add(1);
         Ok(())
+    }
+
+    /// Counts a call that fails, by plan or not, and gives the answer for it.
+    pub fn fail_call(&mut self) -> Failed
+        ensures calls { self.new.calls ≡ one_more self.old.calls }
+        ensures fails { self.new.fails ≡ self.old.fails }
+        ensures stop { self.new.stop ≡ self.old.stop }
+        ensures raised { self.new.faults.count ≡ one_more self.old.faults.count }
+        ensures later { self.old.faults.count ≤ self.new.faults.count }
+    {
+        self.calls = self.calls.saturating_add(1);
+        self.faults.raise()
     }
 
     /// Counts a failure of the last call that was not planned, and gives the answer for it.
