@@ -17,17 +17,41 @@ fn a_pick_gives_the_least_the_read_or_the_greatest(rt: HostRuntime) -> Result<()
     disk.cut(5)?;
     assert!(rt; disk.write_at(2, &[60, 61]).is_err());
     disk.write_at(5, &[70])?;
-    assert_eq!(rt; left(alloc, &disk, 0)?.as_slice(), [0, 12, 0, 0, 15].as_slice());
-    assert_eq!(rt; left(alloc, &disk, 1)?.as_slice(), [50, 12, 13, 14, 15, 70].as_slice());
-    assert_eq!(rt; left(alloc, &disk, 7)?.as_slice(), [7, 12, 7, 7, 15, 7, 17, 18].as_slice());
-    assert_eq!(rt; left(alloc, &disk, 255)?.as_slice(), [255, 12, 255, 255, 15, 255, 17, 18].as_slice());
+    assert_eq!(rt;
+        left(alloc, &disk, 0)?.as_slice(),
+        [0, 12, 0, 0, 15].as_slice()
+    );
+    assert_eq!(rt;
+        left(alloc, &disk, 1)?.as_slice(),
+        [50, 12, 13, 14, 15, 70].as_slice()
+    );
+    assert_eq!(rt;
+        left(alloc, &disk, 7)?.as_slice(),
+        [7, 12, 7, 7, 15, 7, 17, 18].as_slice()
+    );
+    assert_eq!(rt;
+        left(alloc, &disk, 255)?.as_slice(),
+        [255, 12, 255, 255, 15, 255, 17, 18].as_slice()
+    );
     disk.sync()?;
     for pick in [0, 1, 7, 255] {
-        assert_eq!(rt; left(alloc, &disk, pick)?.as_slice(), [50, 12, 13, 14, 15, 70].as_slice());
+        assert_eq!(rt;
+            left(alloc, &disk, pick)?.as_slice(),
+            [50, 12, 13, 14, 15, 70].as_slice()
+        );
     }
     disk.write_at(6, &[80, 81])?;
-    assert_eq!(rt; left(alloc, &disk, 0)?.as_slice(), [50, 12, 13, 14, 15, 70].as_slice());
-    assert_eq!(rt; left(alloc, &disk, 1)?.as_slice(), [50, 12, 13, 14, 15, 70, 80, 81].as_slice());
-    assert_eq!(rt; left(alloc, &disk, 256 + 9)?.as_slice(), [50, 12, 13, 14, 15, 70, 9, 9].as_slice());
+    assert_eq!(rt;
+        left(alloc, &disk, 0)?.as_slice(),
+        [50, 12, 13, 14, 15, 70].as_slice()
+    );
+    assert_eq!(rt;
+        left(alloc, &disk, 1)?.as_slice(),
+        [50, 12, 13, 14, 15, 70, 80, 81].as_slice()
+    );
+    assert_eq!(rt;
+        left(alloc, &disk, 256 + 9)?.as_slice(),
+        [50, 12, 13, 14, 15, 70, 9, 9].as_slice()
+    );
     Ok(())
 }

@@ -16,6 +16,10 @@ mod disk_tests;
 #[cfg(test)]
 mod file_tests;
 #[cfg(test)]
+mod log_tests;
+#[cfg(test)]
+mod rules_tests;
+#[cfg(test)]
 mod text_tests;
 #[cfg(test)]
 mod tick_tests;

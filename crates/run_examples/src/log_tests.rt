@@ -7,23 +7,17 @@ use std::test::Fail;
 use world_io::{Disk, MemoryDisk};
 
 // Two bytes, none, and one more, behind open gates.
-const WHOLE: &[u8] =
-    b"\x01\x02\0\0\0\0\0\0\0ab\x01\0\0\0\0\0\0\0\0\x01\x01\0\0\0\0\0\0\0c\0";
+const WHOLE: &[u8] = b"\x01\x02\0\0\0\0\0\0\0ab\x01\0\0\0\0\0\0\0\0\x01\x01\0\0\0\0\0\0\0c\0";
 
 // A disk of these bytes, of which all calls fail after the one of the number `stop`.
 fn disk_of(alloc: Global, bytes: &[u8], stop: Option<u64>) -> Result<MemoryDisk, AllocError>
     requires { length bytes.now < 2 ^ 62 }
 {
-    Ok(MemoryDisk::new(
-        Vec::from_slice(alloc, bytes)?,
-        Vec::new(alloc),
-        stop,
-    ))
+    Ok(MemoryDisk::new(Vec::from_slice(alloc, bytes)?, Vec::new(alloc), stop))
 }
 
-// What stands at a gate of a disk of these bytes: a content, or nothing where the gate is closed. A frame that
-// is broken is an error.
-fn behind(alloc: Global, bytes: &[u8], gate: u64) -> Result<Option<Vec<u8>>, Fail>
+// What stands at a gate of a disk of these bytes.
+fn behind(alloc: Global, bytes: &[u8], gate: u64) -> Result<Behind, Fail>
     requires { length bytes.now < 2 ^ 62 }
 {
     let mut disk = disk_of(alloc, bytes, None)?;
@@ -32,10 +26,18 @@ fn behind(alloc: Global, bytes: &[u8], gate: u64) -> Result<Option<Vec<u8>>, Fai
         return Err("no gate".into());
     }
     match read_frame(alloc, &mut disk, len, gate) {
-        Ok(Behind::Closed) => Ok(None),
-        Ok(Behind::Frame(content)) => Ok(Some(content)),
-        Ok(Behind::Broken) => Err("broken".into()),
+        Ok(behind) => Ok(behind),
         Err(_) => Err("no memory".into()),
+    }
+}
+
+// Whether this content stands behind a gate.
+fn stands(alloc: Global, bytes: &[u8], gate: u64, content: &[u8]) -> Result<bool, Fail>
+    requires { length bytes.now < 2 ^ 62 }
+{
+    match behind(alloc, bytes, gate)? {
+        Behind::Frame(found) => Ok(found.as_slice() == content),
+        _ => Ok(false),
     }
 }
 
@@ -49,11 +51,15 @@ fn contents_are_kept_and_read_back(rt: HostRuntime) -> Result<(), Fail> {
     assert!(rt; log.append(alloc, &mut disk, b"").is_ok());
     assert!(rt; log.append(alloc, &mut disk, b"c").is_ok());
     assert_eq!(rt; disk.bytes(), WHOLE);
-    for (gate, content) in [(0, b"ab".as_slice()), (11, b"".as_slice()), (20, b"c".as_slice())] {
-        assert_eq!(rt; behind(alloc, WHOLE, gate)?.as_deref(), Some(content));
+    for (gate, content) in [
+        (0, b"ab".as_slice()),
+        (11, b"".as_slice()),
+        (20, b"c".as_slice()),
+    ] {
+        assert!(rt; stands(alloc, WHOLE, gate, content)?);
     }
-    assert!(rt; behind(alloc, WHOLE, 30)?.is_none());
-    assert!(rt; behind(alloc, &WHOLE[..30], 20).is_err());
+    assert!(rt; matches!(behind(alloc, WHOLE, 30)?, Behind::Closed));
+    assert!(rt; matches!(behind(alloc, &WHOLE[..30], 20)?, Behind::Broken));
     let long = vec![in alloc; 7u8; 70_000]?;
     assert!(rt; log.append(alloc, &mut disk, &long).is_ok());
     assert_eq!(rt; disk.bytes().len(), 31 + 9 + 70_000);
@@ -67,13 +73,15 @@ fn standing(alloc: Global, image: &[u8]) -> Result<u64, Fail>
     if image.len() <= 1 || image[0] == 0 {
         return Ok(0);
     }
-    if behind(alloc, image, 0)?.as_deref() != Some(b"ab".as_slice()) {
+    if !stands(alloc, image, 0, b"ab")? {
         return Err("another first content".into());
     }
+    if stands(alloc, image, 11, b"c")? {
+        return Ok(2);
+    }
     match behind(alloc, image, 11)? {
-        None => Ok(1),
-        Some(content) if content.as_slice() == b"c" => Ok(2),
-        Some(_) => Err("another second content".into()),
+        Behind::Closed => Ok(1),
+        _ => Err("another second content".into()),
     }
 }
 
@@ -88,7 +96,10 @@ fn a_stop_leaves_what_stood(rt: HostRuntime) -> Result<(), Fail> {
                 done = 1;
                 match log.append(alloc, &mut disk, b"c") {
                     Ok(()) => done = 2,
-                    Err(_) => assert_eq!(rt; log.append(alloc, &mut disk, b"d"), Err(AppendFault::Closed)),
+                    Err(_) => assert_eq!(rt;
+                        log.append(alloc, &mut disk, b"d"),
+                        Err(AppendFault::Closed)
+                    ),
                 }
             }
             let image = disk.crash(alloc, pick)?;
