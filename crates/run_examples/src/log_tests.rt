@@ -1,5 +1,7 @@
 // A log on a disk in memory: what its bytes are, and what a stop at each call of the disk leaves.
-ghost use Rattle.std.specs.Prelude.{◌<◌, ◌^◌, length};
+ghost use Rattle.std.specs.Prelude.{◌≡◌, ◌<◌, ◌^◌, [], ◌∷◌, length, IfOk};
+ghost use Rattle.world_io.specs.InMemory.{moments_now};
+ghost use Rattle.world_io.specs.Moments.{settled};
 
 use frame_log::{AppendFault, Behind, Log, read_frame};
 use std::alloc::{AllocError, Global};
@@ -12,6 +14,8 @@ const WHOLE: &[u8] = b"\x01\x02\0\0\0\0\0\0\0ab\x01\0\0\0\0\0\0\0\0\x01\x01\0\0\
 // A disk of these bytes, of which all calls fail after the one of the number `stop`.
 fn disk_of(alloc: Global, bytes: &[u8], stop: Option<u64>) -> Result<MemoryDisk, AllocError>
     requires { length bytes.now < 2 ^ 62 }
+    ensures bytes { IfOk result (λ disk. disk.bytes.items ≡ bytes.now) }
+    ensures rests { IfOk result (λ disk. moments_now disk ≡ settled bytes.now ∷ []) }
 {
     Ok(MemoryDisk::new(Vec::from_slice(alloc, bytes)?, Vec::new(alloc), stop))
 }
@@ -60,9 +64,19 @@ fn contents_are_kept_and_read_back(rt: HostRuntime) -> Result<(), Fail> {
     }
     assert!(rt; matches!(behind(alloc, WHOLE, 30)?, Behind::Closed));
     assert!(rt; matches!(behind(alloc, &WHOLE[..30], 20)?, Behind::Broken));
+    Ok(())
+}
+
+#[test]
+fn a_long_content_is_kept(rt: HostRuntime) -> Result<(), Fail> {
+    let alloc = rt.alloc();
+    let mut disk = disk_of(alloc, &[], None)?;
+    let Ok(mut log) = Log::create(alloc, &mut disk, b"ab") else {
+        return Err("not made".into());
+    };
     let long = vec![in alloc; 7u8; 70_000]?;
     assert!(rt; log.append(alloc, &mut disk, &long).is_ok());
-    assert_eq!(rt; disk.bytes().len(), 31 + 9 + 70_000);
+    assert!(rt; stands(alloc, disk.bytes(), 11, &long)?);
     Ok(())
 }
 
