@@ -1,0 +1,4 @@
+pub mod Generator
+pub mod PlayerModule
+pub mod Uploads
+pub mod inner
