@@ -123,8 +123,8 @@ def check_runs():
     check("all kinds as they are written", RUN, inputs(text_of(HELD)), 0, lines(HELD, 1), after={"journal.bin": journal(HELD, 1)})
     check("a world as it is written", RUN, inputs(text_of(WIDE)), 0, lines(WIDE, 1), after={"journal.bin": journal(WIDE, 1)})
     other = {"one": bytes_of(WIDE), "two": b"", "world.json": bytes_of(SMALL), "uploads.bin": b"x", "journal.bin": b"kept"}
-    words = ["run", "one", "two", "-three", "--ticks", "2"]
-    check("each path is the one that was given", words, other, 0, lines(WIDE, 2), after={"-three": journal(WIDE, 2)})
+    words = ["run", "one", "two", "three", "--ticks", "2"]
+    check("each path is the one that was given", words, other, 0, lines(WIDE, 2), after={"three": journal(WIDE, 2)})
     big = world(*[room(f"E{n % 20}S{n // 20}", 51, *[thing("pile", (n << 32) + k, k, 3, energy=10**9) for k in range(1, 49)]) for n in range(400)])
     check("400 rooms", RUN, inputs(bytes_of(big)), 0, lines(big, 1), after={"journal.bin": journal(big, 1)})
 
@@ -268,32 +268,97 @@ def check_faults():
 
 
 def check_words():
-    path = "module.wasm"
+    path, paths = "module.wasm", RUN[1:4]
+    orders = [
+        ["run", "--ticks", "5", *paths],
+        ["run", paths[0], "--ticks", "5", *paths[1:]],
+        ["run", *paths[:2], "--ticks=5", paths[2]],
+        ["run", *paths, "--ticks=0005"],
+        ["run", "--ticks=5", "--", *paths],
+        ["run", *paths[:2], "--ticks", "5", "--", paths[2]],
+        ["run", *paths, "--ticks", "5", "--"],
+    ]
+    for words in orders:
+        check(f"the words {words}", words, inputs(), 0, lines(SMALL, 5), after={"journal.bin": journal(SMALL, 5)})
+    dashed = {"--ticks": bytes_of(SMALL), "--help": b"", "--": b""}
+    words = ["run", "--ticks", "2", "--", "--ticks", "--help", "-three"]
+    check("paths that begin with -", words, dashed, 0, lines(SMALL, 2), after={"-three": journal(SMALL, 2)})
+    words = ["run", "--ticks", "2", "--", "--ticks", "--", "-three"]
+    check("a path that is --", words, dashed, 0, lines(SMALL, 2), after={"-three": journal(SMALL, 2)})
+    check("a path that is -", ["check", "-"], {"-": LOOP}, 0, b"accepted\n")
+    check("a module that is --help", ["check", "--", "--help"], {"--help": LOOP}, 0, b"accepted\n")
+
     lists = [
         [],
         [""],
         ["help"],
-        ["--help"],
+        ["-h"],
+        ["--"],
+        ["--help", "run"],
+        ["--help", "--help"],
+        ["--version", "1"],
         ["Run", *RUN[1:]],
+        ["run"],
+        ["run", "-h"],
+        ["run", "--help", "--help"],
+        ["run", "--", "--help"],
+        [*RUN, "--help"],
+        [*RUN, "--version"],
         RUN[:-1],
         RUN[:-2],
         [*RUN, "1"],
         [*RUN, "--workers", "1"],
-        [RUN[0], "--ticks", "1", *RUN[1:4]],
+        [*RUN, "--workers=1"],
+        [*RUN, "-t", "1"],
+        [*RUN, "-"],
+        [*RUN, "--ticks", "1"],
+        [*RUN, "--ticks=2"],
         [*RUN[:4], "--tick", "1"],
-        [*RUN[:4], "--ticks=1"],
+        [*RUN[:4], "--ticks"],
+        [*RUN[:4], "--ticks", "--", "1"],
+        [*RUN[:4], "--Ticks", "1"],
+        [*RUN[:4], "-ticks", "1"],
+        [*RUN[:4], "--", "--ticks", "1"],
+        [*RUN[:3], "-three", "--ticks", "1"],
+        ["--ticks", "1", "run", *paths],
         ["check"],
         ["check", path, path],
         ["check", path, "--ticks", "1"],
+        ["check", "-m"],
+        ["check", "--"],
+        ["check", "--", path, path],
         ["replay", "journal.bin"],
+        ["serve"],
         [*RUN[:2], *RUN[4:]],
         ["run", b"\xff.json", *RUN[2:]],
     ]
     for number in ("", "1000001", "18446744073709551617", "-1", "+1", "1 ", " 1", "0x1", "1.0", "one"):
-        lists.append([*RUN[:-1], number])
+        lists += [[*RUN[:-1], number], [*RUN[:-2], f"--ticks={number}"]]
     for words in lists:
         files = inputs(**{path: LOOP})
         check(f"the words {words}", words, files, 2, err=refused(2, "Usage"))
+
+
+def check_pages():
+    """What the program says of itself. Its texts are compared in part: docs/hosting.md has their first and last lines."""
+    pages = {
+        ("--help",): [b"run WORLD UPLOADS JOURNAL --ticks N", b"check MODULE", b"docs/hosting.md", b"docs/players.md"],
+        ("run", "--help"): [b"WORLD", b"UPLOADS", b"JOURNAL", b"--ticks N", b"docs/hosting.md"],
+        ("check", "--help"): [b"MODULE", b"docs/players.md"],
+        ("--version",): [b"world_server 1\n"],
+        ("run", "--version"): [b"world_server 1\n"],
+        ("check", "--version"): [b"world_server 1\n"],
+    }
+    for words, parts in pages.items():
+        with tempfile.TemporaryDirectory() as folder:
+            status, out, err = run(words, folder)
+            left = os.listdir(folder)
+        faults = [] if (status, err, left) == (0, b"", []) else [f"exit status {status}, standard error {shown(err)}, files {left}"]
+        faults += [f"{part} doesn't stand there" for part in parts if part not in out]
+        faults += [f"a line is too long: {shown(line)}" for line in out.split(b"\n") if len(line) > 112]
+        note(f"the words {words}", faults if out.endswith(b"\n") else [*faults, "no line feed at the end"])
+        with open(FULL, "wb") as sink:
+            check(f"the words {words}, to a full standard output", words, inputs(), 6, err=refused(6, "WriteFault"), stdout=sink)
 
 
 # ---- modules
@@ -465,7 +530,7 @@ def check_modules():
     fault = refused(5, "ReadFault")
     check("no module", ["check", path], {"other.wasm": LOOP}, 5, err=fault)
     check("a folder as the module", ["check", path], {path: None}, 5, err=fault)
-    check("a path that begins with -", ["check", "-m"], {"-m": LOOP}, 0, b"accepted\n")
+    check("a path that begins with -", ["check", "--", "-m"], {"-m": LOOP}, 0, b"accepted\n")
 
 
 # ---- the documents
@@ -475,7 +540,7 @@ MAKER = "players/upload_stream.py "
 SHOWER = "players/show_room.py "
 
 # How many examples each document has: one that is lost, or that is no longer found, is a fault as one too many is.
-EXAMPLES = {"README.md": 2, "docs/hosting.md": 4, "docs/players.md": 22}
+EXAMPLES = {"README.md": 2, "docs/hosting.md": 8, "docs/players.md": 22}
 
 
 def examples_of(text):
@@ -560,6 +625,7 @@ def main():
     check_world_faults()
     check_faults()
     check_words()
+    check_pages()
     check_modules()
     check_documents()
     checks.finish()

@@ -1,5 +1,5 @@
 -- The answer to the bytes that a source gave.
-use Rattle.std.proofs.Common.{◌≡◌, ℕ, List, [], ◌++◌, Option, Some, None, ◌⊎◌, inl, inr, ap, sym, subst, ◌∙◌}
+use Rattle.std.proofs.Common.{◌≡◌, ℕ, List, ◌++◌, Option, Some, None, ◌⊎◌, inl, inr, ap, sym, subst, ◌∙◌}
 use Rattle.std.proofs.lemmas.List.{append-nil}
 use Rattle.world_io.specs.Told.{GaveAll}
 use Rattle.world_run.specs.Checks.{Checks, IsAnswer, ReadsAnswer}

@@ -1,21 +1,19 @@
 -- How a run of stored worlds ends is how a run of the worlds ends that they store.
-use Rattle.std.proofs.Common.{◌≡◌, ◌≢◌, ◌⊎◌, ℕ, suc, ◌^◌, ◌≤◌, List, [], length, map, Option, Some, inl, inr, refl, sym, ap, subst, ◌∙◌}
+use Rattle.std.proofs.Common.{◌≡◌, ◌⊎◌, ℕ, suc, List, length, map, inl, inr, refl, sym, ap, subst}
 use Rattle.std.specs.Io.KnownBytes.{Appends}
 use Rattle.object_store.specs.Stored.{Stored}
 use Rattle.world_io.specs.Causes.{Rose}
 use Rattle.world_rules.specs.World.{World, world_of}
-use Rattle.world_form.specs.Files.{WorldForm}
 use Rattle.world_form.specs.declared.fault.WorldFault.{WorldFault}
-use Rattle.upload_stream.specs.Streams.{Upload, UploadList}
-use Rattle.hosted_tick.specs.Hosting.{state_of}
+use Rattle.upload_stream.specs.Streams.{Upload}
 use Rattle.hosted_tick.specs.Next.{State}
 use Rattle.world_run.specs.declared.status.Status.{Status}
 use Rattle.world_run.specs.declared.status.Status.TheVariants as statuses
-use Rattle.world_run.specs.Words.{AreRun, Asks, AsksAtLeast}
-use Rattle.world_run.specs.Runs.{Step, IsExhausted, last_of, opened, output, ReadsWorld, ReadsFault, ReadsUploads, ReadsBad, IsEmpty, IsFilled, IsPastWords}
+use Rattle.command_words.specs.Words.{AreRun, Asks, AsksAtLeast}
+use Rattle.world_run.specs.Runs.{IsExhausted, ReadsWorld, ReadsFault, ReadsUploads, ReadsBad, IsFilled, IsPastWords}
 use Rattle.world_run.specs.inner.Held as held
 use Rattle.world_run.specs.inner.Stages.{IsOfRun, IsPastWorld, IsPastUploads, IsBeforeJournal}
-use Rattle.world_run.specs.Ends.{Outside, AcceptsWorld, AcceptsUploads, IsUntouched, Makes, Leaves, LeavesPart, Some_made, Asked, Ends, IsSteady, IsGood, IsWhole, Runs}
+use Rattle.world_run.specs.Ends.{Outside, Makes, Leaves, LeavesPart, Asked, Ends}
 use Rattle.world_run.proofs.Worldly.{shown, follow_shown, last_shown, many_shown, exhausted_shown, journal_left, output_left, cuts_left}
 
 module _ (words : List (List ℕ)) (old new : Outside) where

@@ -1,13 +1,12 @@
 -- A world that a file says is one that can be hosted.
-use Rattle.std.proofs.Common.{◌≡◌, ℕ, ◌<◌, ◌≤◌, List, [], ◌∷◌, length, map, refl, sym, ap, ◌∙◌, subst, arith}
+use Rattle.std.proofs.Common.{ℕ, ◌<◌, ◌≤◌, List, [], ◌∷◌, length, map, refl, arith}
 use Rattle.std.specs.List.{AllByRecursion}
 use Rattle.std.proofs.lemmas.List.{length-map}
 use Rattle.game_tables.specs.Limits.{most_memory, most_players, most_rooms}
 use Rattle.object_store.specs.declared.account.Account.{Account}
 use Rattle.object_store.specs.Stored.{Stored}
 use Rattle.world_rules.specs.declared.rule.Rule.TheVariants.{Counts}
-use Rattle.world_rules.specs.Rules.{IsWithinCounts}
-use Rattle.world_rules.specs.World.{listed_room, listing_of}
+use Rattle.world_rules.specs.World.{listed_room}
 use Rattle.world_form.specs.Written.{IsWritable, IsWritableAccount}
 use Rattle.hosted_tick.specs.Hosting.{IsHosted}
 

@@ -8,7 +8,7 @@ use Rattle.world_form.specs.Files.{WorldForm}
 use Rattle.upload_stream.specs.Streams.{Upload, UploadList}
 use Rattle.world_run.specs.Lines.{start_line}
 use Rattle.world_run.specs.Listed.{listed}
-use Rattle.world_run.specs.Words.{AreRun, Asks, AsksAtLeast}
+use Rattle.command_words.specs.Words.{AreRun, Asks, AsksAtLeast}
 use Rattle.world_run.specs.Runs.{Step, Follow, IsExhausted, last_of, opened, journal, output, step_lines, AppendsPart, ReadsWorld, ReadsFault, ReadsUploads, ReadsBad, IsEmpty, IsFilled, Fills}
 use Rattle.world_run.specs.declared.status.Status.{Status}
 use Rattle.world_run.specs.declared.status.Status.TheVariants as statuses

@@ -1,5 +1,5 @@
 -- What a run makes of its inputs: the worlds of its ticks, the journal, and the lines.
-use Rattle.std.specs.Prelude.{◌≡◌, ℕ, suc, ◌+◌, ◌^◌, ◌<◌, ◌≤◌, ◌⊎◌, List, [], ◌∷◌, ◌++◌, length, take, Option, Some, None, ⊤}
+use Rattle.std.specs.Prelude.{◌≡◌, ℕ, ◌+◌, ◌^◌, ◌<◌, ◌≤◌, ◌⊎◌, List, [], ◌∷◌, ◌++◌, length, take, Option, Some, None, ⊤}
 use Rattle.std.specs.List.{flat_map}
 use Rattle.std.specs.Int.{w64, to_le_bytes}
 use Rattle.std.specs.Io.KnownBytes.{Appends}
@@ -10,7 +10,7 @@ use Rattle.world_rules.specs.Sound.{serials_bound}
 use Rattle.world_form.specs.Files.{WorldForm, HasFault}
 use Rattle.world_form.specs.declared.fault.WorldFault.{WorldFault}
 use Rattle.world_form.specs.declared.fault.WorldFault.TheVariants as faults
-use Rattle.world_io.specs.Told.{GaveAll, Gave, AppendsPrefix}
+use Rattle.world_io.specs.Told.{GaveAll, Gave}
 use Rattle.upload_stream.specs.Streams.{Upload, UploadList, IsFirstBad, uploads_at}
 use Rattle.tick_journal.specs.Contents.{base_content, tick_content, whole_record}
 use Rattle.tick_journal.specs.declared.entries.UploadEntry.{UploadEntry}

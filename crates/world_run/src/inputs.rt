@@ -7,11 +7,11 @@ ghost use Rattle.world_form.specs.Files.{WorldForm};
 ghost use Rattle.world_form.specs.declared.fault.WorldFault.{WorldFault};
 ghost use Rattle.hosted_tick.specs.Hosting.{IsHosted};
 ghost use Rattle.world_run.specs.inner.Stages.{status_of_fault, IsOfWords, IsOfWorld, IsOfUploads, IsOfInputs, IsPastWorld};
-ghost use Rattle.world_run.specs.Words.{AreRun, Asks};
+ghost use Rattle.command_words.specs.Words.{AreRun, Asks};
 ghost use Rattle.world_run.specs.Runs.{ReadsWorld, ReadsFault, IsPastWords};
 
 use crate::status::Status;
-use crate::words::{Command, WordsFault, read_words};
+use command_words::{Command, WordsFault, read_words};
 use object_store::World;
 use std::alloc::Global;
 use world_io::{ReadStop, Source, read_all};

@@ -8,11 +8,9 @@ mod run;
 mod status;
 mod ticks;
 mod tool;
-mod words;
 
 pub use player_run::Refusal;
 pub use run::run_alone;
 pub use status::Status;
 pub use std::alloc::AllocError as NoMemory;
 pub use tool::tool_main;
-pub use words::{Command, WordsFault, read_words};

@@ -8,7 +8,7 @@ ghost use Rattle.world_form.specs.Files.{WorldForm};
 ghost use Rattle.world_form.specs.declared.fault.WorldFault.{WorldFault};
 ghost use Rattle.upload_stream.specs.Streams.{Upload as UploadOfStream, UploadList};
 ghost use Rattle.world_run.specs.inner.Held.{Step, IsExhausted, Leaves, LeavesPart, Follow, last_of, opened, output};
-ghost use Rattle.world_run.specs.Words.{AreRun, Asks, AsksAtLeast};
+ghost use Rattle.command_words.specs.Words.{AreRun, Asks, AsksAtLeast};
 ghost use Rattle.world_run.specs.Runs.{ReadsWorld, ReadsFault, ReadsUploads, ReadsBad, IsEmpty, IsFilled, IsPastWords};
 ghost use Rattle.world_run.specs.inner.Stages.{IsOfRun, IsPastWorld, IsPastUploads, IsPastJournal, IsBeforeJournal};
 ghost use Rattle.world_run.specs.Ends.{Runs};

@@ -6,11 +6,11 @@ ghost use Rattle.world_io.specs.Told.{AppendsPrefix};
 ghost use Rattle.world_run.specs.Checks.{Checks, answer_line, ReadsAnswer, IsAnswer, IsBeforeLine, IsOfCheck, IsOfReading};
 ghost use Rattle.world_run.specs.Runs.{IsPastWords};
 ghost use Rattle.world_run.specs.inner.Stages.{IsOfWords};
-ghost use Rattle.world_run.specs.Words.{AreCheck};
+ghost use Rattle.command_words.specs.Words.{AreCheck};
 ghost use Rattle.world_run.specs.declared.status.Status.{Status as StatusView};
 
 use crate::status::Status;
-use crate::words::{Command, WordsFault, read_words};
+use command_words::{Command, WordsFault, read_words};
 use player_run::{Refusal, admit};
 use std::alloc::{AllocError, Global};
 use upload_stream::most_module_bytes;

@@ -2,18 +2,22 @@
 #![tactic(auto)]
 
 ghost use Rattle.std.specs.Prelude.{◌≡◌, ◌⊎◌, map, string_bytes};
-ghost use Rattle.world_run.specs.Words.{AreCheck, AreRun};
+ghost use Rattle.command_words.specs.Words.{AreCheck, AreRun};
 ghost use Rattle.world_run.specs.Runs.{IsPastWords};
 
+mod pages;
+
+use command_words::{Command, WordsFault, read_words};
+use pages::page_of;
 use std::env;
 use std::io::ErrorKind;
 use std::process::ExitCode;
 use world_io::{FileDisk, FileSource, MemoryDisk, StreamSink, write_all};
-use world_run::{Command, Status, WordsFault, read_words, run_alone, tool_main};
+use world_run::{Status, run_alone, tool_main};
 
 fn main(rt: HostRuntime) -> ExitCode {
     let status = match words_after_the_name(&rt) {
-        Ok(words) => run(&rt, &words),
+        Ok(words) => answer(&rt, &words),
         Err(fault) => refused_words(fault),
     };
     if status != Status::Done {
@@ -48,6 +52,22 @@ fn refused_words(fault: WordsFault) -> Status
     match fault {
         WordsFault::Usage => Status::Usage,
         WordsFault::Memory => Status::Memory,
+    }
+}
+
+// Prints the page that the words ask for, or runs the command that they say.
+fn answer(rt: &HostRuntime, words: &[String]) -> Status {
+    match page_of(words) {
+        Some(page) => print(rt, page),
+        None => run(rt, words),
+    }
+}
+
+// Prints a page to standard output.
+fn print(rt: &HostRuntime, page: &str) -> Status {
+    match write_all(&mut StreamSink::over(rt.stdout()), page.as_bytes()) {
+        Ok(()) => Status::Done,
+        Err(_) => Status::WriteFault,
     }
 }
 

@@ -1,9 +1,8 @@
-use Rattle.std.proofs.Common.{◌≡◌, ◌+◌, List, ℕ, arith, ap, map, subst, sym, ◌∙◌}
-use Rattle.upload_stream.specs.Streams.{Upload}
+use Rattle.std.proofs.Common.{◌≡◌, ◌+◌, arith, ap, map, subst, sym, ◌∙◌}
 use Rattle.upload_stream.specs.Entries.{upload_of}
 use Rattle.hosted_tick.specs.Hosting.{Held, IsHosted}
 use Rattle.world_run.specs.inner.Held.{IsExhausted}
-use Rattle.world_run.proofs.RunsLists.{Along, Further, along_more, along_part, tick_rises}
+use Rattle.world_run.proofs.RunsLists.{Further, along_more, along_part, tick_rises}
 use Rattle.world_run.proofs.ticks.run_ticks.Goals as goal
 
 pub returns-in-Err-clause-write_stopped : goal.returns-in-Err-clause-write_stopped

@@ -1,0 +1,5 @@
+pub mod Apart
+pub mod Built
+pub mod First
+pub mod Parsed
+pub mod Shown

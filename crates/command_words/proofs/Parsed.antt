@@ -1,0 +1,89 @@
+-- What a parse by the command of a choice says of the words.
+use Rattle.std.proofs.Common.{◌≡◌, ◌&&◌, ◌∙◌, ◌≤◌, ℕ, Bool, true, false, List, [], ◌∷◌, Some, None, ap, sym}
+use Rattle.std.proofs.Common.{subst, refl, inl, inr, codes}
+use Rattle.clap.specs.Values.{kind_of}
+use Rattle.clap.specs.Matches.{found_of}
+use Rattle.clap.specs.Kinds.{HasKind, IsAmong}
+use Rattle.clap.specs.Walk.{Row, Text, first_of, rows_of}
+use Rattle.clap.specs.Simple.{App, HasMatchesOf, built, is_simple, matches_of}
+use Rattle.clap.specs.Faults.{fault_of, is_free_app, is_simple_and_free}
+use Rattle.clap.specs.declared.error.Error.{Error}
+use Rattle.clap.specs.declared.error.kind.ErrorKind.TheVariants.{OutOfMemory}
+use Rattle.clap.specs.declared.parser.matches.ArgMatches.{ArgMatches}
+use Rattle.command_words.specs.Numbers.{IsNumber}
+use Rattle.command_words.specs.Choices.{Choice, command_of, run, check}
+use Rattle.command_words.specs.Words.{IsRun, IsCheck, faults_in, rows_in}
+
+first_holds : (x y : Bool) → (x && y) ≡ true → x ≡ true
+first_holds true y h = refl
+first_holds false y h = h
+
+pub taken_rows : (choice : Choice) (app : App) (words : List Text) (m : ArgMatches) → app ≡ command_of choice
+    → is_simple_and_free (command_of choice) ≡ true → HasMatchesOf app words m
+    → rows_of (found_of m) ≡ rows_in choice words
+unfolding rows_in
+taken_rows choice app words m same simple has =
+    (has (first_holds (is_simple app) (is_free_app (built app)) (ap is_simple_and_free same ∙ simple))).0
+    ∙ ap (λ (a : App). matches_of a words) same
+
+pub taken_faultless : (choice : Choice) (app : App) (words : List Text) → app ≡ command_of choice
+    → is_simple_and_free (command_of choice) ≡ true → (is_simple_and_free app ≡ true → fault_of app words ≡ [])
+    → faults_in choice words ≡ []
+unfolding faults_in
+taken_faultless choice app words same simple kinds =
+    ap (λ (a : App). fault_of a words) (sym same) ∙ kinds (ap is_simple_and_free same ∙ simple)
+
+pub refused_faulty : (choice : Choice) (app : App) (words : List Text) (e : Error) → app ≡ command_of choice
+    → is_simple_and_free (command_of choice) ≡ true
+    → (is_simple_and_free app ≡ true → HasKind (fault_of app words) e)
+    → (kind_of e ≡ OutOfMemory → ⊥) → faults_in choice words ≡ [] → ⊥
+unfolding faults_in
+refused_faulty choice app words e same simple kinds fine none =
+    let no_fault : fault_of app words ≡ [] = ap (λ (a : App). fault_of a words) same ∙ none in
+    elim (kinds (ap is_simple_and_free same ∙ simple)) [
+      | inl memory ↦ fine memory
+      | inr among ↦ subst (IsAmong (kind_of e)) no_fault among
+    ]
+
+-- ---- values
+
+pub same_value : (rows other : List Row) (name value : Text) → rows ≡ other → first_of name other ≡ Some value
+    → first_of name rows ≡ Some value
+same_value rows other name value same gives = ap (first_of name) same ∙ gives
+
+pub no_value : (rows other : List Row) (name value : Text) → rows ≡ other → first_of name rows ≡ None
+    → first_of name other ≡ Some value → ⊥
+no_value rows other name value same none gives =
+    let bad : None ≡ Some value = sym none ∙ same_value rows other name value same gives in cc
+
+pub choice_rows : (rows : List Row) (choice shown : Choice) (words : List Text) → rows ≡ rows_in choice words
+    → choice ≡ shown → rows ≡ rows_in shown words
+choice_rows rows choice shown words found same = found ∙ ap (λ (v : Choice). rows_in v words) same
+
+pub choice_faults : (choice shown : Choice) (words : List Text) → choice ≡ shown
+    → faults_in choice words ≡ faults_in shown words
+choice_faults choice shown words same = ap (λ (v : Choice). faults_in v words) same
+
+pub says_run : (words rest : List Text) (rows : List Row) (world uploads journal number : Text) (ticks : ℕ)
+    → words ≡ codes "run" ∷ rest → faults_in run words ≡ [] → rows ≡ rows_in run words
+    → first_of (codes "WORLD") rows ≡ Some world → first_of (codes "UPLOADS") rows ≡ Some uploads
+    → first_of (codes "JOURNAL") rows ≡ Some journal → first_of (codes "ticks") rows ≡ Some number
+    → IsNumber number ticks → ticks ≤ 1000000 → IsRun words world uploads journal ticks
+says_run words rest rows world uploads journal number ticks chosen none found w u j n spells limit = record {
+  taken = record { rest = rest; chosen = chosen; faultless = none };
+  world_is = same_value (rows_in run words) rows (codes "WORLD") world (sym found) w;
+  uploads_is = same_value (rows_in run words) rows (codes "UPLOADS") uploads (sym found) u;
+  journal_is = same_value (rows_in run words) rows (codes "JOURNAL") journal (sym found) j;
+  number = number;
+  number_is = same_value (rows_in run words) rows (codes "ticks") number (sym found) n;
+  spells = spells;
+  limit = limit;
+}
+
+pub says_check : (words rest : List Text) (rows : List Row) (path : Text) → words ≡ codes "check" ∷ rest
+    → faults_in check words ≡ [] → rows ≡ rows_in check words → first_of (codes "MODULE") rows ≡ Some path
+    → IsCheck words path
+says_check words rest rows path chosen none found p = record {
+  taken = record { rest = rest; chosen = chosen; faultless = none };
+  path_is = same_value (rows_in check words) rows (codes "MODULE") path (sym found) p;
+}

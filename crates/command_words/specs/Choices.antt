@@ -1,0 +1,42 @@
+-- The choices of the program, and the command of `clap` that reads the words of each.
+use Rattle.std.specs.Prelude.{List, [], ◌∷◌, Some, true, fold, codes}
+use Rattle.clap.specs.Walk.{Rule, Text}
+use Rattle.clap.specs.Simple.{App, new_app, new_rule, with_rule}
+use Rattle.clap.specs.declared.builder.action.ArgAction.TheVariants.{Set}
+
+-- the word of a choice, the positionals that it takes, in this order, and the options `--NAME`
+pub record Choice : Type 0 where
+  pub word : Text
+  pub positionals : List Text
+  pub options : List Text
+
+-- an argument with one value, as text, that has to be given: in its place, or behind `--NAME`
+abbrev pub positional : Text → Rule
+positional name = record (new_rule name) { required = true; action = Some Set }
+
+abbrev pub option : Text → Rule
+option name = record (positional name) { long = Some name }
+
+-- the command with one argument more
+abbrev pub with_positional : App → Text → App
+with_positional app name = with_rule app (positional name)
+
+abbrev pub with_option : App → Text → App
+with_option app name = with_rule app (option name)
+
+-- the command that takes these arguments, and has no other setting
+abbrev pub command_of : Choice → App
+command_of choice =
+    fold with_option (fold with_positional (new_app choice.word) choice.positionals) choice.options
+
+-- `run WORLD UPLOADS JOURNAL --ticks N`
+abbrev pub run : Choice
+run = record {
+  word = codes "run";
+  positionals = codes "WORLD" ∷ codes "UPLOADS" ∷ codes "JOURNAL" ∷ [];
+  options = codes "ticks" ∷ [];
+}
+
+-- `check MODULE`
+abbrev pub check : Choice
+check = record { word = codes "check"; positionals = codes "MODULE" ∷ []; options = [] }

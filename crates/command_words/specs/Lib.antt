@@ -1,0 +1,5 @@
+pub mod Numbers
+pub mod Choices
+pub mod Words
+pub mod Commands
+pub mod Shown

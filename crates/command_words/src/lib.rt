@@ -1,0 +1,13 @@
+// The words of a call of the program, and the command that they say.
+#![tactic(auto)]
+
+mod choices;
+mod command;
+mod number;
+mod read;
+mod simple;
+#[cfg(test)]
+mod tests;
+
+pub use command::{Command, WordsFault};
+pub use read::read_words;

@@ -1,0 +1,72 @@
+// What the program says of itself.
+
+const VERSION: &str = "world_server 1\n";
+
+const HELP: &str = "world_server hosts a programming game: it runs the modules of the players in a world of rooms, tick by\n\
+    tick, and keeps all that happens in a journal.\n\
+    \n\
+    Choices:\n\
+    \x20 run WORLD UPLOADS JOURNAL --ticks N  runs N ticks and prints the lines of each\n\
+    \x20 check MODULE                         says whether players may upload a module\n\
+    \n\
+    CHOICE --help says what the words of a choice mean. --version prints the version.\n\
+    \n\
+    An example, in the top folder of the repository:\n\
+    \x20 world_server run worlds/small.json worlds/no_uploads.bin small.journal --ticks 2\n\
+    \n\
+    Options stand anywhere behind the first word. Behind the word -- all words are paths, also those that\n\
+    begin with -. The exit status is 0 where all was done; else a line `fault STATUS CAUSE` goes to standard\n\
+    error. docs/hosting.md explains each, and docs/players.md how to write a module.\n";
+
+const RUN_HELP: &str = "world_server run WORLD UPLOADS JOURNAL --ticks N\n\
+    \n\
+    Runs N ticks on a world, and prints the lines of each. Each tick is in the journal before it is printed.\n\
+    \n\
+    \x20 WORLD      the path of a world file, of at most 64 MiB\n\
+    \x20 UPLOADS    the path of a stream of modules that players upload, of at most 256 MiB; where nobody uploads,\n\
+    \x20            an empty file\n\
+    \x20 JOURNAL    the path of the journal, which is made: there is no such file yet, or an empty one\n\
+    \x20 --ticks N  how many ticks, in digits: 0 to 1000000\n\
+    \n\
+    An example, in the top folder of the repository:\n\
+    \x20 world_server run worlds/small.json worlds/no_uploads.bin small.journal --ticks 2\n\
+    \n\
+    docs/hosting.md explains the files, the lines and the exit statuses.\n";
+
+const CHECK_HELP: &str = "world_server check MODULE\n\
+    \n\
+    Says whether players may upload a module: prints `accepted`, or `refused` and why.\n\
+    \n\
+    \x20 MODULE  the path of a WebAssembly module, of at most 1 MiB\n\
+    \n\
+    An example, in the top folder of the repository:\n\
+    \x20 world_server check modules/loop.wasm\n\
+    \n\
+    docs/players.md says how to write a module, and docs/hosting.md what each refusal means.\n";
+
+/// The text that the words ask for: `--help` or `--version`, alone or behind a choice.
+pub(crate) fn page_of(words: &[String]) -> Option<&'static str> {
+    match words {
+        [word] => match word.as_str() {
+            "--help" => Some(HELP),
+            "--version" => Some(VERSION),
+            _ => None,
+        },
+        [choice, word] => page_of_choice(choice.as_str(), word.as_str()),
+        _ => None,
+    }
+}
+
+// The text that a word behind a choice asks for.
+fn page_of_choice(choice: &str, word: &str) -> Option<&'static str> {
+    let help = match choice {
+        "run" => RUN_HELP,
+        "check" => CHECK_HELP,
+        _ => return None,
+    };
+    match word {
+        "--help" => Some(help),
+        "--version" => Some(VERSION),
+        _ => None,
+    }
+}
