@@ -2,7 +2,8 @@
 
 const VERSION: &str = "world_server 1\n";
 
-const HELP: &str = "world_server hosts a programming game: it runs the modules of the players in a world of rooms, tick by\n\
+const HELP: &str =
+    "world_server hosts a programming game: it runs the modules of the players in a world of rooms, tick by\n\
     tick, and keeps all that happens in a journal.\n\
     \n\
     Choices:\n\
