@@ -6,7 +6,7 @@ program runs over several worlds.
 It runs behind `rt ci`, which builds crates/world_server/out/world_server; a word names another build of it. What a run prints
 and what it leaves in its journal is compared with a second, slow writing of the sample players in this file, at the desk of
 bench/scripts.py and in the tick of bench/worlds.py. The instructions that a run used are those that it prints. Where clang and
-wasm-ld are installed, the sample players are built anew and held against the same, and other players in C are built and run.
+wasm-ld are installed, the sample players are built anew and held against the same, and other players in C and C++ are built and run.
 With --model in place of a build no program is run.
 """
 
@@ -1223,8 +1223,13 @@ def check_fights(guard, raider, which):
     check_fight(f"{which} in a brawl with a budget for some ways", brawl(60), sides, 8, {"attack": 5, "move": 10}, all_walk=False)
 
 
-CHECKS = {"dropper": check_dropper, "harvester": check_harvester, "walker": check_walker}
+CHECKS = {"dropper": check_dropper, "dropping": check_dropper, "harvester": check_harvester, "walker": check_walker}
 FIGHTERS = ("guard", "raider")
+IN_CPP = ("dropping",)
+
+
+def source_of(player):
+    return f"{player}.cpp" if player in IN_CPP else f"{player}.c"
 
 
 def check_accepted(name, path):
@@ -1313,8 +1318,19 @@ def memory_told(count):
     return bytes(told)
 
 
-def built(source, module):
-    done = subprocess.run([os.path.join(PLAYERS, "build.sh"), source, module], stdin=subprocess.DEVNULL, capture_output=True, timeout=120)
+# More that is static than a page holds.
+LARGE = """#include "screeps.h"
+static char text[200000];
+void loop(void) {
+    screeps_memory_read(text);
+    screeps_memory_write(text + 130000, 3);
+}
+"""
+
+
+def built(source, module, script=os.path.join(PLAYERS, "build.sh")):
+    words = [script, source] if module is None else [script, source, module]
+    done = subprocess.run(words, stdin=subprocess.DEVNULL, capture_output=True, timeout=120)
     said = (done.stdout + done.stderr).decode()
     note(f"{os.path.basename(source)} is built", differ("status", done.returncode, 0), differ("said", said, ""))
     return done.returncode == 0
@@ -1326,12 +1342,19 @@ def check_documented(folder, module):
     first = next(at for at, line in enumerate(lines) if line.startswith("    clang "))
     last = next(at for at in range(first, len(lines)) if not lines[at].endswith("\\"))
     words = shlex.split(" ".join(line.strip().removesuffix("\\") for line in lines[first : last + 1]))
-    shutil.copytree(PLAYERS, os.path.join(folder, "players"))
-    os.remove(os.path.join(folder, words[-1]))
+    shutil.copytree(PLAYERS, os.path.join(folder, "players"), ignore=shutil.ignore_patterns("out"))
+    os.mkdir(os.path.join(folder, "players/out"))
     done = subprocess.run(words, cwd=folder, stdin=subprocess.DEVNULL, stdout=subprocess.PIPE, stderr=subprocess.STDOUT, timeout=120)
     note("the documented command for clang", differ("said", (done.returncode, done.stdout), (0, b"")))
     if done.returncode == 0:
         note("the module of the documented command", differ("module", bytes_of(folder, words[-1]), bytes_of(module)))
+    # (without a second word the module comes into the folder that is not tracked, and nothing else is changed)
+    before = sorted(os.listdir(os.path.join(folder, "players")))
+    os.remove(os.path.join(folder, words[-1]))
+    os.rmdir(os.path.join(folder, "players/out"))
+    if built(os.path.join(folder, "players/dropper.c"), None, os.path.join(folder, "players/build.sh")):
+        note("the module comes into players/out", differ("module", bytes_of(folder, words[-1]), bytes_of(module)))
+        note("nothing else is made", differ("files", sorted(os.listdir(os.path.join(folder, "players"))), before))
 
 
 def documented_player():
@@ -1342,12 +1365,35 @@ def documented_player():
     return "".join(f"{line[4:]}\n" for line in lines[first:last])
 
 
-def built_text(folder, name, text):
+def built_text(folder, name, text, suffix="c"):
     """A player of this text, or None where it isn't built."""
-    source, module = os.path.join(folder, f"{name}.c"), os.path.join(folder, f"{name}.wasm")
+    source, module = os.path.join(folder, f"{name}.{suffix}"), os.path.join(folder, f"{name}.wasm")
     with open(source, "w", encoding="utf-8") as it:
         it.write(text)
     return module if built(source, module) else None
+
+
+def section_of(module, wanted):
+    """The content of a section of this number, which is shorter than 128 bytes, or None."""
+    at = 8
+    while at < len(module):
+        kind, length, shift = module[at], 0, 0
+        while True:
+            at += 1
+            length, shift = length | (module[at] & 127) << shift, shift + 7
+            if module[at] < 128:
+                break
+        if kind == wanted:
+            return module[at + 1 : at + 1 + length]
+        at += 1 + length
+    return None
+
+
+def check_layout(module):
+    """The stack of 8 KiB stands at the beginning of the memory, which has four pages for what is static behind it."""
+    note("the memory is as large as it has to be", differ("memory", section_of(module, 5), b"\1\0\4"))
+    # (the first global is the stack's end: i32, set by the module, from 8,192 on)
+    note("the stack comes first", differ("global", section_of(module, 6)[:7], b"\1\x7f\1\x41\x80\xc0\0"))
 
 
 def imports_of(module):
@@ -1403,21 +1449,27 @@ def check_built_fighters(folder):
 def check_built(folder):
     for player, check in CHECKS.items():
         module = os.path.join(folder, f"{player}.wasm")
-        if built(os.path.join(PLAYERS, f"{player}.c"), module):
+        if built(os.path.join(PLAYERS, source_of(player)), module):
             # (as another clang makes it, it may be another module that does the same)
             if bytes_of(module) != bytes_of(f"players/{player}.wasm"):
-                check_accepted(f"players/{player}.c, built anew, is accepted", module)
-                check(f"players/{player}.c, built anew,", bytes_of(module))
+                check_accepted(f"players/{source_of(player)}, built anew, is accepted", module)
+                check(f"players/{source_of(player)}, built anew,", bytes_of(module))
             if player == "dropper":
                 check_documented(folder, module)
     check_built_fighters(folder)
     called = set(re.findall(r"screeps_(\w+)\(", ALL_CALLS))
     note("each call of the header is called", differ("calls", called, {name for name, _, _ in defined_calls()}))
-    module = built_text(folder, "all_calls", ALL_CALLS)
+    for suffix, language in (("c", "C"), ("cpp", "C++")):
+        module = built_text(folder, f"all_calls_of_{suffix}", ALL_CALLS, suffix)
+        if module:
+            check_accepted(f"a player in {language} with every call of the header is accepted", module)
+            wanted = [("screeps", name, params, [answer]) for name, params, answer in defined_calls()]
+            note(f"its imports in {language}", differ("imports", sorted(imports_of(bytes_of(module))), sorted(wanted)))
+    built_text(folder, "documented_in_cpp", documented_player(), "cpp")
+    module = built_text(folder, "large", LARGE)
     if module:
-        check_accepted("a player with every call of the header is accepted", module)
-        wanted = [("screeps", name, params, [answer]) for name, params, answer in defined_calls()]
-        note("its imports", differ("imports", sorted(imports_of(bytes_of(module))), sorted(wanted)))
+        check_accepted("a player with 200,000 bytes that are static is accepted", module)
+        check_layout(bytes_of(module))
     module = built_text(folder, "documented", documented_player())
     if module:
         check_accepted("the player of docs/players.md that finds its way is accepted", module)

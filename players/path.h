@@ -176,7 +176,7 @@ static unsigned path_take(struct path *path) {
 
 /* Reads the ground of all tiles of a room in sight. */
 static void path_read_ground(struct path *path) {
-    static const unsigned char steps[] = {[GROUND_PLAIN] = PATH_PLAIN, [GROUND_WALL] = PATH_CLOSED, [GROUND_SWAMP] = PATH_SWAMP};
+    static const unsigned char steps[] = {PATH_PLAIN, PATH_CLOSED, PATH_SWAMP}; /* by the numbers of the grounds */
     int room = path->room;
     for (int y = 0; y < PATH_SIDE; y++) {
         unsigned char *row = path->tiles + path_tile(0, y);

@@ -10,6 +10,13 @@
 #ifndef SCREEPS_H
 #define SCREEPS_H
 
+#ifdef __cplusplus
+extern "C" {
+#endif
+
+/* What a player writes: the server calls it once in each tick. */
+void loop(void);
+
 /* The name of a call in the module that the server looks for, and its C name below. */
 #define SCREEPS_CALL(name) __attribute__((import_module("screeps"), import_name(#name)))
 
@@ -282,5 +289,9 @@ enum {
     DIRECTION_LEFT = 7,
     DIRECTION_TOP_LEFT = 8
 };
+
+#ifdef __cplusplus
+}
+#endif
 
 #endif
