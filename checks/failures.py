@@ -1,0 +1,348 @@
+#!/usr/bin/env python3
+"""What the built program does where something outside of it fails: memory runs out, standard output is closed, a file fails in the middle of its
+reading, the disk fails, and what is written at once is many MiB long.
+
+It runs behind `rt ci`, which builds crates/world_server/out/world_server. Runs under a limit of memory (RLIMIT_AS) end by status 11, and what is left
+has to be whole ticks, each with its lines. Where `strace` is installed and may trace, it lets single reads, writes and syncs fail, and tells in which
+order the journal is written and synced and lines are printed. What is compared with comes from bench/worlds.py.
+"""
+
+import fcntl
+import os
+import re
+import resource
+import shutil
+import signal
+import subprocess
+import sys
+import tempfile
+
+TOP = os.path.dirname(os.path.dirname(os.path.abspath(__file__)))
+sys.path.insert(0, os.path.join(TOP, "bench"))
+from checked_program import PROGRAM, Checks, content_of, shown, write_files  # noqa: E402
+from game import SECOND, thing  # noqa: E402
+from modules import module  # noqa: E402
+from worlds import MIB, SMALL, Refused, Upload, bytes_of, journal_of, output_of, played, room, start_line, stream_of, world  # noqa: E402
+
+checks = Checks(__file__)
+check, note = checks.check, checks.note
+
+TICKS = 4
+FILES = ("world.json", "uploads.bin", "journal.bin")
+FAULTS = {5: b"fault 5 ReadFault\n", 6: b"fault 6 WriteFault\n", 7: b"fault 7 DiskFault\n", 11: b"fault 11 Memory\n"}
+NOBODY = 9
+
+
+def words_of(ticks):
+    return ["run", *FILES, "--ticks", str(ticks)]
+
+
+def of_nobody(tick, count, length):
+    """Uploads of nobody, which are judged at the start of a tick."""
+    return [Upload(tick, NOBODY, Refused("Malformed", bytes(length)))] * count
+
+
+def whole_ticks(first, steps, out, kept):
+    """How many whole ticks have just these lines and are just this journal, or None."""
+    for count in range(len(steps) + 1):
+        if out == output_of(first, steps[:count]) and kept == journal_of(first, steps[:count]):
+            return count
+    return None
+
+
+def ended(command, folder, **others):
+    """The exit status, standard output and standard error of a command, and the journal that it left."""
+    try:
+        done = subprocess.run(command, cwd=folder, stdin=subprocess.DEVNULL, capture_output=True, timeout=60, **others)
+    except subprocess.TimeoutExpired:
+        return "none in a minute", b"", b"", b""
+    path = os.path.join(folder, FILES[2])
+    return done.returncode, done.stdout, done.stderr, content_of(path) if os.path.exists(path) else b""
+
+
+def forget_journal(folder):
+    path = os.path.join(folder, FILES[2])
+    if os.path.exists(path):
+        os.remove(path)
+
+
+# ---- memory
+
+
+def within(limit):
+    """What a process does at its start to have so many bytes of memory at most."""
+    return lambda: resource.setrlimit(resource.RLIMIT_AS, (limit, limit))
+
+
+def least_limit(folder):
+    """A limit under which the program begins at all, but for a MiB."""
+    return next(limit for limit in range(MIB, 512 * MIB, MIB) if ended([PROGRAM, "--version"], folder, preexec_fn=within(limit))[0] == 0)
+
+
+def fault_line_faults(status, err):
+    """(a line is left out where there is no memory for it)"""
+    wanted = (b"",) if status == 0 else (b"", FAULTS[11])
+    return [] if err in wanted else [f"standard error {shown(err)}"]
+
+
+def check_memory_of_runs(folder, least):
+    """A run whose third tick has uploads of 40 MiB, under limits from one where it hardly begins to one where it is done."""
+    uploads = of_nobody(2, 40, MIB)
+    steps = played(SMALL, TICKS, uploads)
+    write_files(folder, {"world.json": bytes_of(SMALL), "uploads.bin": stream_of(uploads)})
+    found, said = set(), 0
+    for limit in range(least, least + 1024 * MIB, 8 * MIB):
+        forget_journal(folder)
+        status, out, err, kept = ended([PROGRAM, *words_of(TICKS)], folder, preexec_fn=within(limit))
+        count = -1 if (out, kept) == (b"", b"") else whole_ticks(SMALL, steps, out, kept)
+        faults = [] if status in (0, 11) else [f"exit status {status}"]
+        faults += [] if count is not None and (status == 11 or count == TICKS) else [f"no whole ticks: {len(kept)} bytes, {shown(out)}"]
+        note(f"a run within {limit // MIB} MiB", faults + fault_line_faults(status, err))
+        found.add(count)
+        said += err == FAULTS[11]
+        if status == 0:
+            break
+    note("memory ran out before the run, after some ticks, and not at all", [] if {-1, TICKS} < found else [f"whole ticks: {found}"])
+    note("the fault line of status 11", [] if said else ["it never came"])
+
+
+def check_memory_of_inputs(folder, least):
+    """Inputs that are longer than memory lets them be, or want more than they are long."""
+    fault = (11, b"", FAULTS[11], b"")
+    inputs = {
+        "a world file of 64 MiB": {"world.json": 64 * MIB, "uploads.bin": b""},
+        "a stream of 256 MiB": {"world.json": bytes_of(SMALL), "uploads.bin": 256 * MIB},
+    }
+    for name, files in inputs.items():
+        write_files(folder, files)
+        forget_journal(folder)
+        found = ended([PROGRAM, *words_of(1)], folder, preexec_fn=within(least + 48 * MIB))
+        note(f"{name}, where there are 48 MiB", [] if found == fault else [f"{shown(found)}, wanted {shown(fault)}"])
+
+
+def check_memory_of_checks(folder, least):
+    """The check of a module of a mebibyte, under limits from one where it hardly begins on."""
+    write_files(folder, {"module.wasm": module([b"\x01" * 95] * 9_999)})
+    found = set()
+    for limit in range(least, least + 128 * MIB, MIB // 2):
+        status, out, err, _ = ended([PROGRAM, "check", "module.wasm"], folder, preexec_fn=within(limit))
+        faults = [] if (status, out) in ((0, b"accepted\n"), (11, b"")) else [f"exit status {status}, standard output {shown(out)}"]
+        note(f"a check within {limit / MIB} MiB", faults + fault_line_faults(status, err))
+        found.add(status)
+        if status == 0:
+            break
+    note("memory ran out in a check, and then not", [] if found == {0, 11} else [f"exit statuses {found}"])
+
+
+def check_memory():
+    with tempfile.TemporaryDirectory() as folder:
+        least = least_limit(folder)
+        check_memory_of_runs(folder, least)
+        check_memory_of_inputs(folder, least)
+        check_memory_of_checks(folder, least)
+
+
+# ---- standard output
+
+
+def closed_after(most, command, folder, **others):
+    """Runs with a pipe as standard output, from which so many bytes are read at least before it is closed, and which holds little more: what was
+    read, and the exit status, standard error and journal."""
+    reader, writer = os.pipe()
+    fcntl.fcntl(writer, fcntl.F_SETPIPE_SZ, 4096)
+    run = subprocess.Popen(command, cwd=folder, stdin=subprocess.DEVNULL, stdout=writer, stderr=subprocess.PIPE, **others)
+    os.close(writer)
+    got = b""
+    while len(got) < most:
+        piece = os.read(reader, most - len(got))
+        if not piece:
+            break
+        got += piece
+    os.close(reader)
+    _, err = run.communicate(timeout=120)
+    return got, (run.returncode, err, content_of(os.path.join(folder, FILES[2])))
+
+
+def check_pipes():
+    """A pipe that nobody reads any more. Where the signal SIGPIPE is not passed over, it may end the program before it says so."""
+    ticks = 2000
+    steps = played(SMALL, ticks)
+    lines = output_of(SMALL, steps)
+    for most in (0, 1, len(start_line(SMALL)), 100, 4097):
+        for passed_over in (True, False):
+            with tempfile.TemporaryDirectory() as folder:
+                write_files(folder, {"world.json": bytes_of(SMALL), "uploads.bin": b""})
+                got, (status, err, kept) = closed_after(most, [PROGRAM, *words_of(ticks)], folder, restore_signals=not passed_over)
+            ends = [(6, FAULTS[6])] if passed_over else [(6, FAULTS[6]), (-signal.SIGPIPE, b"")]
+            faults = [] if (status, err) in ends else [f"exit status {status}, standard error {shown(err)}"]
+            faults += [] if lines.startswith(got) and len(got) >= most else [f"standard output {shown(got)}"]
+            # (a tick whose line was begun is in the journal, and the pipe holds less than two hundred lines)
+            least = max(0, got.count(b"\n") - 1)
+            is_whole = any(kept == journal_of(SMALL, steps[:at]) for at in range(least, least + 200))
+            faults += [] if is_whole else [f"the journal of {len(kept)} bytes is none of whole ticks, {least} or more"]
+            note(f"a pipe that is closed after {most} bytes, SIGPIPE {'passed over' if passed_over else 'as usual'}", faults)
+
+
+# ---- much at once
+
+
+def check_long_writes():
+    uploads = of_nobody(1, 40, MIB)
+    steps = played(SMALL, 3, uploads)
+    files = {"world.json": bytes_of(SMALL), "uploads.bin": stream_of(uploads)}
+    check("a frame of 40 MiB", words_of(3), files, 0, output_of(SMALL, steps), after={"journal.bin": bounded(journal_of(SMALL, steps))})
+    uploads = of_nobody(0, 1_000_000, 0)
+    steps = played(SMALL, 1, uploads)
+    files = {"world.json": bytes_of(SMALL), "uploads.bin": stream_of(uploads)}
+    check("a million entries in a tick", words_of(1), files, 0, output_of(SMALL, steps), after={"journal.bin": bounded(journal_of(SMALL, steps))})
+
+
+def bounded(content):
+    """The content as a file of it is compared, which has its hash alone where it is very long."""
+    with tempfile.TemporaryDirectory() as folder:
+        write_files(folder, {"it": content})
+        return content_of(os.path.join(folder, "it"))
+
+
+# ---- calls that fail
+
+READS = "read,pread64,readv,preadv"
+WRITES = "write,pwrite64,writev,pwritev"
+SYNCS = "fsync,fdatasync"
+
+
+def traced(words, folder, *options):
+    """Runs the program under strace: how it ended, and the calls that were traced, one a line."""
+    trace = os.path.join(folder, "trace")
+    found = ended(["strace", "-f", "-y", "-qq", "-o", trace, *options, PROGRAM, *words], folder)
+    with open(trace, encoding="utf-8", errors="replace") as it:
+        calls = it.read().splitlines()
+    os.remove(trace)
+    return found, calls
+
+
+def may_trace():
+    if not shutil.which("strace"):
+        return "strace is not installed"
+    done = subprocess.run(["strace", "-o", os.devnull, "true"], stdin=subprocess.DEVNULL, capture_output=True, timeout=60)
+    return None if done.returncode == 0 else "strace may not trace here"
+
+
+def at_path(folder, path):
+    """That calls of this file alone are traced."""
+    return "-P", os.path.join(os.path.realpath(folder), path)
+
+
+def calls_of(words, folder, path, kinds):
+    """How many calls of these kinds a run makes of a file."""
+    forget_journal(folder)
+    _, calls = traced(words, folder, *at_path(folder, path), "-e", f"trace={kinds}")
+    return sum(re.search(r"\b(" + kinds.replace(",", "|") + r")\(", call) is not None for call in calls)
+
+
+def failing(words, folder, path, kinds, number, error):
+    """How a run ends in which this call of a file fails."""
+    forget_journal(folder)
+    return traced(words, folder, *at_path(folder, path), "-e", f"trace={kinds}", "-e", f"inject={kinds}:error={error}:when={number}")[0]
+
+
+# A world whose file is longer than one read takes.
+LONG = world(*[room(f"E{n % 20}S{n // 20}", 30, *[thing("pile", n * SECOND + k, k, 3, energy=10**6) for k in range(1, 25)]) for n in range(100)])
+
+
+def check_sources(folder):
+    """Each read of an input fails in its turn: the first, those in the middle, and the one that would tell the end."""
+    uploads = of_nobody(0, 3, 60_000)
+    write_files(folder, {"world.json": bytes_of(LONG), "uploads.bin": stream_of(uploads), "module.wasm": module([b"\x01" * 95] * 9_999)})
+    for path, words in (("world.json", words_of(1)), ("uploads.bin", words_of(1)), ("module.wasm", ["check", "module.wasm"])):
+        most = calls_of(words, folder, path, READS)
+        note(f"{path} is read in pieces", [] if most > 2 else [f"{most} reads"])
+        for number in sorted({1, 2, 3, most // 2, most - 1, most} - {0}):
+            found = failing(words, folder, path, READS, number, "EIO")
+            wanted = (5, b"", FAULTS[5], b"")
+            note(f"read {number} of {most} of {path} fails", [] if found == wanted else [f"{shown(found)}, wanted {shown(wanted)}"])
+
+
+def check_disk(folder):
+    """Each write and each sync of the journal fails in its turn: what was printed are whole ticks, and not that of the call."""
+    write_files(folder, {"world.json": bytes_of(SMALL), "uploads.bin": b""})
+    steps = played(SMALL, TICKS)
+    for kinds, error in ((WRITES, "ENOSPC"), (SYNCS, "EIO")):
+        most = calls_of(words_of(TICKS), folder, FILES[2], kinds)
+        note(f"{kinds} of the journal are made", [] if most > TICKS else [f"{most} calls"])
+        for number in range(1, most + 1):
+            status, out, err, _ = failing(words_of(TICKS), folder, FILES[2], kinds, number, error)
+            printed = next((at for at in range(TICKS) if out == output_of(SMALL, steps[:at])), -1 if out == b"" else None)
+            faults = [] if (status, err) == (7, FAULTS[7]) else [f"exit status {status}, standard error {shown(err)}"]
+            # (a frame takes as many calls as any other, so this many ticks were done before it)
+            faults += [] if printed is not None and printed < number else [f"standard output {shown(out)}"]
+            note(f"call {number} of {most} of {kinds} fails", faults)
+
+
+def check_output(folder):
+    """A write to standard output fails."""
+    write_files(folder, {"world.json": bytes_of(SMALL), "uploads.bin": b""})
+    steps = played(SMALL, TICKS)
+    for number in range(1, TICKS + 2):
+        forget_journal(folder)
+        options = ["-e", "trace=write,writev", "-e", f"inject=write,writev:error=EIO:when={number}"]
+        with open(os.path.join(folder, "lines"), "wb") as sink:
+            trace = os.path.join(folder, "trace")
+            command = ["strace", "-f", "-qq", "-o", trace, *at_path(folder, "lines"), *options, PROGRAM, *words_of(TICKS)]
+            done = subprocess.run(command, cwd=folder, stdin=subprocess.DEVNULL, stdout=sink, stderr=subprocess.PIPE, timeout=120)
+        out, kept = content_of(os.path.join(folder, "lines")), content_of(os.path.join(folder, FILES[2]))
+        wanted = (6, FAULTS[6], output_of(SMALL, steps[: number - 2]) if number > 1 else b"", journal_of(SMALL, steps[: number - 1]))
+        found = (done.returncode, done.stderr, out, kept)
+        note(f"write {number} to standard output fails", [] if found == wanted else [f"{shown(found)}, wanted {shown(wanted)}"])
+
+
+def order_faults(calls):
+    """What is wrong of the order of these calls: lines are printed once all that was written into the journal is synced, and something was."""
+    faults, written, dirty, prints, syncs = [], False, False, 0, 0
+    for call in calls:
+        found = re.match(r"(?:\d+ +)?(\w+)\((\d+)<([^>]*)>.* = (-?\d+)", call)
+        if not found or int(found[4]) < 0:
+            continue
+        kind, number, path = found[1], int(found[2]), found[3]
+        if os.path.basename(path) == FILES[2]:
+            is_sync = kind in SYNCS.split(",")
+            written, dirty, syncs = written or not is_sync, not is_sync, syncs + is_sync
+        elif number == 1:
+            faults += ["lines are printed of a frame that is not synced"] if dirty else []
+            prints += written
+            written = False
+    return faults, prints, syncs
+
+
+def check_syncs(folder):
+    write_files(folder, {"world.json": bytes_of(SMALL), "uploads.bin": b""})
+    forget_journal(folder)
+    found, calls = traced(words_of(TICKS), folder, "-e", f"trace={WRITES},{SYNCS},ftruncate")
+    steps = played(SMALL, TICKS)
+    wanted = (0, output_of(SMALL, steps), b"", journal_of(SMALL, steps))
+    note("a run that is traced", [] if found == wanted else [f"{shown(found)}, wanted {shown(wanted)}"])
+    faults, prints, syncs = order_faults(calls)
+    note("each frame is synced before its lines are printed", faults)
+    note("each frame has lines of its own", [] if prints == TICKS + 1 else [f"lines of {prints} frames, wanted {TICKS + 1}"])
+    note("each frame is synced", [] if syncs >= TICKS + 1 else [f"{syncs} syncs, wanted {TICKS + 1} at least"])
+
+
+def check_calls():
+    reason = may_trace()
+    if reason:
+        print(f"{checks.path}: no call was made to fail, and the order of writes and syncs was not looked at, since {reason}")
+        return
+    for of in (check_sources, check_disk, check_output, check_syncs):
+        with tempfile.TemporaryDirectory() as folder:
+            of(folder)
+
+
+def main():
+    check_memory()
+    check_pipes()
+    check_long_writes()
+    check_calls()
+    checks.finish()
+
+
+main()
