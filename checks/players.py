@@ -1357,12 +1357,33 @@ def check_documented(folder, module):
         note("nothing else is made", differ("files", sorted(os.listdir(os.path.join(folder, "players"))), before))
 
 
+def documented(path, line):
+    """The lines of an indented block of a document, from this line on."""
+    lines = text_of(path).splitlines()
+    first = lines.index(f"    {line}")
+    last = next(at for at in range(first, len(lines)) if lines[at] and not lines[at].startswith("    "))
+    return [line[4:] for line in lines[first:last]]
+
+
 def documented_player():
     """The text of the player that docs/players.md has for the path finder."""
-    lines = text_of("docs/players.md").splitlines()
-    first = lines.index('    #include "path.h"')
-    last = next(at for at in range(first, len(lines)) if lines[at] and not lines[at].startswith("    "))
-    return "".join(f"{line[4:]}\n" for line in lines[first:last])
+    return "".join(f"{line}\n" for line in documented("docs/players.md", '#include "path.h"'))
+
+
+def check_logged(folder):
+    """The player of docs/faq.md who keeps a log, and what its journal shows."""
+    module = built_text(folder, "logged", "".join(f"{line}\n" for line in documented("docs/faq.md", '#include "screeps.h"')))
+    command, *lines = documented("docs/faq.md", "players/show_run.py logged.journal 1 1")
+    if not module or MODEL:
+        return
+    found = ran("the player of docs/faq.md is run", sample(WORLD), [(1, bytes_of(module))], 1)
+    if found:
+        with open(os.path.join(folder, command.split()[1]), "wb") as it:
+            it.write(found[1])
+        shower = os.path.join(TOP, command.split()[0])
+        done = subprocess.run([sys.executable, shower, *command.split()[1:]], cwd=folder, stdin=subprocess.DEVNULL, capture_output=True, timeout=60)
+        said = (done.returncode, done.stdout.decode(), done.stderr.decode())
+        note("what docs/faq.md says of its log", differ("said", said, (0, "".join(f"{line}\n" for line in lines if line), "")))
 
 
 def built_text(folder, name, text, suffix="c"):
@@ -1474,6 +1495,7 @@ def check_built(folder):
     if module:
         check_accepted("the player of docs/players.md that finds its way is accepted", module)
         check_walk("the player of docs/players.md that finds its way", along_the_border(), bytes_of(module), 40, 1, 1)
+    check_logged(folder)
     module = built_text(folder, "memory", MEMORY)
     if module:
         check_accepted("a player that copies structs and fills arrays is accepted", module)

@@ -540,7 +540,7 @@ MAKER = "players/upload_stream.py "
 SHOWER = "players/show_room.py "
 
 # How many examples each document has: one that is lost, or that is no longer found, is a fault as one too many is.
-EXAMPLES = {"README.md": 2, "docs/hosting.md": 8, "docs/players.md": 23}
+EXAMPLES = {"README.md": 1, "docs/hosting.md": 8, "docs/players.md": 23}
 
 
 def examples_of(text):
