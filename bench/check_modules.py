@@ -34,6 +34,15 @@ def calls(params, body):
     return OPENING + types + imports + section(3, listed([b"\1"])) + section(10, listed([leb(len(code)) + code]))
 
 
+def called_types(count, calls_made):
+    """A module of so many types, which take and give nothing, and of so many calls of the table, each of another of them."""
+    body = b"\0" + b"".join(b"\x11" + leb(n * 7919 % count) + b"\0" for n in range(calls_made))
+    code = b"\0" + body + b"\x0b"
+    types = section(1, listed([b"\x60\0\0"] * count))
+    funcs = section(3, listed([b"\0"])) + section(4, b"\1\x70\0\0") + section(7, listed([LOOP]))
+    return OPENING + types + funcs + section(10, listed([leb(len(code)) + code]))
+
+
 def shapes():
     plain = const(1) + b"\x1a"
     yield "plain: const and drop", module([plain * 30] * 10_000)
@@ -59,6 +68,7 @@ def shapes():
     yield "unreachable calls of 500,000 parameters", calls(500_000, b"\0" + b"\x10\0" * 250_000)
     one_by_one = b"\0" + (b"\x41\0" + b"\x10\0") * 120_000
     yield "unreachable calls of 500,000 parameters, an operand at each", calls(500_000, one_by_one)
+    yield "60,000 types, called 160,000 times behind unreachable", called_types(60_000, 160_000)
     blocks = b"\2\x40\x0b" * 340_000
     yield "340,000 empty blocks", module([blocks])
     ifs = (const(1) + b"\4\x7f\x41\1\5\x41\2\x0b\x1a") * 95_000
