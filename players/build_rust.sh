@@ -1,10 +1,11 @@
 #!/usr/bin/env bash
-# Builds a player in Rust: `players/build_rust.sh players/gatherer.rs` makes players/gatherer.wasm. A second word names another file for the
-# module. It takes a rustc with the target wasm32-unknown-unknown: on Debian those of the packages rustc and libstd-rust-dev-wasm32, with
+# Builds a player in Rust: `players/build_rust.sh players/gatherer.rs` makes players/out/gatherer.wasm. A second word names another file for
+# the module. It takes a rustc with the target wasm32-unknown-unknown: on Debian those of the packages rustc and libstd-rust-dev-wasm32, with
 # lld; RUSTC names another.
 set -eu
 source=${1:?usage: build_rust.sh SOURCE.rs [MODULE.wasm]}
-module=${2:-${source%.rs}.wasm}
+module=${2:-$(dirname "$0")/out/$(basename "$source" .rs).wasm}
+mkdir -p "$(dirname "$module")"
 # target-cpu=mvp   WebAssembly Core 1.0 and nothing after it
 # panic=abort      no unwinding: a panic is an `unreachable`, which traps
 # opt-level=2 ..   one unit of code, so that what can't be reached is left out, and with it what the library says in a panic
