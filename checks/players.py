@@ -1228,7 +1228,7 @@ FIGHTERS = ("guard", "raider")
 IN_CPP = ("dropping",)
 
 
-def source_of(player):
+def text_file_of(player):
     return f"{player}.cpp" if player in IN_CPP else f"{player}.c"
 
 
@@ -1470,11 +1470,11 @@ def check_built_fighters(folder):
 def check_built(folder):
     for player, check in CHECKS.items():
         module = os.path.join(folder, f"{player}.wasm")
-        if built(os.path.join(PLAYERS, source_of(player)), module):
+        if built(os.path.join(PLAYERS, text_file_of(player)), module):
             # (as another clang makes it, it may be another module that does the same)
             if bytes_of(module) != bytes_of(f"players/{player}.wasm"):
-                check_accepted(f"players/{source_of(player)}, built anew, is accepted", module)
-                check(f"players/{source_of(player)}, built anew,", bytes_of(module))
+                check_accepted(f"players/{text_file_of(player)}, built anew, is accepted", module)
+                check(f"players/{text_file_of(player)}, built anew,", bytes_of(module))
             if player == "dropper":
                 check_documented(folder, module)
     check_built_fighters(folder)
