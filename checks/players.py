@@ -734,9 +734,9 @@ class Harvester:
 # ---- runs of the sample player
 
 
-def used_by(out, player):
-    """The instructions that each run of the player used, as they are printed."""
-    return [int(it) for it in re.findall(rf"^player {player} finished (\d+)$", out, re.M)]
+def used_by(out, player, end="finished"):
+    """The instructions that each run of the player used which ended so, as they are printed."""
+    return [int(it) for it in re.findall(rf"^player {player} {end} (\d+)$", out, re.M)]
 
 
 def expected(file, player, module, acts, used):
@@ -756,15 +756,16 @@ def served(words, folder):
     return done.returncode, done.stdout.decode(), done.stderr.decode()
 
 
-def ran(name, file, modules, ticks):
-    """Uploads a module for each of some players in the first tick: what the run printed, and its journal, or None where it went wrong."""
+def ran(name, file, modules, ticks, end="finished"):
+    """Uploads a module for each of some players in the first tick, whose runs all end so: what was printed, and the journal, or None where it
+    went wrong."""
     with tempfile.TemporaryDirectory() as folder:
         with open(os.path.join(folder, "world.json"), "w", encoding="utf-8") as it:
             json.dump(file, it)
         with open(os.path.join(folder, "uploads"), "wb") as it:
             it.write(stream(*[(file["tick"], player, module) for player, module in modules]))
         status, out, err = served(["run", "world.json", "uploads", "journal", "--ticks", str(ticks)], folder)
-        if (status, err) != (0, "") or any(len(used_by(out, player)) != ticks for player, _ in modules):
+        if (status, err) != (0, "") or any(len(used_by(out, player, end)) != ticks for player, _ in modules):
             note(name, f"status {status}, said {err!r}, printed {out[:500]!r}")
             return None
         with open(os.path.join(folder, "journal"), "rb") as it:
@@ -1376,7 +1377,7 @@ def check_logged(folder):
     command, *lines = documented("docs/faq.md", "players/show_run.py logged.journal 1 1")
     if not module or MODEL:
         return
-    found = ran("the player of docs/faq.md is run", sample(WORLD), [(1, bytes_of(module))], 1)
+    found = ran("the player of docs/faq.md is run", sample(WORLD), [(1, bytes_of(module))], 1, "trapped")
     if found:
         with open(os.path.join(folder, command.split()[1]), "wb") as it:
             it.write(found[1])
