@@ -12,7 +12,6 @@ import os
 import re
 import resource
 import shutil
-import signal
 import subprocess
 import sys
 import tempfile
@@ -98,7 +97,7 @@ def check_memory_of_runs(folder, least):
         faults = [] if status in (0, 11) else [f"exit status {status}"]
         faults += [] if count is not None and (status == 11 or count == TICKS) else [f"no whole ticks: {len(kept)} bytes, {shown(out)}"]
         note(f"a run within {limit // MIB} MiB", faults + fault_line_faults(status, err))
-        found.add(count)
+        found |= set() if count is None else {count}
         said += err == FAULTS[11]
         if status == 0:
             break
@@ -145,12 +144,12 @@ def check_memory():
 # ---- standard output
 
 
-def closed_after(most, command, folder, **others):
-    """Runs with a pipe as standard output, from which so many bytes are read at least before it is closed, and which holds little more: what was
-    read, and the exit status, standard error and journal."""
+def closed_after(most, folder, ticks, **others):
+    """Runs with a pipe as standard output that holds as little as may be, of which so many bytes are read before it is closed: what was read, how much
+    the pipe holds, and the exit status, standard error and journal."""
     reader, writer = os.pipe()
-    fcntl.fcntl(writer, fcntl.F_SETPIPE_SZ, 4096)
-    run = subprocess.Popen(command, cwd=folder, stdin=subprocess.DEVNULL, stdout=writer, stderr=subprocess.PIPE, **others)
+    holds = fcntl.fcntl(writer, fcntl.F_SETPIPE_SZ, 4096)
+    run = subprocess.Popen([PROGRAM, *words_of(ticks)], cwd=folder, stdin=subprocess.DEVNULL, stdout=writer, stderr=subprocess.PIPE, **others)
     os.close(writer)
     got = b""
     while len(got) < most:
@@ -160,11 +159,24 @@ def closed_after(most, command, folder, **others):
         got += piece
     os.close(reader)
     _, err = run.communicate(timeout=120)
-    return got, (run.returncode, err, content_of(os.path.join(folder, FILES[2])))
+    return got, holds, (run.returncode, err, content_of(os.path.join(folder, FILES[2])))
+
+
+def ticks_until(steps, got, holds):
+    """The numbers of ticks that may be in the journal where output failed after these bytes and at most as many more as the pipe holds: the lines of
+    all but the last one are written, and those of the last one are not read to their end."""
+    for at in range(len(steps) + 1):
+        lines = output_of(SMALL, steps[:at])
+        before = output_of(SMALL, steps[: at - 1]) if at else b""
+        if len(before) > len(got) + holds:
+            return
+        if len(lines) > len(got) or lines == got:
+            yield at
 
 
 def check_pipes():
-    """A pipe that nobody reads any more. Where the signal SIGPIPE is not passed over, it may end the program before it says so."""
+    """A pipe that nobody reads any more is an output that fails, also where the program starts with the signal SIGPIPE as it is by itself, which would
+    end it: the program passes it over."""
     ticks = 2000
     steps = played(SMALL, ticks)
     lines = output_of(SMALL, steps)
@@ -172,14 +184,11 @@ def check_pipes():
         for passed_over in (True, False):
             with tempfile.TemporaryDirectory() as folder:
                 write_files(folder, {"world.json": bytes_of(SMALL), "uploads.bin": b""})
-                got, (status, err, kept) = closed_after(most, [PROGRAM, *words_of(ticks)], folder, restore_signals=not passed_over)
-            ends = [(6, FAULTS[6])] if passed_over else [(6, FAULTS[6]), (-signal.SIGPIPE, b"")]
-            faults = [] if (status, err) in ends else [f"exit status {status}, standard error {shown(err)}"]
-            faults += [] if lines.startswith(got) and len(got) >= most else [f"standard output {shown(got)}"]
-            # (a tick whose line was begun is in the journal, and the pipe holds less than two hundred lines)
-            least = max(0, got.count(b"\n") - 1)
-            is_whole = any(kept == journal_of(SMALL, steps[:at]) for at in range(least, least + 200))
-            faults += [] if is_whole else [f"the journal of {len(kept)} bytes is none of whole ticks, {least} or more"]
+                got, holds, (status, err, kept) = closed_after(most, folder, ticks, restore_signals=not passed_over)
+            faults = [] if (status, err) == (6, FAULTS[6]) else [f"exit status {status}, standard error {shown(err)}"]
+            faults += [] if got == lines[:most] else [f"standard output {shown(got)}"]
+            is_whole = any(kept == journal_of(SMALL, steps[:at]) for at in ticks_until(steps, got, holds))
+            faults += [] if is_whole else [f"the journal of {len(kept)} bytes is none of whole ticks up to the one whose lines failed"]
             note(f"a pipe that is closed after {most} bytes, SIGPIPE {'passed over' if passed_over else 'as usual'}", faults)
 
 
@@ -264,18 +273,20 @@ def check_sources(folder):
 
 
 def check_disk(folder):
-    """Each write and each sync of the journal fails in its turn: what was printed are whole ticks, and not that of the call."""
+    """Each write and each sync of the journal fails in its turn: what was printed are the lines of the frames before it, which the journal has."""
     write_files(folder, {"world.json": bytes_of(SMALL), "uploads.bin": b""})
     steps = played(SMALL, TICKS)
     for kinds, error in ((WRITES, "ENOSPC"), (SYNCS, "EIO")):
         most = calls_of(words_of(TICKS), folder, FILES[2], kinds)
-        note(f"{kinds} of the journal are made", [] if most > TICKS else [f"{most} calls"])
+        note(f"{kinds} of the journal are made, as many for each frame", [] if most and most % (TICKS + 1) == 0 else [f"{most} calls"])
         for number in range(1, most + 1):
-            status, out, err, _ = failing(words_of(TICKS), folder, FILES[2], kinds, number, error)
-            printed = next((at for at in range(TICKS) if out == output_of(SMALL, steps[:at])), -1 if out == b"" else None)
+            status, out, err, kept = failing(words_of(TICKS), folder, FILES[2], kinds, number, error)
+            frames = (number - 1) * (TICKS + 1) // most
+            lines, content = (output_of(SMALL, steps[: frames - 1]), journal_of(SMALL, steps[: frames - 1])) if frames else (b"", b"")
             faults = [] if (status, err) == (7, FAULTS[7]) else [f"exit status {status}, standard error {shown(err)}"]
-            # (a frame takes as many calls as any other, so this many ticks were done before it)
-            faults += [] if printed is not None and printed < number else [f"standard output {shown(out)}"]
+            faults += [] if out == lines else [f"standard output {shown(out)}, wanted {shown(lines)}"]
+            # (no more is promised of the journal)
+            faults += [] if kept.startswith(content) else [f"the journal of {len(kept)} bytes has not the {frames} frames before"]
             note(f"call {number} of {most} of {kinds} fails", faults)
 
 
@@ -294,6 +305,17 @@ def check_output(folder):
         wanted = (6, FAULTS[6], output_of(SMALL, steps[: number - 2]) if number > 1 else b"", journal_of(SMALL, steps[: number - 1]))
         found = (done.returncode, done.stderr, out, kept)
         note(f"write {number} to standard output fails", [] if found == wanted else [f"{shown(found)}, wanted {shown(wanted)}"])
+
+
+def check_interrupted(folder):
+    """A call that a signal interrupts is made again: the run is as any other."""
+    uploads = of_nobody(0, 3, 60_000)
+    write_files(folder, {"world.json": bytes_of(SMALL), "uploads.bin": stream_of(uploads)})
+    steps = played(SMALL, TICKS, uploads)
+    wanted = (0, output_of(SMALL, steps), b"", journal_of(SMALL, steps))
+    for path, kinds in ((FILES[0], READS), (FILES[1], READS), (FILES[2], WRITES), (FILES[2], SYNCS)):
+        found = failing(words_of(TICKS), folder, path, kinds, 2, "EINTR")
+        note(f"{kinds} of {path} is interrupted", [] if found == wanted else [f"{shown(found)}, wanted {shown(wanted)}"])
 
 
 def order_faults(calls):
@@ -332,7 +354,7 @@ def check_calls():
     if reason:
         print(f"{checks.path}: no call was made to fail, and the order of writes and syncs was not looked at, since {reason}")
         return
-    for of in (check_sources, check_disk, check_output, check_syncs):
+    for of in (check_sources, check_disk, check_output, check_interrupted, check_syncs):
         with tempfile.TemporaryDirectory() as folder:
             of(folder)
 
