@@ -1,0 +1,156 @@
+/* Faults of a program of its own accord: loaded before the C library (LD_PRELOAD) it changes the calls that the program makes of it, as the variable
+ * FAULT says. bench/faulty_programs.py builds it, and says which checks have to refuse which fault. */
+#define _GNU_SOURCE
+#include <errno.h>
+#include <signal.h>
+#include <stdlib.h>
+#include <string.h>
+#include <sys/syscall.h>
+#include <unistd.h>
+
+extern void *__libc_malloc(size_t size);
+extern void *__libc_realloc(void *place, size_t size);
+
+enum { OUTPUT = 1, ERRORS = 2, MIB = 1 << 20, HELD = 1 << 16 };
+
+static int is_fault(const char *name) {
+    const char *fault = getenv("FAULT");
+    return fault != NULL && strcmp(fault, name) == 0;
+}
+
+/* The answer of a call, as the fault has it. */
+static ssize_t answered(ssize_t answer) {
+    if (answer < 0 && errno == EINTR && is_fault("interrupted call fails")) {
+        errno = EIO;
+    }
+    return answer;
+}
+
+/* The journal, once something was written into it, and where it ends. */
+static int journal = -1;
+static off_t end;
+static int frames;
+
+/* What waits until a line is printed. */
+static char held[HELD];
+static size_t held_length;
+static off_t held_at;
+static int sync_waits;
+
+static ssize_t write_now(const void *bytes, size_t length, off_t at) {
+    return syscall(SYS_pwrite64, journal, bytes, length, at);
+}
+
+ssize_t pwrite(int file, const void *bytes, size_t length, off_t at) {
+    journal = file;
+    end = at + (off_t)length;
+    if (is_fault("line before frame") && length <= HELD) {
+        memcpy(held, bytes, length);
+        held_length = length;
+        held_at = at;
+        return (ssize_t)length;
+    }
+    if (is_fault("long frame cut") && length > 16 * MIB) {
+        write_now(bytes, 16 * MIB, at);
+        return (ssize_t)length;
+    }
+    frames++;
+    if (is_fault("third frame not written") && frames == 3) {
+        return (ssize_t)length;
+    }
+    int is_halved = is_fault("first frame in two pieces") && frames == 1;
+    ssize_t done = answered(write_now(bytes, is_halved ? length / 2 : length, at));
+    return done < 0 && is_fault("failed write passed over") ? (ssize_t)length : done;
+}
+
+int fsync(int file) {
+    if (is_fault("no sync")) {
+        return 0;
+    }
+    if (is_fault("sync behind line") || is_fault("line before frame")) {
+        sync_waits = 1;
+        return 0;
+    }
+    int done = (int)answered(syscall(SYS_fsync, file));
+    return is_fault("failed sync passed over") ? 0 : done;
+}
+
+ssize_t write(int file, const void *bytes, size_t length) {
+    if (file == ERRORS && is_fault("no fault line")) {
+        return (ssize_t)length;
+    }
+    if (file == OUTPUT && is_fault("long lines cut") && length > MIB) {
+        syscall(SYS_write, file, bytes, MIB);
+        return (ssize_t)length;
+    }
+    ssize_t done = syscall(SYS_write, file, bytes, length);
+    if (file == OUTPUT && held_length > 0) {
+        write_now(held, held_length, held_at);
+        held_length = 0;
+    }
+    if (file == OUTPUT && sync_waits) {
+        syscall(SYS_fsync, journal);
+        sync_waits = 0;
+    }
+    if (file == OUTPUT && done < 0 && is_fault("frame lost with its line")) {
+        syscall(SYS_ftruncate, journal, end > 149 ? end - 149 : 0);
+    }
+    return file == OUTPUT && done < 0 && is_fault("failed line passed over") ? (ssize_t)length : done;
+}
+
+ssize_t __write(int file, const void *bytes, size_t length) {
+    return write(file, bytes, length);
+}
+
+/* All of a file is read by one call, and given in pieces. */
+static ssize_t read_at_once(int file, void *bytes, size_t length) {
+    static char *all[64];
+    static ssize_t counts[64], given[64];
+    if (all[file] == NULL) {
+        all[file] = __libc_malloc(64 * MIB);
+        counts[file] = syscall(SYS_read, file, all[file], 64 * MIB);
+    }
+    ssize_t left = counts[file] - given[file], count = left < (ssize_t)length ? left : (ssize_t)length;
+    memcpy(bytes, all[file] + given[file], (size_t)count);
+    given[file] += count;
+    return count;
+}
+
+ssize_t read(int file, void *bytes, size_t length) {
+    if (is_fault("read at once")) {
+        return read_at_once(file, bytes, length);
+    }
+    ssize_t done = answered(syscall(SYS_read, file, bytes, length));
+    return done < 0 && is_fault("failed read is the end") ? 0 : done;
+}
+
+/* What becomes of a request that finds no memory. */
+static void *told(void *found) {
+    if (found == NULL && is_fault("no memory ends all")) {
+        abort();
+    }
+    if (found == NULL && is_fault("no memory is a read fault")) {
+        syscall(SYS_write, ERRORS, "fault 5 ReadFault\n", 18);
+        _exit(5);
+    }
+    if (found == NULL && is_fault("no memory spoils the journal") && journal >= 0) {
+        syscall(SYS_pwrite64, journal, "tick", 4, end);
+    }
+    return found;
+}
+
+void *malloc(size_t size) {
+    return told(__libc_malloc(size));
+}
+
+void *realloc(void *place, size_t size) {
+    return told(__libc_realloc(place, size));
+}
+
+void (*__sysv_signal(int number, void (*handler)(int)))(int) {
+    if (!is_fault("SIGPIPE as usual")) {
+        struct sigaction action = {.sa_handler = handler};
+        sigaction(number, &action, NULL);
+    }
+    return SIG_DFL;
+}
