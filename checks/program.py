@@ -542,6 +542,33 @@ SHOWER = "players/show_room.py "
 # How many examples each document has: one that is lost, or that is no longer found, is a fault as one too many is.
 EXAMPLES = {"README.md": 1, "docs/hosting.md": 8, "docs/players.md": 23}
 
+# What the other blocks of these documents begin with, and where they are run, if anywhere.
+OF_PLAYERS, OF_GATE, NOWHERE = "checks/players.py", ".ci/run", "a form, or a command that takes a prover or a compiler for Rust"
+OTHERS = {
+    "README.md": {"rm -f small.journal && (cd crates/world_server && rt run -- ": NOWHERE, ".ci/run": OF_GATE},
+    "docs/hosting.md": {"world_server run WORLD ": NOWHERE, "world_server run --ticks N -- WORLD ": NOWHERE, "world_server check MODULE": NOWHERE},
+    "docs/players.md": {
+        "players/build.sh players/dropper.c": OF_PLAYERS,
+        "clang --target=wasm32 ": OF_PLAYERS,
+        '#include "path.h"': OF_PLAYERS,
+        "players/build_rust.sh players/gatherer.rs": NOWHERE,
+    },
+    "docs/faq.md": {'#include "screeps.h"': OF_PLAYERS, "players/show_run.py logged.journal 1 1": OF_PLAYERS},
+}
+
+
+def openings_of(text):
+    """The first line of each indented block."""
+    lines = [line for line in text.splitlines() if line.strip()]
+    return [line.strip() for before, line in zip(["", *lines], lines) if line.startswith("    ") and not before.startswith("    ")]
+
+
+def other_faults(text, others):
+    """The blocks that are none of the examples and not among these, and those among these that the text doesn't have."""
+    found = [line for line in openings_of(text) if not line.startswith((CALL, MAKER, SHOWER))]
+    faults = [f"a block that nothing runs: {line}" for line in found if not line.startswith(tuple(others))]
+    return faults + [f"no block begins with {start}" for start in others if not any(line.startswith(start) for line in found)]
+
 
 def examples_of(text):
     """The calls of the program and of the scripts for players in indented blocks, each with the lines that stand behind it in its block."""
@@ -606,7 +633,8 @@ def check_documents():
     for path in paths:
         document = os.path.relpath(path, TOP)
         with open(path, encoding="utf-8") as it:
-            found = examples_of(it.read())
+            text = it.read()
+        found = examples_of(text)
         with tempfile.TemporaryDirectory() as folder:
             for part in ("worlds", "modules", "players"):
                 shutil.copytree(os.path.join(TOP, part), os.path.join(folder, part))
@@ -615,6 +643,8 @@ def check_documents():
                 note(f"{document}: {call}", faults)
         wanted = EXAMPLES.get(document, 0)
         note(f"the examples of {document}", [] if len(found) == wanted else [f"{len(found)} were found, and not {wanted}"])
+        if document in OTHERS:
+            note(f"the other blocks of {document}", other_faults(text, OTHERS[document]))
 
 
 def main():
