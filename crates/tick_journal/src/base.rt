@@ -2,7 +2,8 @@
 ghost use Rattle.std.specs.Prelude.{◌≡◌, ◌++◌, map, OnOk};
 ghost use Rattle.room_terrain.specs.Tiles.{ground_number};
 ghost use Rattle.tick_journal.specs.Contents.{base_room, signed_bytes};
-ghost use Rattle.tick_journal.specs.inner.Lists.{listed};
+ghost use Rattle.tick_journal.specs.inner.Lists.{listed, ListFits};
+ghost use Rattle.world_bytes.specs.Numbers.{TableFits};
 
 use crate::NoMemory;
 use byte_fields::put_u32;
@@ -35,7 +36,8 @@ fn put_grounds(grounds: &[Ground], out: &mut Vec<u8>) -> Result<(), NoMemory>
 
 // Writes a room with its name and its terrain.
 fn put_base_room(room: &Room, out: &mut Vec<u8>) -> Result<(), NoMemory>
-    ensures { OnOk result (out.new.items ≡ out.old.items ++ base_room room.now) }
+    ensures written { OnOk result (out.new.items ≡ out.old.items ++ base_room room.now) }
+    ensures fits { OnOk result (TableFits room.now.table) }
 {
     put_signed(room.name.column, out)?;
     put_signed(room.name.row, out)?;
@@ -45,7 +47,8 @@ fn put_base_room(room: &Room, out: &mut Vec<u8>) -> Result<(), NoMemory>
 
 /// Writes rooms with their names and terrains, behind their number.
 pub(crate) fn put_base_rooms(rooms: &[Room], out: &mut Vec<u8>) -> Result<(), NoMemory>
-    ensures { OnOk result (out.new.items ≡ out.old.items ++ listed base_room rooms.now) }
+    ensures written { OnOk result (out.new.items ≡ out.old.items ++ listed base_room rooms.now) }
+    ensures fits { OnOk result (ListFits (λ room. TableFits room.table) rooms.now) }
 {
     put_length(rooms.len() as u64, out)?;
     'each: for room in rooms {

@@ -2,6 +2,7 @@
 ghost use Rattle.std.specs.Prelude.{◌≡◌, ◌++◌, IfOk, OnOk};
 ghost use Rattle.byteorder.specs.Endian.{little_bytes};
 ghost use Rattle.tick_journal.specs.Contents.{base_content, magic, tick_content as tick_bytes, whole_record};
+ghost use Rattle.tick_journal.specs.Numbers.{RecordFits, WorldFits};
 
 use crate::base::{MARK, VERSION, put_base_rooms};
 use crate::entries::{RunEntry, UploadEntry};
@@ -108,7 +109,8 @@ fn put_start(tick: u64, out: &mut Vec<u8>) -> Result<(), NoMemory>
 
 /// The content of a journal's first frame: the world that it begins with.
 pub fn write_base(alloc: Global, world: &World) -> Result<Vec<u8>, NoMemory>
-    ensures { IfOk result (λ bytes. bytes.items ≡ base_content world.now) }
+    ensures written { IfOk result (λ bytes. bytes.items ≡ base_content world.now) }
+    ensures fits { OnOk result (WorldFits world.now) }
 {
     let rooms = rooms_size(BASE_ROOM, world.room_list());
     let accounts = accounts_size(world.account_list());
@@ -147,9 +149,10 @@ pub fn tick_content(
 }
 
 /// The content of a tick's frame. A record that has no form is written too, and is not read again as
-/// it was.
+/// it was; a list of 2^32 entries or more is want of memory.
 pub fn write_tick(alloc: Global, entry: &TickRecord) -> Result<Vec<u8>, NoMemory>
-    ensures { IfOk result (λ bytes. bytes.items ≡ tick_bytes entry.now) }
+    ensures written { IfOk result (λ bytes. bytes.items ≡ tick_bytes entry.now) }
+    ensures fits { OnOk result (RecordFits entry.now) }
 {
     let judged = entry.uploads.as_slice();
     let runs = entry.runs.as_slice();

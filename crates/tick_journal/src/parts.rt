@@ -1,8 +1,10 @@
 // Uploads, runs, accounts and rooms of a tick, written to the end of bytes.
 ghost use Rattle.std.specs.Prelude.{◌≡◌, ◌++◌, map, OnOk};
 ghost use Rattle.tick_journal.specs.Contents.{outcome_bytes, run_bytes, run_entry, upload_bytes};
-ghost use Rattle.tick_journal.specs.inner.Lists.{listed};
+ghost use Rattle.tick_journal.specs.Numbers.{RunFits, UploadFits};
+ghost use Rattle.tick_journal.specs.inner.Lists.{listed, ListFits};
 ghost use Rattle.world_bytes.specs.Forms.{account_bytes, intent_bytes, room_bytes};
+ghost use Rattle.world_bytes.specs.Numbers.{AccountFits, IntentFits, TableFits};
 
 use crate::NoMemory;
 use crate::entries::{RunEntry, UploadEntry};
@@ -13,7 +15,8 @@ use world_bytes::{put_length, write_account, write_intent, write_room};
 
 // Writes an upload, with its bytes behind their number.
 fn put_upload(entry: &UploadEntry, out: &mut Vec<u8>) -> Result<(), NoMemory>
-    ensures { OnOk result (out.new.items ≡ out.old.items ++ upload_bytes entry.now) }
+    ensures written { OnOk result (out.new.items ≡ out.old.items ++ upload_bytes entry.now) }
+    ensures fits { OnOk result (UploadFits entry.now) }
 {
     put_u32(out, entry.player)?;
     out.push(entry.result_number)?;
@@ -23,7 +26,8 @@ fn put_upload(entry: &UploadEntry, out: &mut Vec<u8>) -> Result<(), NoMemory>
 
 /// Writes uploads behind their number.
 pub(crate) fn put_uploads(uploads: &[UploadEntry], out: &mut Vec<u8>) -> Result<(), NoMemory>
-    ensures { OnOk result (out.new.items ≡ out.old.items ++ listed upload_bytes uploads.now) }
+    ensures written { OnOk result (out.new.items ≡ out.old.items ++ listed upload_bytes uploads.now) }
+    ensures fits { OnOk result (ListFits UploadFits uploads.now) }
 {
     put_length(uploads.len() as u64, out)?;
     'each: for entry in uploads {
@@ -45,7 +49,8 @@ fn outcome_numbers(outcome: RunOutcome) -> [u8; 2]
 
 // Writes intents behind their number.
 fn put_intents(intents: &[Intent], out: &mut Vec<u8>) -> Result<(), NoMemory>
-    ensures { OnOk result (out.new.items ≡ out.old.items ++ listed intent_bytes intents.now) }
+    ensures written { OnOk result (out.new.items ≡ out.old.items ++ listed intent_bytes intents.now) }
+    ensures fits { OnOk result (ListFits IntentFits intents.now) }
 {
     put_length(intents.len() as u64, out)?;
     'each: for intent in intents {
@@ -62,7 +67,9 @@ fn put_run(
     intents: &[Intent],
     out: &mut Vec<u8>,
 ) -> Result<(), NoMemory>
-    ensures { OnOk result (out.new.items ≡ out.old.items ++ run_bytes
+    ensures written { OnOk result (out.new.items ≡ out.old.items ++ run_bytes
+        (record { player = player; outcome = outcome; used = used; intents = intents.now })) }
+    ensures fits { OnOk result (RunFits
         (record { player = player; outcome = outcome; used = used; intents = intents.now })) }
 {
     put_u32(out, player)?;
@@ -73,7 +80,8 @@ fn put_run(
 
 /// Writes recorded runs behind their number.
 pub(crate) fn put_runs(runs: &[RunEntry], out: &mut Vec<u8>) -> Result<(), NoMemory>
-    ensures { OnOk result (out.new.items ≡ out.old.items ++ listed run_bytes runs.now) }
+    ensures written { OnOk result (out.new.items ≡ out.old.items ++ listed run_bytes runs.now) }
+    ensures fits { OnOk result (ListFits RunFits runs.now) }
 {
     put_length(runs.len() as u64, out)?;
     'each: for run in runs {
@@ -107,7 +115,8 @@ pub(crate) fn put_player_runs(runs: &[PlayerRun], out: &mut Vec<u8>) -> Result<(
 
 /// Writes accounts behind their number.
 pub(crate) fn put_accounts(accounts: &[Account], out: &mut Vec<u8>) -> Result<(), NoMemory>
-    ensures { OnOk result (out.new.items ≡ out.old.items ++ listed account_bytes accounts.now) }
+    ensures written { OnOk result (out.new.items ≡ out.old.items ++ listed account_bytes accounts.now) }
+    ensures fits { OnOk result (ListFits AccountFits accounts.now) }
 {
     put_length(accounts.len() as u64, out)?;
     'each: for account in accounts {
@@ -118,7 +127,8 @@ pub(crate) fn put_accounts(accounts: &[Account], out: &mut Vec<u8>) -> Result<()
 
 /// Writes tables of rooms behind their number.
 pub(crate) fn put_tables(tables: &[RoomTable], out: &mut Vec<u8>) -> Result<(), NoMemory>
-    ensures { OnOk result (out.new.items ≡ out.old.items ++ listed room_bytes tables.now) }
+    ensures written { OnOk result (out.new.items ≡ out.old.items ++ listed room_bytes tables.now) }
+    ensures fits { OnOk result (ListFits TableFits tables.now) }
 {
     put_length(tables.len() as u64, out)?;
     'each: for table in tables {

@@ -1,7 +1,8 @@
 -- What was written, piece by piece.
-use Rattle.std.proofs.Common.{◌≡◌, ℕ, ◌%◌, ◌/◌, ◌^◌, ◌≤◌, List, [], ◌∷◌, ◌++◌, length, take, map, sym, ap, ◌∙◌, refl, arith, append_assoc, length-append, if◌then◌else◌, is_ok, OnOk, Result, Ok, Err}
-use Rattle.std.proofs.lemmas.List.{append-nil, take-take, take_at, take_all}
-use Rattle.std.specs.List.{flat_map}
+use Rattle.std.proofs.Common.{◌≡◌, ℕ, ◌+◌, ◌^◌, ◌<◌, ◌≤◌, List, [], ◌∷◌, ◌++◌, length, get_or, take, map, sym, ap, ◌∙◌, refl, inl, inr, arith, append_assoc, length-append, if◌then◌else◌, is_ok, OnOk, Result, Ok, Err}
+use Rattle.std.proofs.lemmas.Bool.{cases_lt}
+use Rattle.std.proofs.lemmas.List.{append-nil, get_or-append-add, get_or_past, take-take, take_at, take_all}
+use Rattle.std.specs.List.{AllByRecursion, flat_map}
 use Rattle.byteorder.specs.Endian.{little_bytes}
 use Rattle.game_tables.specs.Actions.{action_number}
 use Rattle.game_tables.specs.Numbers.{kind_number, part_number}
@@ -14,6 +15,7 @@ use Rattle.world_bytes.specs.declared.object.Head.{Head}
 use Rattle.world_bytes.specs.declared.object.Counts.{Counts}
 use Rattle.world_bytes.specs.Forms.{object_bytes, room_bytes, account_bytes, intent_bytes}
 use Rattle.world_bytes.specs.inner.Rows.{head_of, head_row, counts_of, counts_row, body_row}
+use Rattle.world_bytes.proofs.Rooms.{all_bytes}
 
 -- one piece behind another
 pub then_written : {A : Type 0} (old mid new a b : List A) → mid ≡ old ++ a → new ≡ mid ++ b → new ≡ old ++ (a ++ b)
@@ -23,6 +25,13 @@ then_written {A} old mid new a b e f = f ∙ ap (λ (z : List A). z ++ b) e ∙ 
 pub extended : {A T E : Type 0} (result : Result T E) (old new a : List A) → new ≡ (if is_ok result then old ++ a else old) → OnOk result (new ≡ old ++ a)
 extended (Ok done) old new a e = e
 extended (Err fault) old new a e = tt
+
+-- The bytes of a text fit, as those of the vector do that has it at its end.
+pub text_fits : (old text new : List ℕ) → new ≡ old ++ text → ((i : ℕ) → i < length new → get_or new i 0 < 256) → AllByRecursion (λ byte. byte < 2 ^ 8) text
+text_fits old text new e fits = all_bytes text (λ i. elim (cases_lt i (length text)) [
+  | inl within ↦ omega (arith, fits (length old + i) (omega (arith, ap length e, length-append old text)), ap (λ (z : List ℕ). get_or z (length old + i) 0) e, get_or-append-add old text i 0)
+  | inr behind ↦ omega (arith, get_or_past text i 0 behind)
+])
 
 -- what stood before the pieces stands still
 pub kept_behind : {A : Type 0} (old mid new a : List A) → mid ≡ old ++ a → take (length mid) new ≡ mid → take (length old) new ≡ old
@@ -82,15 +91,6 @@ intent_is_written intent old a b c d new e f g h i =
     let four = then_written old c d _ (little_bytes 8 intent.amount) three h in
     let last : new ≡ d ++ (length intent.body ∷ map part_number intent.body) = i ∙ ap (λ (z : List ℕ). d ++ (length intent.body ∷ z)) (append-nil (map part_number intent.body)) in
     then_written old d new _ (length intent.body ∷ map part_number intent.body) four last
-
--- the low four bytes of a number are those of its low part
-pub low_part : (n : ℕ) → little_bytes 4 (n % 2 ^ 32) ≡ little_bytes 4 n
-low_part n =
-    let first : n % 2 ^ 32 % 256 ≡ n % 256 = omega arith in
-    let second : n % 2 ^ 32 / 256 % 256 ≡ n / 256 % 256 = omega arith in
-    let third : n % 2 ^ 32 / 65536 % 256 ≡ n / 65536 % 256 = omega arith in
-    let fourth : n % 2 ^ 32 / 16777216 % 256 ≡ n / 16777216 % 256 = omega arith in
-    cc
 
 pub room_is_kept : (old a b c new d e f : List ℕ) → a ≡ old ++ d → b ≡ a ++ e → c ≡ b ++ f → take (length c) new ≡ c → take (length old) new ≡ old
 room_is_kept old a b c new d e f g h i kept =

@@ -1,9 +1,10 @@
 // Rooms, accounts and intents, written to the end of bytes.
-ghost use Rattle.std.specs.Prelude.{◌≡◌, ◌++◌, [], length, take, OnOk, OnErr};
-ghost use Rattle.std.specs.List.{flat_map};
+ghost use Rattle.std.specs.Prelude.{◌≡◌, ◌<◌, ◌^◌, ◌++◌, [], length, take, OnOk, OnErr};
+ghost use Rattle.std.specs.List.{AllByRecursion, flat_map};
 ghost use Rattle.byteorder.specs.Endian.{little_bytes};
 ghost use Rattle.world_bytes.specs.Forms.{object_bytes, room_bytes, account_bytes, intent_bytes};
-ghost use Rattle.world_bytes.specs.inner.Rows.{head_of, head_row, counts_of, counts_row, body_row};
+ghost use Rattle.world_bytes.specs.Numbers.{AccountFits, IntentFits, ObjectFits, TableFits};
+ghost use Rattle.world_bytes.specs.inner.Rows.{head_of, head_row, counts_of, counts_row, body_row, HasCountsForm};
 
 use crate::NoMemory;
 use byte_fields::{put_u32, put_u64};
@@ -14,6 +15,7 @@ use object_store::{Account, Body, Object, Objects, RoomTable};
 fn put_head(object: &Object, out: &mut Vec<u8>) -> Result<(), NoMemory>
     ensures written { OnOk result (out.new.items ≡ out.old.items ++ head_row (head_of object.now) []) }
     ensures kept { OnErr result (take (length out.old.items) out.new.items ≡ out.old.items) }
+    ensures fits { OnOk result ((object.now.id < 2 ^ 64) × (object.now.owner < 2 ^ 32)) }
 {
     put_u64(out, object.id)?;
     out.extend_from_slice(&[object.kind.number(), object.x, object.y])?;
@@ -24,6 +26,7 @@ fn put_head(object: &Object, out: &mut Vec<u8>) -> Result<(), NoMemory>
 fn put_counts(object: &Object, out: &mut Vec<u8>) -> Result<(), NoMemory>
     ensures written { OnOk result (out.new.items ≡ out.old.items ++ counts_row (counts_of object.now) []) }
     ensures kept { OnErr result (take (length out.old.items) out.new.items ≡ out.old.items) }
+    ensures fits { OnOk result (HasCountsForm (counts_of object.now)) }
 {
     put_u32(out, object.hits)?;
     put_u64(out, object.energy)?;
@@ -51,6 +54,7 @@ fn put_body(body: &Body, out: &mut Vec<u8>) -> Result<(), NoMemory>
 fn put_object(object: &Object, out: &mut Vec<u8>) -> Result<(), NoMemory>
     ensures written { OnOk result (out.new.items ≡ out.old.items ++ object_bytes object.now) }
     ensures kept { OnErr result (take (length out.old.items) out.new.items ≡ out.old.items) }
+    ensures fits { OnOk result (ObjectFits object.now) }
 {
     put_head(object, out)?;
     put_counts(object, out)?;
@@ -61,6 +65,7 @@ fn put_object(object: &Object, out: &mut Vec<u8>) -> Result<(), NoMemory>
 fn put_objects(objects: Objects<'_>, out: &mut Vec<u8>) -> Result<(), NoMemory>
     ensures written { OnOk result (out.new.items ≡ out.old.items ++ flat_map object_bytes objects.entry) }
     ensures kept { OnErr result (take (length out.old.items) out.new.items ≡ out.old.items) }
+    ensures fits { OnOk result (AllByRecursion ObjectFits objects.entry) }
 {
     'each: for object in objects {
         put_object(object, out)?;
@@ -73,6 +78,7 @@ fn put_room(index: u32, room: &RoomTable, out: &mut Vec<u8>) -> Result<(), NoMem
     requires { index ≡ room.now.index }
     ensures written { OnOk result (out.new.items ≡ out.old.items ++ room_bytes room.now) }
     ensures kept { OnErr result (take (length out.old.items) out.new.items ≡ out.old.items) }
+    ensures fits { OnOk result (TableFits room.now) }
 {
     put_u32(out, index)?;
     put_u32(out, room.next())?;
@@ -86,6 +92,7 @@ pub fn write_room(index: u32, room: &RoomTable, out: &mut Vec<u8>) -> Result<(),
     requires { index ≡ room.now.index }
     ensures written { OnOk result (out.new.items ≡ out.old.items ++ room_bytes room.now) }
     ensures unchanged { OnErr result (out.new.items ≡ out.old.items) }
+    ensures fits { OnOk result (TableFits room.now) }
 {
     let held = out.len();
     let written = put_room(index, room, out);
@@ -95,18 +102,23 @@ pub fn write_room(index: u32, room: &RoomTable, out: &mut Vec<u8>) -> Result<(),
     written
 }
 
-/// Writes the low four bytes of a length, which are the whole of it below 4 GiB.
+/// Writes a length as four bytes. One that four bytes don't hold, of 2^32 or more, is want of memory.
 pub fn put_length(length: u64, out: &mut Vec<u8>) -> Result<(), NoMemory>
     ensures written { OnOk result (out.new.items ≡ out.old.items ++ little_bytes 4 length) }
     ensures unchanged { OnErr result (out.new.items ≡ out.old.items) }
+    ensures fits { OnOk result (length < 2 ^ 32) }
 {
-    put_u32(out, (length % (1 << 32)) as u32)
+    if length > u64::from(u32::MAX) {
+        return Err(NoMemory);
+    }
+    put_u32(out, length as u32)
 }
 
 // Writes an account. On want of memory a part of it may stand there.
 fn put_account(account: &Account, out: &mut Vec<u8>) -> Result<(), NoMemory>
     ensures written { OnOk result (out.new.items ≡ out.old.items ++ account_bytes account.now) }
     ensures kept { OnErr result (take (length out.old.items) out.new.items ≡ out.old.items) }
+    ensures fits { OnOk result (AccountFits account.now) }
 {
     put_u32(out, account.player)?;
     put_u32(out, account.limit)?;
@@ -117,10 +129,11 @@ fn put_account(account: &Account, out: &mut Vec<u8>) -> Result<(), NoMemory>
 }
 
 /// Writes the account to the end of the bytes. An account that has no form is written too, and is not
-/// read again as it was.
+/// read again as it was; a memory text of 2^32 bytes or more is want of memory.
 pub fn write_account(account: &Account, out: &mut Vec<u8>) -> Result<(), NoMemory>
     ensures written { OnOk result (out.new.items ≡ out.old.items ++ account_bytes account.now) }
     ensures unchanged { OnErr result (out.new.items ≡ out.old.items) }
+    ensures fits { OnOk result (AccountFits account.now) }
 {
     let held = out.len();
     let written = put_account(account, out);
@@ -134,6 +147,7 @@ pub fn write_account(account: &Account, out: &mut Vec<u8>) -> Result<(), NoMemor
 fn put_intent(intent: &Intent, out: &mut Vec<u8>) -> Result<(), NoMemory>
     ensures written { OnOk result (out.new.items ≡ out.old.items ++ intent_bytes intent.now) }
     ensures kept { OnErr result (take (length out.old.items) out.new.items ≡ out.old.items) }
+    ensures fits { OnOk result (IntentFits intent.now) }
 {
     out.push(intent.action.number())?;
     put_u64(out, intent.actor)?;
@@ -146,6 +160,7 @@ fn put_intent(intent: &Intent, out: &mut Vec<u8>) -> Result<(), NoMemory>
 pub fn write_intent(intent: &Intent, out: &mut Vec<u8>) -> Result<(), NoMemory>
     ensures written { OnOk result (out.new.items ≡ out.old.items ++ intent_bytes intent.now) }
     ensures unchanged { OnErr result (out.new.items ≡ out.old.items) }
+    ensures fits { OnOk result (IntentFits intent.now) }
 {
     let held = out.len();
     let written = put_intent(intent, out);

@@ -4,8 +4,8 @@ use Rattle.std.proofs.lemmas.Result.{on_ok_weaker}
 use Rattle.tick_journal.proofs.Written.{room_written}
 use Rattle.tick_journal.proofs.base.put_base_room.Goals as goal
 
-pub returns : goal.returns
-returns c =
+pub returns-clause-written : goal.returns-clause-written
+returns-clause-written c =
     let column : to_z w32 (of_z w32 c.args.room.now.name.column) ≡ c.args.room.now.name.column = to_z-of_z w32 _ (search rules) in
     let row : to_z w32 (of_z w32 c.args.room.now.name.row) ≡ c.args.room.now.name.row = to_z-of_z w32 _ (search rules) in
     on_ok_weaker c.write_room.result
