@@ -1,12 +1,13 @@
 -- The rules that a stored world keeps.
-use Rattle.std.specs.Prelude.{◌≢◌, ℕ, List}
+use Rattle.std.specs.Prelude.{◌≡◌, ◌≢◌, ℕ, List, Bool, true, false}
 use Rattle.std.specs.List.{AllByRecursion}
 use Rattle.object_store.specs.declared.world.Room.{Room}
+use Rattle.object_store.specs.Stored.{Stored}
 use Rattle.object_store.specs.Tables.{IsOnTile}
 use Rattle.world_rules.specs.declared.rule.Rule.{Rule}
-use Rattle.world_rules.specs.declared.rule.Rule.TheVariants.{Counts}
+use Rattle.world_rules.specs.declared.rule.Rule.TheVariants.{Counts, RoomTwice, Corner, Serial, IdTwice, Tile, Shared, Owner, Controllers, Range, PlayerTwice, Sites}
 use Rattle.world_rules.specs.Rules.{Broken}
-use Rattle.world_rules.specs.World.{Listing}
+use Rattle.world_rules.specs.World.{Listing, listing_of}
 
 -- Each object stands on a tile of its room.
 abbrev pub AreOnTiles : List Room → Type 0
@@ -15,3 +16,24 @@ AreOnTiles rooms = AllByRecursion (λ room. AllByRecursion IsOnTile room.table.o
 -- No rule is broken, but maybe that of the counts.
 abbrev pub KeepsAllButCounts : Listing → Type 0
 KeepsAllButCounts listing = (rule : Rule) (n : ℕ) → rule ≢ Counts → Broken rule n listing → ⊥
+
+-- the rules that speak of objects, which a tick may change; the others speak of what stays: how many rooms and
+-- players there are, their names and numbers, and the grounds
+abbrev pub is_of_objects : Rule → Bool
+is_of_objects Counts = false
+is_of_objects RoomTwice = false
+is_of_objects Corner = false
+is_of_objects Serial = true
+is_of_objects IdTwice = true
+is_of_objects Tile = true
+is_of_objects Shared = true
+is_of_objects Owner = true
+is_of_objects Controllers = true
+is_of_objects Range = true
+is_of_objects PlayerTwice = false
+is_of_objects Sites = true
+
+-- Each object stands on a tile of its room, and no rule of objects is broken.
+pub record KeepsObjectRules (world : Stored) : Type 0 where
+  pub tiles : AreOnTiles world.rooms
+  pub rules : (rule : Rule) (n : ℕ) → is_of_objects rule ≡ true → Broken rule n (listing_of world) → ⊥

@@ -4,14 +4,22 @@ ghost use Rattle.std.specs.List.{AllByRecursion};
 ghost use Rattle.object_store.specs.Tables.{IsOnTile, IsRising};
 ghost use Rattle.object_store.specs.Stored.{HaveRisingTables};
 ghost use Rattle.world_rules.specs.World.{listed_room, listing_of};
-ghost use Rattle.rule_check.specs.Kept.{AreOnTiles, KeepsAllButCounts};
+ghost use Rattle.rule_check.specs.Kept.{AreOnTiles, KeepsAllButCounts, KeepsObjectRules, is_of_objects};
 ghost use Rattle.rule_check.specs.Views.{viewed, viewed_room, IsOrdered};
+ghost use Rattle.rule_check.specs.inner.Chosen.{takes, IsKept, KeepsChosen};
 
 use crate::first::{ORDER, least_broken};
 use crate::view::RoomView;
 use object_store::{Account, Object, Room, RoomTable, World};
 use std::alloc::{AllocError, Global};
 use world_rules::Rule;
+
+// The rules that are tested.
+#[derive(Clone, Copy)]
+enum Chosen {
+    AllButCounts,
+    OfObjects,
+}
 
 /// Whether each object stands on a tile of its room, and the world keeps each rule but that of the counts.
 ///
@@ -21,29 +29,79 @@ pub fn keeps_rules(alloc: Global, world: &World) -> Result<bool, AllocError>
         (AreOnTiles world.now.rooms × KeepsAllButCounts (listing_of world.now))
         (AreOnTiles world.now.rooms × KeepsAllButCounts (listing_of world.now) → ⊥)) }
 {
+    keeps_chosen(alloc, Chosen::AllButCounts, world)
+}
+
+/// Whether each object stands on a tile of its room, and the world keeps each rule of objects.
+///
+/// It takes memory as `keeps_rules` does.
+pub fn keeps_object_rules(alloc: Global, world: &World) -> Result<bool, AllocError>
+    ensures { IfOk result (λ kept. MatchBool kept (KeepsObjectRules world.now)
+        (KeepsObjectRules world.now → ⊥)) }
+{
+    keeps_chosen(alloc, Chosen::OfObjects, world)
+}
+
+// Whether each object stands on a tile of its room, and the world keeps each chosen rule.
+fn keeps_chosen(alloc: Global, chosen: Chosen, world: &World) -> Result<bool, AllocError>
+    ensures { IfOk result (λ kept. MatchBool kept (KeepsChosen chosen world.now)
+        (KeepsChosen chosen world.now → ⊥)) }
+{
     let rooms = world.room_list();
     if !are_on_tiles(rooms) {
         return Ok(false);
     }
     let lists = lists_of(alloc, rooms)?;
     let views = views_of(alloc, rooms, &lists)?;
-    keep_rules(alloc, &views, world.account_list())
+    keep_rules(alloc, chosen, &views, world.account_list())
 }
 
-// Whether these rooms and accounts keep each rule but that of the counts.
-fn keep_rules(alloc: Global, rooms: &[RoomView], accounts: &[Account]) -> Result<bool, AllocError>
+// Whether these rooms and accounts keep each chosen rule.
+fn keep_rules(
+    alloc: Global,
+    chosen: Chosen,
+    rooms: &[RoomView],
+    accounts: &[Account],
+) -> Result<bool, AllocError>
     requires { AllByRecursion IsOrdered rooms.now }
-    ensures { IfOk result (λ kept. MatchBool kept (KeepsAllButCounts (viewed rooms.now accounts.now 0))
-        (KeepsAllButCounts (viewed rooms.now accounts.now 0) → ⊥)) }
+    ensures { IfOk result (λ kept. MatchBool kept (IsKept chosen (viewed rooms.now accounts.now 0))
+        (IsKept chosen (viewed rooms.now accounts.now 0) → ⊥)) }
 {
     for rule in ORDER {
-        if rule != Rule::Counts {
+        if is_chosen(chosen, rule) {
             if let Some(_) = least_broken(alloc, rule, rooms, accounts)? {
                 return Ok(false);
             }
         }
     }
     Ok(true)
+}
+
+// Whether the rule is tested.
+fn is_chosen(chosen: Chosen, rule: Rule) -> bool
+    ensures { result ≡ takes chosen rule }
+{
+    match chosen {
+        Chosen::AllButCounts => rule != Rule::Counts,
+        Chosen::OfObjects => is_of_objects(rule),
+    }
+}
+
+// Whether the rule speaks of objects.
+fn is_of_objects(rule: Rule) -> bool
+    ensures { result ≡ is_of_objects rule }
+{
+    match rule {
+        Rule::Counts | Rule::RoomTwice | Rule::Corner | Rule::PlayerTwice => false,
+        Rule::Serial
+        | Rule::IdTwice
+        | Rule::Tile
+        | Rule::Shared
+        | Rule::Owner
+        | Rule::Controllers
+        | Rule::Range
+        | Rule::Sites => true,
+    }
 }
 
 // Whether each object of these rooms stands on a tile.

@@ -16,5 +16,5 @@ mod tiles;
 mod view;
 
 pub use first::first_broken;
-pub use keeps::keeps_rules;
+pub use keeps::{keeps_object_rules, keeps_rules};
 pub use view::RoomView;

@@ -11,7 +11,7 @@ use Rattle.object_store.specs.declared.account.Account.{Account}
 use Rattle.world_rules.specs.Rules.{IsFrom1To, IsProgress, Broken, rule_place}
 use Rattle.world_rules.specs.World.{Listing}
 use Rattle.world_rules.specs.declared.rule.Rule.{Rule}
-use Rattle.world_rules.specs.declared.rule.Rule.TheVariants.{Counts, IdTwice}
+use Rattle.world_rules.specs.declared.rule.Rule.TheVariants.{IdTwice}
 use Rattle.rule_check.specs.declared.view.RoomView.{RoomView}
 
 -- The least number that is so, or nothing where none is.
@@ -134,11 +134,6 @@ pub record IsBlocked (objects : List Object) (n : ℕ) : Type 0 where
 -- No rule of a lesser place is broken.
 abbrev pub KeptBelow : ℕ → Listing → Type 0
 KeptBelow place listing = (rule : Rule) (n : ℕ) → rule_place rule < place → Broken rule n listing → ⊥
-
--- The same, but for the rule of the counts.
-abbrev pub KeptPast : ℕ → Listing → Type 0
-KeptPast place listing =
-    (rule : Rule) (n : ℕ) → rule ≢ Counts → rule_place rule < place → Broken rule n listing → ⊥
 
 -- Where the rule is tested after the one of ids, no id is there twice.
 abbrev pub IsPastIds : Rule → Listing → Type 0
