@@ -1,0 +1,40 @@
+-- What is tested before a record is put in the place of what was there, and how it is put there. For private
+-- clauses.
+use Rattle.std.specs.Prelude.{◌≡◌, ◌==◌, ℕ, zero, suc, ◌+◌, ◌<◌, List, [], ◌∷◌, Option, None, length, map, option_map, get_or}
+use Rattle.std.specs.Borrow.{Bor}
+use Rattle.std.specs.List.{AllByRecursion, find}
+use Rattle.object_store.specs.declared.account.Account.{Account}
+use Rattle.object_store.specs.Stored.{Stored, HasAccount}
+use Rattle.object_store.specs.Tables.{Table}
+use Rattle.tick_journal.specs.declared.tick_record.TickRecord.{TickRecord}
+use Rattle.record_follows.specs.Follows.{IsAdmitted, account_after, room_after}
+
+-- The record may follow but for the rules of the world after it.
+pub record MayFollow (before : Stored) (entry : TickRecord) : Type 0 where
+  pub tick : entry.tick ≡ before.tick + 1
+  pub rooms : AllByRecursion (λ table. table.index < length before.rooms) entry.rooms
+  pub runs : AllByRecursion (λ run. HasAccount run.player before.accounts) entry.runs
+  pub accounts : AllByRecursion (λ account. HasAccount account.player before.accounts) entry.accounts
+  pub uploads : AllByRecursion (IsAdmitted before) entry.uploads
+
+-- the table that is noted for an index
+abbrev pub noted : List (Option (Bor Table)) → ℕ → Option Table
+noted firsts index = option_map (λ lent. lent.now) (get_or firsts index None)
+
+-- For each index the first table of it is noted.
+abbrev pub AreFirst : List (Option (Bor Table)) → List Table → Type 0
+AreFirst firsts tables = (index : ℕ) → noted firsts index ≡ find (λ table. table.index == index) tables
+
+-- the world with these accounts in the place of those of their players
+abbrev pub with_accounts : List Account → Stored → Stored
+with_accounts accounts world = record world { accounts = map (account_after accounts) world.accounts }
+
+-- the world with these tables in the place of those of their indices
+abbrev pub with_rooms : List Table → Stored → Stored
+with_rooms tables world = record world { rooms = map (room_after tables) world.rooms }
+
+-- the list with what is made of its first elements, so many
+abbrev pub first_mapped : {X : Type 0} → (X → X) → ℕ → List X → List X
+first_mapped f zero xs = xs
+first_mapped f (suc count) [] = []
+first_mapped f (suc count) (x ∷ xs) = f x ∷ first_mapped f count xs
