@@ -2,3 +2,4 @@ pub mod Frames
 pub mod Ends
 pub mod Once
 pub mod Reading
+pub mod Fronts

@@ -1,7 +1,7 @@
 // The log of a disk.
 ghost use Rattle.std.specs.Prelude.{◌≡◌, ◌≢◌, ◌↔◌, ℕ, ◌+◌, ◌<◌, ◌≤◌, ◌^◌, true, false, [], ◌∷◌, ◌++◌, List, length, Err, IfOk, IfErr, OnOk, OnErr};
 ghost use Rattle.world_io.specs.Causes.{HasCause, Rose};
-ghost use Rattle.world_io.specs.Disk.{LengthIs};
+ghost use Rattle.world_io.specs.Disk.{LengthIs, TellsAlike};
 ghost use Rattle.world_io.specs.Moments.{LeavesSince, Rests};
 ghost use Rattle.frame_log.specs.Frames.{HasClosed, HasContents, IsClosedAt, IsLog, IsBeforeOrAfter, IsEmpty, IsEmptyDisk, IsEmptyOrFirst, Stands, frame};
 ghost use Rattle.frame_log.specs.declared.fault.AppendFault.TheVariants.{DiskFault, Closed, Memory};
@@ -31,6 +31,7 @@ impl Log {
         ensures written { OnOk result ((bytes : List ℕ) → IsEmpty bytes
             → Rests bytes (D.seen disk.old) (D.moments disk.old)
             → Rests ((1 ∷ frame first.now) ++ 0 ∷ []) (D.seen disk.new) (D.moments disk.new)) }
+        ensures alike { TellsAlike (D.seen disk.old) (D.seen disk.new) }
         ensures rests { IfOk result (λ log. IsLog log.gate (D.seen disk.new) (D.moments disk.new)) }
         ensures gate { IfOk result (λ log. log.gate ≡ 9 + length first.now) }
         ensures is_open { IfOk result (λ log. log.is_closed ≡ false) }
@@ -67,6 +68,7 @@ impl Log {
         ensures done { OnOk result ((contents : List (List ℕ)) (rest : List ℕ)
             → HasClosed contents gate rest (D.seen disk.old) (D.moments disk.old)
             → HasContents contents gate (D.seen disk.new) (D.moments disk.new)) }
+        ensures alike { TellsAlike (D.seen disk.old) (D.seen disk.new) }
         ensures rests { IfOk result (λ log. IsLog log.gate (D.seen disk.new) (D.moments disk.new)) }
         ensures gate { IfOk result (λ log. log.gate ≡ gate) }
         ensures is_open { IfOk result (λ log. log.is_closed ≡ false) }
@@ -81,6 +83,13 @@ impl Log {
         }
         cut_synced(disk, gate + 1)?;
         Ok(log)
+    }
+
+    /// Whether a call of the disk failed, so that nothing more is added.
+    pub fn is_closed(&self) -> bool
+        ensures { result ≡ self.now.is_closed }
+    {
+        self.is_closed
     }
 
     /// Adds a content: its frame is written behind the closed gate, which is opened once that would outlast a
@@ -102,6 +111,7 @@ impl Log {
         ensures written { OnOk result ((front : List ℕ) → self.old.gate ≡ length front
             → Rests (front ++ 0 ∷ []) (D.seen disk.old) (D.moments disk.old)
             → Rests ((front ++ 1 ∷ frame content.now) ++ 0 ∷ []) (D.seen disk.new) (D.moments disk.new)) }
+        ensures alike { TellsAlike (D.seen disk.old) (D.seen disk.new) }
         ensures rests { OnOk result (IsLog self.new.gate (D.seen disk.new) (D.moments disk.new)) }
         ensures gate { OnOk result (self.new.gate ≡ self.old.gate + 9 + length content.now) }
         ensures is_open { OnOk result (self.new.is_closed ≡ false) }

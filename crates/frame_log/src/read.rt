@@ -2,7 +2,7 @@
 ghost use Rattle.std.specs.Prelude.{◌≡◌, ◌≢◌, ◌<◌, ◌≤◌, ◌^◌, drop, IfOk, IfErr, IfSome, OnOk};
 ghost use Rattle.world_io.specs.Causes.{Rose};
 ghost use Rattle.world_io.specs.Disk.{LengthIs, Same};
-ghost use Rattle.frame_log.specs.Reading.{FindsAt};
+ghost use Rattle.frame_log.specs.Reading.{EndsWithin, FindsAt};
 ghost use Rattle.frame_log.specs.inner.Heads.{HasHead, HasOpenHead};
 ghost use Rattle.frame_log.specs.declared.fault.ReadFault.TheVariants.{DiskFault};
 
@@ -61,6 +61,7 @@ pub fn read_frame<D: Disk>(
     requires place { gate < len }
     requires limit { len < 2 ^ 62 }
     ensures found { IfOk result (λ behind. FindsAt gate behind (D.seen disk.old)) }
+    ensures within { IfOk result (EndsWithin gate len) }
     ensures same { Same (D.seen disk.old) (D.seen disk.new) }
     ensures crash { D.moments disk.new ≡ D.moments disk.old }
     ensures disk_fault { IfErr result (λ e. e ≡ DiskFault → Rose (D.faults disk.old) (D.faults disk.new)) }
@@ -92,6 +93,7 @@ fn read_content<D: Disk>(
     requires limit { len < 2 ^ 62 }
     requires head { IfSome (D.seen disk.old) (λ bytes. HasOpenHead (drop gate bytes) size) }
     ensures found { IfOk result (λ behind. FindsAt gate behind (D.seen disk.old)) }
+    ensures within { IfOk result (EndsWithin gate len) }
     ensures same { Same (D.seen disk.old) (D.seen disk.new) }
     ensures crash { D.moments disk.new ≡ D.moments disk.old }
     ensures disk_fault { IfErr result (λ e. e ≡ DiskFault → Rose (D.faults disk.old) (D.faults disk.new)) }
