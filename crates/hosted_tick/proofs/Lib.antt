@@ -1,8 +1,9 @@
-pub mod Found
-pub mod Kept
 pub mod Accounts
-pub mod Judged
-pub mod Ran
 pub mod After
+pub mod Found
 pub mod Idle
+pub mod Judged
+pub mod Kept
 pub mod Players
+pub mod Ran
+pub mod Restored

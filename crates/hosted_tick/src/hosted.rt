@@ -1,5 +1,6 @@
 // A world with the modules of its players.
 ghost use Rattle.std.specs.Prelude.{◌≡◌, ◌<◌, ◌≤◌, ◌-◌, ◌^◌, [], length, map, IfOk};
+ghost use Rattle.std.specs.FinMap.{from_entries};
 ghost use Rattle.std.specs.List.{AllByRecursion};
 ghost use Rattle.game_tables.specs.Limits.{most_memory};
 ghost use Rattle.world_rules.specs.World.{world_of};
@@ -12,13 +13,15 @@ ghost use Rattle.hosted_tick.specs.Next.{AreRuns, Next};
 
 use crate::judge::judge_all;
 use crate::modules::Modules;
+use crate::restore::link_all;
 use crate::runs::run_all;
 use intent_book::{Intents, PlayerRun};
 use kept_entries::{intents_by_room, no_intents_by_room};
-use object_store::World;
+use object_store::{Bytes, World};
 use room_step::{all_intents, next_world};
 pub use std::alloc::AllocError as NoMemory;
 use std::alloc::Global;
+use std::collections::BTreeMap;
 use std::marker::Model;
 use tick_journal::UploadEntry;
 use upload_stream::Upload;
@@ -54,6 +57,21 @@ impl Hosted {
             world,
             modules: Modules::new(alloc),
         }
+    }
+
+    /// The world with these modules of its players, which were accepted before, each decoded, validated and
+    /// linked again.
+    pub fn restored(
+        alloc: Global,
+        world: World,
+        modules: BTreeMap<u32, Bytes>,
+    ) -> Result<Hosted, NoMemory>
+        ensures world { IfOk result (λ hosted. hosted.world ≡ world) }
+        ensures modules { IfOk result
+            (λ hosted. (state_of hosted).modules ≡ from_entries modules.entries) }
+    {
+        let modules = link_all(alloc, modules)?;
+        Ok(Hosted { world, modules })
     }
 
     /// The world.

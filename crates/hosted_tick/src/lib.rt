@@ -4,6 +4,7 @@
 mod hosted;
 mod judge;
 mod modules;
+mod restore;
 mod runs;
 
 pub use hosted::{Hosted, NoMemory, Ticked};

@@ -47,7 +47,7 @@ actions_accounts before (action ∷ later) list course =
     let harmed : Course = record course { harms = course.harms ++ filter_map (harm_of book before course.world) (entries_of action list) } in
     actions_accounts before later list (after_kind book before (entries_of action list) course) ∙ rules_accounts before (entries_of action list) harmed
 
-ruled_accounts : (world : World) (list : List Intent) → (ruled book crossed world list).accounts ≡ world.accounts
+pub ruled_accounts : (world : World) (list : List Intent) → (ruled book crossed world list).accounts ≡ world.accounts
 ruled_accounts world list =
     let after : Course = acted book world list in
     let moved : World = in_every_room (movement book world list) after.world in

@@ -1,4 +1,4 @@
-use Rattle.std.proofs.Common.{List, sym, subst}
+use Rattle.std.proofs.Common.{sym, subst}
 use Rattle.world_rules.specs.World.{world_of}
 use Rattle.hosted_tick.specs.Hosting.{modules_of}
 use Rattle.hosted_tick.specs.Next.{AreRuns}
