@@ -1,0 +1,10 @@
+pub mod Courses
+pub mod Contents
+pub mod Fronts
+pub mod Walks
+pub mod Journals
+pub mod Readings
+pub mod Counts
+pub mod Modules
+pub mod Recoveries
+pub mod Written

@@ -1,0 +1,18 @@
+// The journal of a world on a disk: what it begins with, and the records of its ticks.
+#![tactic(auto)]
+
+mod at;
+mod fault;
+mod journal;
+mod laws;
+mod recovered;
+mod recovery;
+mod uploaded;
+mod walk;
+
+pub use at::{TickRecords, records, span, tick_at, world_at};
+pub use fault::{AppendFault, AtFault, RecoverFault};
+pub use journal::Journal;
+pub use laws::bytes_stand_for_one_journal;
+pub use recovered::{Modules, Recovered, UploadCount, UploadCounts};
+pub use std::alloc::AllocError as NoMemory;

@@ -1,0 +1,139 @@
+// A journal read from its front, one frame at a time.
+ghost use Rattle.std.specs.Prelude.{◌≡◌, ◌≢◌, ℕ, ◌<◌, ◌≤◌, [], List, IfOk, IfErr, IfSome, IfNone, OnOk, ◌^◌};
+ghost use Rattle.world_io.specs.Disk.{LengthIs};
+ghost use Rattle.object_store.specs.Stored.{Stored};
+ghost use Rattle.record_follows.specs.Follows.{Follows, after as world_next};
+ghost use Rattle.tick_journal.specs.BaseForms.{SpellsBase};
+ghost use Rattle.tick_journal.specs.TickForms.{SpellsTick};
+ghost use Rattle.tick_journal.specs.declared.tick_record.TickRecord.{TickRecord as Recorded};
+ghost use Rattle.world_journal.specs.Answers.{IsRecoverFaultOf, OnlyReads};
+ghost use Rattle.world_journal.specs.Journals.{KeepsRules};
+ghost use Rattle.world_journal.specs.declared.fault.RecoverFault.TheVariants.{DiskFault};
+
+use crate::NoMemory;
+use crate::fault::RecoverFault;
+use frame_log::{Behind, read_frame};
+use object_store::World;
+use record_follows::advance;
+use rule_check::keeps_rules;
+use std::alloc::Global;
+use tick_journal::{BytesFault, TickRecord, read_base_form, read_tick};
+use world_io::Disk;
+
+// The bytes of a gate and of a content's length.
+const HEAD: u64 = 9;
+
+/// Where the reading of a journal stands: the world so far, and the place of the gate that comes next, on a
+/// disk of so many bytes.
+#[derive(Drop)]
+pub(crate) struct Walk {
+    pub world: World,
+    pub gate: u64,
+    pub len: u64,
+    ghost place: { gate < len },
+    ghost limit: { len < 2 ^ 62 },
+}
+
+// The world that a content spells, where it spells one that keeps the rules.
+fn first_world(alloc: Global, content: &[u8]) -> Result<Option<World>, NoMemory>
+    ensures some { IfOk result
+        (λ found. IfSome found (λ world. SpellsBase content.now world × KeepsRules world)) }
+    ensures none { IfOk result (λ found. IfNone found
+        ((world : Stored) → SpellsBase content.now world → KeepsRules world → ⊥)) }
+{
+    let world = match read_base_form(alloc, content) {
+        Ok(world) => world,
+        Err(BytesFault::Malformed) => return Ok(None),
+        Err(BytesFault::Memory) => return Err(NoMemory),
+    };
+    if keeps_rules(alloc, &world)? {
+        Ok(Some(world))
+    } else {
+        Ok(None)
+    }
+}
+
+// The record that a content spells, where it spells one that follows the world, which is then led on. Else
+// the world may be any.
+fn next_record(
+    alloc: Global,
+    world: &mut World,
+    content: &[u8],
+) -> Result<Option<TickRecord>, NoMemory>
+    ensures some { IfOk result (λ found. IfSome found (λ entry. SpellsTick content.now entry
+        × Follows world.old entry × (world.new ≡ world_next world.old entry))) }
+    ensures none { IfOk result (λ found. IfNone found
+        ((entry : Recorded) → SpellsTick content.now entry → Follows world.old entry → ⊥)) }
+{
+    let entry = match read_tick(alloc, content) {
+        Ok(entry) => entry,
+        Err(BytesFault::Malformed) => return Ok(None),
+        Err(BytesFault::Memory) => return Err(NoMemory),
+    };
+    if advance(alloc, world, &entry)? {
+        Ok(Some(entry))
+    } else {
+        Ok(None)
+    }
+}
+
+impl Walk {
+    ghost use Rattle.world_journal.specs.inner.Walking.{HasStepped, HasWalked};
+
+    /// Reads the world that a journal begins with.
+    pub(crate) fn begin<D: Disk>(alloc: Global, disk: &mut D) -> Result<Walk, RecoverFault>
+        ensures begun { IfOk result (λ walk. HasWalked walk.world [] walk (D.seen disk.old)) }
+        ensures length { IfOk result (λ walk. LengthIs (D.seen disk.old) walk.len) }
+        ensures fault { IfErr result
+            (IsRecoverFaultOf (D.seen disk.old) (D.faults disk.old) (D.faults disk.new)) }
+        ensures steady { IfErr result (λ e. e ≢ DiskFault → D.faults disk.new ≡ D.faults disk.old) }
+        ensures reads { OnlyReads (D.seen disk.old) (D.seen disk.new)
+            (D.moments disk.old) (D.moments disk.new) (D.faults disk.old) (D.faults disk.new) result }
+    {
+        let len = disk.len()?;
+        if len <= 1 {
+            return Err(RecoverFault::Empty);
+        }
+        let content = match read_frame(alloc, disk, len, 0)? {
+            Behind::Closed => return Err(RecoverFault::Empty),
+            Behind::Broken => return Err(RecoverFault::NotAJournal(0)),
+            Behind::Frame(content) => content,
+        };
+        let Some(world) = first_world(alloc, &content)? else {
+            return Err(RecoverFault::NotAJournal(0));
+        };
+        let gate = HEAD + content.len() as u64;
+        Ok(Walk { world, gate, len })
+    }
+
+    /// Reads the next record, and leads the world on. There is none at the closed gate.
+    pub(crate) fn next<D: Disk>(
+        &mut self,
+        alloc: Global,
+        disk: &mut D,
+    ) -> Result<Option<TickRecord>, RecoverFault>
+        requires { LengthIs (D.seen disk.old) self.old.len }
+        ensures stepped { IfOk result (λ found. (base : Stored) (entries : List Recorded)
+            → HasWalked base entries self.old (D.seen disk.old)
+            → HasStepped base entries self.new (D.seen disk.old) found) }
+        ensures fault { IfErr result (λ e. (base : Stored) (entries : List Recorded)
+            → HasWalked base entries self.old (D.seen disk.old)
+            → IsRecoverFaultOf (D.seen disk.old) (D.faults disk.old) (D.faults disk.new) e) }
+        ensures moves { IfOk result (λ found. IfSome found (λ entry. self.old.gate < self.new.gate)) }
+        ensures length { self.new.len ≡ self.old.len }
+        ensures steady { IfErr result (λ e. e ≢ DiskFault → D.faults disk.new ≡ D.faults disk.old) }
+        ensures reads { OnlyReads (D.seen disk.old) (D.seen disk.new)
+            (D.moments disk.old) (D.moments disk.new) (D.faults disk.old) (D.faults disk.new) result }
+    {
+        let content = match read_frame(alloc, disk, self.len, self.gate)? {
+            Behind::Closed => return Ok(None),
+            Behind::Broken => return Err(RecoverFault::NotAJournal(self.gate)),
+            Behind::Frame(content) => content,
+        };
+        let Some(entry) = next_record(alloc, &mut self.world, &content)? else {
+            return Err(RecoverFault::NotAJournal(self.gate));
+        };
+        self.gate += HEAD + content.len() as u64;
+        Ok(Some(entry))
+    }
+}
