@@ -1,0 +1,13 @@
+pub mod Bodies
+pub mod Added
+pub mod Grounds
+pub mod Players
+pub mod Lists
+pub mod Picked
+pub mod Leading
+pub mod Bounds
+pub mod Runs
+pub mod Uploads
+pub mod Tables
+pub mod Standing
+pub mod Courses
