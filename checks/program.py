@@ -8,6 +8,7 @@ README.md and docs/ that calls the built program is run, and has to print what s
 upload stream is run too, and has to make the file of the repository. What players do is the subject of checks/desk.py.
 """
 
+import contextlib
 import copy
 import os
 import re
@@ -342,12 +343,14 @@ def check_words():
 def check_pages():
     """What the program says of itself. Its texts are compared in part: docs/hosting.md has their first and last lines."""
     pages = {
-        ("--help",): [b"run WORLD UPLOADS JOURNAL --ticks N", b"check MODULE", b"docs/hosting.md", b"docs/players.md"],
+        ("--help",): [b"run WORLD UPLOADS JOURNAL --ticks N", b"check MODULE", b"gen SEED ROOMS PART", b"docs/hosting.md", b"docs/players.md"],
         ("run", "--help"): [b"WORLD", b"UPLOADS", b"JOURNAL", b"--ticks N", b"docs/hosting.md"],
         ("check", "--help"): [b"MODULE", b"docs/players.md"],
+        ("gen", "--help"): [b"SEED", b"ROOMS", b"PART", b"`world`", b"`uploads`", b"docs/hosting.md", b"docs/formats.md"],
         ("--version",): [b"world_server 1\n"],
         ("run", "--version"): [b"world_server 1\n"],
         ("check", "--version"): [b"world_server 1\n"],
+        ("gen", "--version"): [b"world_server 1\n"],
     }
     for words, parts in pages.items():
         with tempfile.TemporaryDirectory() as folder:
@@ -540,13 +543,18 @@ MAKER = "players/upload_stream.py "
 SHOWER = "players/show_room.py "
 
 # How many examples each document has: one that is lost, or that is no longer found, is a fault as one too many is.
-EXAMPLES = {"README.md": 1, "docs/hosting.md": 8, "docs/players.md": 23}
+EXAMPLES = {"README.md": 1, "docs/hosting.md": 12, "docs/players.md": 23}
 
 # What the other blocks of these documents begin with, and where they are run, if anywhere.
 OF_PLAYERS, OF_GATE, NOWHERE = "checks/players.py", ".ci/run", "a form, or a command that takes a prover or a compiler for Rust"
 OTHERS = {
     "README.md": {"rm -f small.journal && (cd crates/world_server && rt run -- ": NOWHERE, ".ci/run": OF_GATE},
-    "docs/hosting.md": {"world_server run WORLD ": NOWHERE, "world_server run --ticks N -- WORLD ": NOWHERE, "world_server check MODULE": NOWHERE},
+    "docs/hosting.md": {
+        "world_server run WORLD ": NOWHERE,
+        "world_server run --ticks N -- WORLD ": NOWHERE,
+        "world_server check MODULE": NOWHERE,
+        "world_server gen SEED ROOMS PART": NOWHERE,
+    },
     "docs/players.md": {
         "players/build.sh players/dropper.c": OF_PLAYERS,
         "clang --target=wasm32 ": OF_PLAYERS,
@@ -595,11 +603,13 @@ def printed_faults(found, printed):
 
 
 def call_faults(call, printed, folder):
-    """What is wrong of an example that calls the program."""
+    """What is wrong of an example that calls the program. Behind the word > stands the file that it prints to."""
     for left in os.listdir(folder):
         if left.endswith(".journal"):
             os.remove(os.path.join(folder, left))
-    status, out, err = run(call[len(CALL) :].split(), folder)
+    words, _, path = call[len(CALL) :].partition(" > ")
+    with open(os.path.join(folder, path), "wb") if path else contextlib.nullcontext() as sink:
+        status, out, err = run(words.split(), folder, sink)
     faults = printed_faults(out + err, printed)
     # (a fault line says the exit status)
     said = re.match(rb"fault (\d+) ", err)

@@ -1,5 +1,5 @@
 -- What a parse by the command of a choice says of the words.
-use Rattle.std.proofs.Common.{◌≡◌, ◌&&◌, ◌∙◌, ◌≤◌, ℕ, Bool, true, false, List, [], ◌∷◌, Some, None, ap, sym}
+use Rattle.std.proofs.Common.{◌≡◌, ◌&&◌, ◌∙◌, ◌≤◌, ◌<◌, ◌^◌, ℕ, Bool, true, false, List, [], ◌∷◌, Some, None, ap, sym}
 use Rattle.std.proofs.Common.{subst, refl, inl, inr, codes}
 use Rattle.clap.specs.Values.{kind_of}
 use Rattle.clap.specs.Matches.{found_of}
@@ -11,8 +11,9 @@ use Rattle.clap.specs.declared.error.Error.{Error}
 use Rattle.clap.specs.declared.error.kind.ErrorKind.TheVariants.{OutOfMemory}
 use Rattle.clap.specs.declared.parser.matches.ArgMatches.{ArgMatches}
 use Rattle.command_words.specs.Numbers.{IsNumber}
-use Rattle.command_words.specs.Choices.{Choice, command_of, run, check}
-use Rattle.command_words.specs.Words.{IsRun, IsCheck, faults_in, rows_in}
+use Rattle.command_words.specs.Choices.{Choice, command_of, run, check, replay, show, gen, demo}
+use Rattle.command_words.specs.Words.{AreRooms, GivesNumber, IsRun, IsCheck, IsReplay, IsShow, IsGen, IsDemo, faults_in, part_word, rows_in}
+use Rattle.command_words.specs.declared.command.GenPart.{GenPart}
 
 first_holds : (x y : Bool) → (x && y) ≡ true → x ≡ true
 first_holds true y h = refl
@@ -64,6 +65,22 @@ pub choice_faults : (choice shown : Choice) (words : List Text) → choice ≡ s
     → faults_in choice words ≡ faults_in shown words
 choice_faults choice shown words same = ap (λ (v : Choice). faults_in v words) same
 
+-- ---- numbers
+
+pub number_given : (choice : Choice) (words : List Text) (rows : List Row) (name text : Text) (n : ℕ)
+    → rows ≡ rows_in choice words → first_of name rows ≡ Some text → IsNumber text n
+    → GivesNumber choice words name n
+number_given choice words rows name text n found at spells =
+    (text, same_value (rows_in choice words) rows name text (sym found) at, spells)
+
+pub no_number : (choice : Choice) (words : List Text) (rows : List Row) (name : Text) (n : ℕ)
+    → rows ≡ rows_in choice words → GivesNumber choice words name n
+    → ((text : Text) → first_of name rows ≡ Some text → IsNumber text n → ⊥) → ⊥
+no_number choice words rows name n found gives refused =
+    refused gives.0 (same_value rows (rows_in choice words) name gives.0 found gives.1) gives.2
+
+-- ---- the commands
+
 pub says_run : (words rest : List Text) (rows : List Row) (world uploads journal number : Text) (ticks : ℕ)
     → words ≡ codes "run" ∷ rest → faults_in run words ≡ [] → rows ≡ rows_in run words
     → first_of (codes "WORLD") rows ≡ Some world → first_of (codes "UPLOADS") rows ≡ Some uploads
@@ -87,3 +104,53 @@ says_check words rest rows path chosen none found p = record {
   taken = record { rest = rest; chosen = chosen; faultless = none };
   path_is = same_value (rows_in check words) rows (codes "MODULE") path (sym found) p;
 }
+
+pub says_replay : (words rest : List Text) (rows : List Row) (path : Text) → words ≡ codes "replay" ∷ rest
+    → faults_in replay words ≡ [] → rows ≡ rows_in replay words → first_of (codes "JOURNAL") rows ≡ Some path
+    → IsReplay words path
+says_replay words rest rows path chosen none found p = record {
+  taken = record { rest = rest; chosen = chosen; faultless = none };
+  path_is = same_value (rows_in replay words) rows (codes "JOURNAL") path (sym found) p;
+}
+
+pub says_show : (words rest : List Text) (rows : List Row) (path number : Text) (tick : ℕ)
+    → words ≡ codes "show" ∷ rest → faults_in show words ≡ [] → rows ≡ rows_in show words
+    → first_of (codes "JOURNAL") rows ≡ Some path → first_of (codes "TICK") rows ≡ Some number
+    → IsNumber number tick → tick < 2 ^ 64 → IsShow words path tick
+says_show words rest rows path number tick chosen none found p t spells limit = record {
+  taken = record { rest = rest; chosen = chosen; faultless = none };
+  path_is = same_value (rows_in show words) rows (codes "JOURNAL") path (sym found) p;
+  tick_is = number_given show words rows (codes "TICK") number tick found t spells;
+  limit = limit;
+}
+
+pub says_gen : (words rest : List Text) (rows : List Row) (one two : Text) (seed rooms : ℕ) (part : GenPart)
+    → words ≡ codes "gen" ∷ rest → faults_in gen words ≡ [] → rows ≡ rows_in gen words
+    → first_of (codes "SEED") rows ≡ Some one → IsNumber one seed → seed < 2 ^ 64
+    → first_of (codes "ROOMS") rows ≡ Some two → IsNumber two rooms → AreRooms rooms
+    → first_of (codes "PART") rows ≡ Some (part_word part) → IsGen words seed rooms part
+says_gen words rest rows one two seed rooms part chosen none found s one_spells limit r two_spells few p = record {
+  taken = record { rest = rest; chosen = chosen; faultless = none };
+  seed_is = number_given gen words rows (codes "SEED") one seed found s one_spells;
+  seed_limit = limit;
+  rooms_is = number_given gen words rows (codes "ROOMS") two rooms found r two_spells;
+  rooms_limits = few;
+  part_is = same_value (rows_in gen words) rows (codes "PART") (part_word part) (sym found) p;
+}
+
+pub says_demo : (words rest : List Text) (rows : List Row) (one two three : Text) (seed rooms ticks : ℕ)
+    → words ≡ codes "demo" ∷ rest → faults_in demo words ≡ [] → rows ≡ rows_in demo words
+    → first_of (codes "SEED") rows ≡ Some one → IsNumber one seed → seed < 2 ^ 64
+    → first_of (codes "ROOMS") rows ≡ Some two → IsNumber two rooms → AreRooms rooms
+    → first_of (codes "TICKS") rows ≡ Some three → IsNumber three ticks → ticks ≤ 1000000
+    → IsDemo words seed rooms ticks
+says_demo words rest rows one two three seed rooms ticks chosen none found s one_spells limit r two_spells few t
+    three_spells most = record {
+      taken = record { rest = rest; chosen = chosen; faultless = none };
+      seed_is = number_given demo words rows (codes "SEED") one seed found s one_spells;
+      seed_limit = limit;
+      rooms_is = number_given demo words rows (codes "ROOMS") two rooms found r two_spells;
+      rooms_limits = few;
+      ticks_is = number_given demo words rows (codes "TICKS") three ticks found t three_spells;
+      limit = most;
+    }

@@ -40,3 +40,27 @@ run = record {
 -- `check MODULE`
 abbrev pub check : Choice
 check = record { word = codes "check"; positionals = codes "MODULE" ∷ []; options = [] }
+
+-- `replay JOURNAL`
+abbrev pub replay : Choice
+replay = record { word = codes "replay"; positionals = codes "JOURNAL" ∷ []; options = [] }
+
+-- `show JOURNAL TICK`
+abbrev pub show : Choice
+show = record { word = codes "show"; positionals = codes "JOURNAL" ∷ codes "TICK" ∷ []; options = [] }
+
+-- `gen SEED ROOMS PART`
+abbrev pub gen : Choice
+gen = record {
+  word = codes "gen";
+  positionals = codes "SEED" ∷ codes "ROOMS" ∷ codes "PART" ∷ [];
+  options = [];
+}
+
+-- `demo SEED ROOMS TICKS`
+abbrev pub demo : Choice
+demo = record {
+  word = codes "demo";
+  positionals = codes "SEED" ∷ codes "ROOMS" ∷ codes "TICKS" ∷ [];
+  options = [];
+}

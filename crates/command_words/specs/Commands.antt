@@ -1,17 +1,60 @@
--- What a command says.
-use Rattle.std.specs.Prelude.{List, string_bytes}
+-- What a command says, and which words say none.
+use Rattle.std.specs.Prelude.{◌≢◌, ℕ, List, string_bytes}
 use Rattle.clap.specs.Walk.{Text}
-use Rattle.command_words.specs.Words.{IsRun, AreRun, IsCheck, AreCheck}
+use Rattle.command_words.specs.Choices.{Choice, run, check, replay, show, gen, demo}
+use Rattle.command_words.specs.Words.{AreCheck, AreGen, AreRun, IsCheck, IsDemo, IsGen, IsReplay, IsRun, IsShow}
 use Rattle.command_words.specs.declared.command.Command.{Command}
-use Rattle.command_words.specs.declared.command.Command.TheVariants.{Run, Check}
+use Rattle.command_words.specs.declared.command.Command.TheVariants as commands
 
 -- The command is the one that the words say.
 abbrev pub Words : List Text → Command → Type 0
-Words words (Run world uploads journal ticks) =
+Words words (commands.Run world uploads journal ticks) =
     IsRun words (string_bytes world) (string_bytes uploads) (string_bytes journal) ticks
-Words words (Check path) = IsCheck words (string_bytes path)
+Words words (commands.Check path) = IsCheck words (string_bytes path)
+Words words (commands.Replay path) = IsReplay words (string_bytes path)
+Words words (commands.Show path tick) = IsShow words (string_bytes path) tick
+Words words (commands.Gen seed rooms part) = IsGen words seed rooms part
+Words words (commands.Demo seed rooms ticks) = IsDemo words seed rooms ticks
+
+-- the choices
+pub data Kind : Type 0 where
+  a_run : Kind
+  a_check : Kind
+  a_replay : Kind
+  a_show : Kind
+  a_gen : Kind
+  a_demo : Kind
+
+abbrev pub choice_of : Kind → Choice
+choice_of a_run = run
+choice_of a_check = check
+choice_of a_replay = replay
+choice_of a_show = show
+choice_of a_gen = gen
+choice_of a_demo = demo
+
+-- The words are those of a command of this choice.
+abbrev pub AreOf : Kind → List Text → Type 0
+AreOf a_run words = AreRun words
+AreOf a_check words = AreCheck words
+AreOf a_replay words = (path : Text) × IsReplay words path
+AreOf a_show words = (path : Text) × (tick : ℕ) × IsShow words path tick
+AreOf a_gen words = AreGen words
+AreOf a_demo words = (seed : ℕ) × (rooms : ℕ) × (ticks : ℕ) × IsDemo words seed rooms ticks
+
+-- the choice of a command
+abbrev pub kind_of : Command → Kind
+kind_of (commands.Run world uploads journal ticks) = a_run
+kind_of (commands.Check path) = a_check
+kind_of (commands.Replay path) = a_replay
+kind_of (commands.Show path tick) = a_show
+kind_of (commands.Gen seed rooms part) = a_gen
+kind_of (commands.Demo seed rooms ticks) = a_demo
 
 -- The words are those of no other choice.
 abbrev pub IsAlone : List Text → Command → Type 0
-IsAlone words (Run world uploads journal ticks) = AreCheck words → ⊥
-IsAlone words (Check path) = AreRun words → ⊥
+IsAlone words command = (other : Kind) → other ≢ kind_of command → AreOf other words → ⊥
+
+-- The words are those of no command.
+abbrev pub AreNone : List Text → Type 0
+AreNone words = (kind : Kind) → AreOf kind words → ⊥

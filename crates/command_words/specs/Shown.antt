@@ -1,8 +1,9 @@
 -- Words in the order in which the choices are shown.
-use Rattle.std.specs.Prelude.{◌≡◌, ◌≢◌, ℕ, ◌≤◌, List, [], ◌∷◌, codes}
+use Rattle.std.specs.Prelude.{◌≡◌, ◌≢◌, ℕ, ◌≤◌, ◌<◌, ◌^◌, List, [], ◌∷◌, codes}
 use Rattle.clap.specs.Walk.{Text}
 use Rattle.command_words.specs.Numbers.{IsNumber}
-use Rattle.command_words.specs.Words.{IsRun, IsCheck}
+use Rattle.command_words.specs.Words.{AreRooms, IsRun, IsCheck, IsDemo, IsGen, IsReplay, IsShow, part_word}
+use Rattle.command_words.specs.declared.command.GenPart.{GenPart}
 
 -- The word doesn't begin with `-`.
 abbrev pub IsPlain : Text → Type 0
@@ -24,8 +25,49 @@ pub record ShowsCheck (words : List Text) (path : Text) : Type 0 where
   pub order : words ≡ codes "check" ∷ path ∷ []
   pub path_plain : IsPlain path
 
+-- The words are `replay JOURNAL`.
+pub record ShowsReplay (words : List Text) (path : Text) : Type 0 where
+  pub order : words ≡ codes "replay" ∷ path ∷ []
+  pub path_plain : IsPlain path
+
+-- The words are `show JOURNAL TICK`.
+pub record ShowsShow (words : List Text) (path : Text) (tick : ℕ) : Type 0 where
+  pub number : Text
+  pub order : words ≡ codes "show" ∷ path ∷ number ∷ []
+  pub path_plain : IsPlain path
+  pub spells : IsNumber number tick
+  pub limit : tick < 2 ^ 64
+
+-- The words are `gen SEED ROOMS PART`.
+pub record ShowsGen (words : List Text) (seed rooms : ℕ) (part : GenPart) : Type 0 where
+  pub seed_text : Text
+  pub rooms_text : Text
+  pub order : words ≡ codes "gen" ∷ seed_text ∷ rooms_text ∷ part_word part ∷ []
+  pub seed_spells : IsNumber seed_text seed
+  pub seed_limit : seed < 2 ^ 64
+  pub rooms_spells : IsNumber rooms_text rooms
+  pub rooms_limits : AreRooms rooms
+
+-- The words are `demo SEED ROOMS TICKS`.
+pub record ShowsDemo (words : List Text) (seed rooms ticks : ℕ) : Type 0 where
+  pub seed_text : Text
+  pub rooms_text : Text
+  pub ticks_text : Text
+  pub order : words ≡ codes "demo" ∷ seed_text ∷ rooms_text ∷ ticks_text ∷ []
+  pub seed_spells : IsNumber seed_text seed
+  pub seed_limit : seed < 2 ^ 64
+  pub rooms_spells : IsNumber rooms_text rooms
+  pub rooms_limits : AreRooms rooms
+  pub ticks_spells : IsNumber ticks_text ticks
+  pub limit : ticks ≤ 1000000
+
 -- Words as they are shown are those of the command.
 pub record TakesShown (words : List Text) : Type 0 where
   pub run_taken : (world uploads journal : Text) (ticks : ℕ) → ShowsRun words world uploads journal ticks
       → IsRun words world uploads journal ticks
   pub check_taken : (path : Text) → ShowsCheck words path → IsCheck words path
+  pub replay_taken : (path : Text) → ShowsReplay words path → IsReplay words path
+  pub show_taken : (path : Text) (tick : ℕ) → ShowsShow words path tick → IsShow words path tick
+  pub gen_taken : (seed rooms : ℕ) (part : GenPart) → ShowsGen words seed rooms part
+      → IsGen words seed rooms part
+  pub demo_taken : (seed rooms ticks : ℕ) → ShowsDemo words seed rooms ticks → IsDemo words seed rooms ticks

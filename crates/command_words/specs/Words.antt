@@ -1,11 +1,13 @@
 -- The words of a call, as `clap` reads them.
-use Rattle.std.specs.Prelude.{◌≡◌, ℕ, ◌≤◌, List, [], ◌∷◌, Some, codes}
+use Rattle.std.specs.Prelude.{◌≡◌, ℕ, ◌≤◌, ◌<◌, ◌^◌, List, [], ◌∷◌, Some, codes}
 use Rattle.clap.specs.Walk.{Row, Text, first_of}
 use Rattle.clap.specs.Simple.{matches_of}
 use Rattle.clap.specs.Faults.{fault_of}
 use Rattle.clap.specs.Kinds.{Kinds}
 use Rattle.command_words.specs.Numbers.{IsNumber}
-use Rattle.command_words.specs.Choices.{Choice, command_of, run, check}
+use Rattle.command_words.specs.Choices.{Choice, command_of, run, check, replay, show, gen, demo}
+use Rattle.command_words.specs.declared.command.GenPart.{GenPart}
+use Rattle.command_words.specs.declared.command.GenPart.TheVariants.{World, Uploads}
 
 -- ---- the words of a choice
 
@@ -26,6 +28,10 @@ pub record IsTaken (choice : Choice) (words : List Text) : Type 0 where
 -- The argument of this name has this value.
 abbrev pub Gives : Choice → List Text → Text → Text → Type 0
 Gives choice words name value = first_of name (rows_in choice words) ≡ Some value
+
+-- The argument of this name has a value that spells this number.
+abbrev pub GivesNumber : Choice → List Text → Text → ℕ → Type 0
+GivesNumber choice words name n = (text : Text) × Gives choice words name text × IsNumber text n
 
 -- ---- `run WORLD UPLOADS JOURNAL --ticks N`
 
@@ -65,8 +71,54 @@ pub record IsCheck (words : List Text) (path : Text) : Type 0 where
 abbrev pub AreCheck : List Text → Type 0
 AreCheck words = (path : Text) × IsCheck words path
 
--- ---- all choices
+-- ---- `replay JOURNAL`
 
--- The words are those of no command.
-abbrev pub AreNone : List Text → Type 0
-AreNone words = (AreRun words → ⊥) × (AreCheck words → ⊥)
+-- The words are those of a replay of the journal at this path.
+pub record IsReplay (words : List Text) (path : Text) : Type 0 where
+  pub taken : IsTaken replay words
+  pub path_is : Gives replay words (codes "JOURNAL") path
+
+-- ---- `show JOURNAL TICK`
+
+-- The words ask for the world of this tick of the journal at this path.
+pub record IsShow (words : List Text) (path : Text) (tick : ℕ) : Type 0 where
+  pub taken : IsTaken show words
+  pub path_is : Gives show words (codes "JOURNAL") path
+  pub tick_is : GivesNumber show words (codes "TICK") tick
+  pub limit : tick < 2 ^ 64
+
+-- ---- `gen SEED ROOMS PART`
+
+-- the word of a part
+abbrev pub part_word : GenPart → Text
+part_word World = codes "world"
+part_word Uploads = codes "uploads"
+
+-- There are as many rooms as a generated world may have.
+abbrev pub AreRooms : ℕ → Type 0
+AreRooms rooms = (1 ≤ rooms) × (rooms ≤ 400)
+
+-- The words ask for this part of the world of a seed and so many rooms.
+pub record IsGen (words : List Text) (seed rooms : ℕ) (part : GenPart) : Type 0 where
+  pub taken : IsTaken gen words
+  pub seed_is : GivesNumber gen words (codes "SEED") seed
+  pub seed_limit : seed < 2 ^ 64
+  pub rooms_is : GivesNumber gen words (codes "ROOMS") rooms
+  pub rooms_limits : AreRooms rooms
+  pub part_is : Gives gen words (codes "PART") (part_word part)
+
+-- The words are those of a gen.
+abbrev pub AreGen : List Text → Type 0
+AreGen words = (seed : ℕ) × (rooms : ℕ) × (part : GenPart) × IsGen words seed rooms part
+
+-- ---- `demo SEED ROOMS TICKS`
+
+-- The words ask for so many ticks of the world of a seed and so many rooms.
+pub record IsDemo (words : List Text) (seed rooms ticks : ℕ) : Type 0 where
+  pub taken : IsTaken demo words
+  pub seed_is : GivesNumber demo words (codes "SEED") seed
+  pub seed_limit : seed < 2 ^ 64
+  pub rooms_is : GivesNumber demo words (codes "ROOMS") rooms
+  pub rooms_limits : AreRooms rooms
+  pub ticks_is : GivesNumber demo words (codes "TICKS") ticks
+  pub limit : ticks ≤ 1000000

@@ -1,6 +1,6 @@
 // The choices of the program.
 ghost use Rattle.std.specs.Prelude.{◌≡◌};
-ghost use Rattle.command_words.specs.Choices.{run as run_of_words, check as check_of_words};
+ghost use Rattle.command_words.specs.Choices.{run as run_of_words, check as check_of_words, replay as replay_of_words, show as show_of_words, gen as gen_of_words, demo as demo_of_words};
 
 use crate::simple::Choice;
 
@@ -22,6 +22,50 @@ pub(crate) fn check<'a>() -> Choice<'a>
     Choice {
         word: "check",
         positionals: &["MODULE"],
+        options: &[],
+    }
+}
+
+/// `replay JOURNAL`
+pub(crate) fn replay<'a>() -> Choice<'a>
+    ensures { result ≡ replay_of_words }
+{
+    Choice {
+        word: "replay",
+        positionals: &["JOURNAL"],
+        options: &[],
+    }
+}
+
+/// `show JOURNAL TICK`
+pub(crate) fn show<'a>() -> Choice<'a>
+    ensures { result ≡ show_of_words }
+{
+    Choice {
+        word: "show",
+        positionals: &["JOURNAL", "TICK"],
+        options: &[],
+    }
+}
+
+/// `gen SEED ROOMS PART`
+pub(crate) fn gen_<'a>() -> Choice<'a>
+    ensures { result ≡ gen_of_words }
+{
+    Choice {
+        word: "gen",
+        positionals: &["SEED", "ROOMS", "PART"],
+        options: &[],
+    }
+}
+
+/// `demo SEED ROOMS TICKS`
+pub(crate) fn demo<'a>() -> Choice<'a>
+    ensures { result ≡ demo_of_words }
+{
+    Choice {
+        word: "demo",
+        positionals: &["SEED", "ROOMS", "TICKS"],
         options: &[],
     }
 }

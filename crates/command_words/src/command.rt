@@ -18,6 +18,36 @@ pub enum Command {
     Check {
         module: String,
     },
+    /// Rules the ticks of the journal at a path again.
+    Replay {
+        journal: String,
+    },
+    /// Shows the world of a tick of the journal at a path.
+    Show {
+        journal: String,
+        tick: u64,
+    },
+    /// Makes a world of a seed and so many rooms, 1 to 400, or the uploads of its players.
+    Gen {
+        seed: u64,
+        rooms: u32,
+        part: GenPart,
+    },
+    /// Runs so many ticks on the world of a seed and so many rooms, 1 to 400, in memory.
+    Demo {
+        seed: u64,
+        rooms: u32,
+        ticks: u64,
+    },
+}
+
+/// What is made of a seed.
+#[derive(Clone, Copy, Debug, PartialEq, Eq)]
+pub enum GenPart {
+    /// The world file.
+    World,
+    /// The upload stream.
+    Uploads,
 }
 
 /// Why words are no command.

@@ -9,5 +9,5 @@ mod simple;
 #[cfg(test)]
 mod tests;
 
-pub use command::{Command, WordsFault};
+pub use command::{Command, GenPart, WordsFault};
 pub use read::read_words;

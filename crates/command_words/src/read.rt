@@ -4,12 +4,13 @@ ghost use Rattle.std.specs.Prelude.{string_bytes, IfOk, IfErr};
 ghost use Rattle.clap.specs.Matches.{found_of};
 ghost use Rattle.clap.specs.Walk.{rows_of, first_of};
 ghost use Rattle.command_words.specs.Numbers.{IsNumber};
-ghost use Rattle.command_words.specs.Words.{AreNone};
-ghost use Rattle.command_words.specs.Commands.{Words, IsAlone};
+ghost use Rattle.command_words.specs.Commands.{Words, IsAlone, AreNone};
+ghost use Rattle.command_words.specs.Words.{AreRooms, part_word};
 ghost use Rattle.command_words.specs.Shown.{TakesShown};
+ghost use Rattle.command_words.specs.declared.command.GenPart.{GenPart as Part};
 
-use crate::choices::{check, run};
-use crate::command::{Command, WordsFault};
+use crate::choices::{check, demo, gen_, replay, run, show};
+use crate::command::{Command, GenPart, WordsFault};
 use crate::number::number_of;
 use crate::simple::matches;
 use clap::ArgMatches;
@@ -17,6 +18,9 @@ use std::alloc::Global;
 
 /// The most ticks of a run.
 const MOST_TICKS: u64 = 1_000_000;
+
+/// The most rooms of a generated world.
+const MOST_ROOMS: u64 = 400;
 
 /// The command that words after the program's name say.
 ///
@@ -35,6 +39,14 @@ pub fn read_words(alloc: Global, words: &[String]) -> Result<Command, WordsFault
         read_run(alloc, words)
     } else if is_chosen(words, "check") {
         read_check(alloc, words)
+    } else if is_chosen(words, "replay") {
+        read_replay(alloc, words)
+    } else if is_chosen(words, "show") {
+        read_show(alloc, words)
+    } else if is_chosen(words, "gen") {
+        read_gen(alloc, words)
+    } else if is_chosen(words, "demo") {
+        read_demo(alloc, words)
     } else {
         Err(WordsFault::Usage)
     }
@@ -85,6 +97,59 @@ fn read_check(alloc: Global, words: &[String]) -> Result<Command, WordsFault>
     Ok(Command::Check { module })
 }
 
+// The words of a replay.
+fn read_replay(alloc: Global, words: &[String]) -> Result<Command, WordsFault>
+    requires { (rest : List (List ℕ)) × (map string_bytes words.now ≡ codes "replay" ∷ rest) }
+    ensures ok { IfOk result (Words (map string_bytes words.now)) }
+    ensures alone { IfOk result (IsAlone (map string_bytes words.now)) }
+    ensures usage { IfErr result (λ e. e ≡ WordsFault.Usage → AreNone (map string_bytes words.now)) }
+{
+    let matches = matches(alloc, &replay(), words)?;
+    let journal = value(alloc, &matches, "JOURNAL")?;
+    Ok(Command::Replay { journal })
+}
+
+// The words of the showing of a tick.
+fn read_show(alloc: Global, words: &[String]) -> Result<Command, WordsFault>
+    requires { (rest : List (List ℕ)) × (map string_bytes words.now ≡ codes "show" ∷ rest) }
+    ensures ok { IfOk result (Words (map string_bytes words.now)) }
+    ensures alone { IfOk result (IsAlone (map string_bytes words.now)) }
+    ensures usage { IfErr result (λ e. e ≡ WordsFault.Usage → AreNone (map string_bytes words.now)) }
+{
+    let matches = matches(alloc, &show(), words)?;
+    let journal = value(alloc, &matches, "JOURNAL")?;
+    let tick = number(&matches, "TICK", u64::MAX)?;
+    Ok(Command::Show { journal, tick })
+}
+
+// The words of the making of a world.
+fn read_gen(alloc: Global, words: &[String]) -> Result<Command, WordsFault>
+    requires { (rest : List (List ℕ)) × (map string_bytes words.now ≡ codes "gen" ∷ rest) }
+    ensures ok { IfOk result (Words (map string_bytes words.now)) }
+    ensures alone { IfOk result (IsAlone (map string_bytes words.now)) }
+    ensures usage { IfErr result (λ e. e ≡ WordsFault.Usage → AreNone (map string_bytes words.now)) }
+{
+    let matches = matches(alloc, &gen_(), words)?;
+    let seed = number(&matches, "SEED", u64::MAX)?;
+    let rooms = rooms(&matches)?;
+    let part = part(&matches)?;
+    Ok(Command::Gen { seed, rooms, part })
+}
+
+// The words of a run in memory.
+fn read_demo(alloc: Global, words: &[String]) -> Result<Command, WordsFault>
+    requires { (rest : List (List ℕ)) × (map string_bytes words.now ≡ codes "demo" ∷ rest) }
+    ensures ok { IfOk result (Words (map string_bytes words.now)) }
+    ensures alone { IfOk result (IsAlone (map string_bytes words.now)) }
+    ensures usage { IfErr result (λ e. e ≡ WordsFault.Usage → AreNone (map string_bytes words.now)) }
+{
+    let matches = matches(alloc, &demo(), words)?;
+    let seed = number(&matches, "SEED", u64::MAX)?;
+    let rooms = rooms(&matches)?;
+    let ticks = number(&matches, "TICKS", MOST_TICKS)?;
+    Ok(Command::Demo { seed, rooms, ticks })
+}
+
 // The value of an argument.
 fn value(alloc: Global, matches: &ArgMatches, name: &str) -> Result<String, WordsFault>
     ensures ok { IfOk result (λ text.
@@ -119,4 +184,39 @@ fn text_of<'a>(matches: &ArgMatches<'a>, name: &str) -> Option<&'a str>
     ensures { option_map (λ s. s.now) result ≡ first_of name.now (rows_of (found_of matches.now)) }
 {
     matches.get_str(name)
+}
+
+// The number of rooms of a generated world.
+fn rooms(matches: &ArgMatches) -> Result<u32, WordsFault>
+    ensures ok { IfOk result (λ n. (text : List ℕ)
+        × (first_of (codes "ROOMS") (rows_of (found_of matches.now)) ≡ Some text) × IsNumber text n
+        × AreRooms n) }
+    ensures usage { IfErr result (λ e. e ≡ WordsFault.Usage → (text : List ℕ) → (n : ℕ)
+        → first_of (codes "ROOMS") (rows_of (found_of matches.now)) ≡ Some text → IsNumber text n
+        → AreRooms n → ⊥) }
+{
+    let rooms = number(matches, "ROOMS", MOST_ROOMS)?;
+    if rooms == 0 {
+        return Err(WordsFault::Usage);
+    }
+    Ok(rooms as u32)
+}
+
+// The part of a generated world.
+fn part(matches: &ArgMatches) -> Result<GenPart, WordsFault>
+    ensures ok { IfOk result (λ part.
+        first_of (codes "PART") (rows_of (found_of matches.now)) ≡ Some (part_word part)) }
+    ensures usage { IfErr result (λ e. e ≡ WordsFault.Usage → (part : Part)
+        → first_of (codes "PART") (rows_of (found_of matches.now)) ≡ Some (part_word part) → ⊥) }
+{
+    let Some(word) = text_of(matches, "PART") else {
+        return Err(WordsFault::Usage);
+    };
+    if word == "world" {
+        Ok(GenPart::World)
+    } else if word == "uploads" {
+        Ok(GenPart::Uploads)
+    } else {
+        Err(WordsFault::Usage)
+    }
 }

@@ -19,6 +19,14 @@ fn said(alloc: Global, texts: &[&str]) -> Result<String, AllocError> {
             },
         ) => format!(in alloc; "run {world} {uploads} {journal} {ticks}"),
         Ok(Command::Check { module }) => format!(in alloc; "check {module}"),
+        Ok(Command::Replay { journal }) => format!(in alloc; "replay {journal}"),
+        Ok(Command::Show { journal, tick }) => format!(in alloc; "show {journal} {tick}"),
+        Ok(Command::Gen { seed, rooms, part }) => {
+            format!(in alloc; "gen {seed} {rooms} {part:?}")
+        }
+        Ok(Command::Demo { seed, rooms, ticks }) => {
+            format!(in alloc; "demo {seed} {rooms} {ticks}")
+        }
         Err(WordsFault::Usage) => String::from_str(alloc, "usage"),
         Err(WordsFault::Memory) => String::from_str(alloc, "memory"),
     }
@@ -48,6 +56,58 @@ fn words_say_their_command(rt: HostRuntime) -> Result<(), Fail> {
         (&["check", "--help"], "usage"),
         (&["serve", "m"], "usage"),
         (&[], "usage"),
+    ];
+    for (words, line) in rows {
+        assert_eq!(rt; said(rt.alloc(), words)?.as_str(), line);
+    }
+    Ok(())
+}
+
+#[test]
+fn words_say_a_journal(rt: HostRuntime) -> Result<(), Fail> {
+    let rows: [(&[&str], &str); 10] = [
+        (&["replay", "j"], "replay j"),
+        (&["replay", "--", "-j"], "replay -j"),
+        (&["replay"], "usage"),
+        (&["replay", "j", "k"], "usage"),
+        (&["show", "j", "007"], "show j 7"),
+        (
+            &["show", "j", "18446744073709551615"],
+            "show j 18446744073709551615",
+        ),
+        (&["show", "j", "18446744073709551616"], "usage"),
+        (&["show", "j", "+1"], "usage"),
+        (&["show", "j"], "usage"),
+        (&["show", "1", "j"], "usage"),
+    ];
+    for (words, line) in rows {
+        assert_eq!(rt; said(rt.alloc(), words)?.as_str(), line);
+    }
+    Ok(())
+}
+
+#[test]
+fn words_say_a_world(rt: HostRuntime) -> Result<(), Fail> {
+    let rows: [(&[&str], &str); 16] = [
+        (&["gen", "7", "1", "world"], "gen 7 1 World"),
+        (
+            &["gen", "18446744073709551615", "400", "uploads"],
+            "gen 18446744073709551615 400 Uploads",
+        ),
+        (&["gen", "18446744073709551616", "1", "world"], "usage"),
+        (&["gen", "7", "0", "world"], "usage"),
+        (&["gen", "7", "401", "world"], "usage"),
+        (&["gen", "7", "1", "worlds"], "usage"),
+        (&["gen", "7", "1", "World"], "usage"),
+        (&["gen", "7", "1", ""], "usage"),
+        (&["gen", "7", "1"], "usage"),
+        (&["gen", "x", "1", "world"], "usage"),
+        (&["demo", "7", "400", "1000000"], "demo 7 400 1000000"),
+        (&["demo", "0", "1", "0"], "demo 0 1 0"),
+        (&["demo", "7", "1", "1000001"], "usage"),
+        (&["demo", "7", "0", "1"], "usage"),
+        (&["demo", "7", "401", "1"], "usage"),
+        (&["demo", "7", "1"], "usage"),
     ];
     for (words, line) in rows {
         assert_eq!(rt; said(rt.alloc(), words)?.as_str(), line);

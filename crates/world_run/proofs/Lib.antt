@@ -1,6 +1,7 @@
 pub mod LinesSums
 pub mod LinesTexts
 pub mod RunsLists
+pub mod Asked
 pub mod Checked
 pub mod WorldFaults
 pub mod Hosts

@@ -4,4 +4,5 @@ pub mod Listed
 pub mod Runs
 pub mod Ends
 pub mod Checks
+pub mod Made
 pub mod inner

@@ -97,7 +97,8 @@ fn asked_ticks(alloc: Global, words: &[String]) -> Result<u64, Status>
 {
     match read_words(alloc, words) {
         Ok(Command::Run { ticks, .. }) => Ok(ticks),
-        Ok(Command::Check { .. }) | Err(WordsFault::Usage) => Err(Status::Usage),
+        Ok(_) => Err(Status::Usage),
+        Err(WordsFault::Usage) => Err(Status::Usage),
         Err(WordsFault::Memory) => Err(Status::Memory),
     }
 }

@@ -4,6 +4,7 @@
 mod inputs;
 mod journal;
 mod lines;
+mod made;
 mod run;
 mod status;
 mod ticks;

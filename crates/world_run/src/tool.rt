@@ -1,14 +1,16 @@
-// Commands that only read, and keep nothing.
-ghost use Rattle.std.specs.Prelude.{◌≡◌, ◌≢◌, ◌⊎◌, ℕ, ◌≤◌, List, map, string_bytes, Some, IfOk, IfErr, OnOk};
+// Commands that keep nothing.
+ghost use Rattle.std.specs.Prelude.{◌≡◌, ◌≢◌, ◌⊎◌, ℕ, ◌≤◌, List, map, string_bytes, Some, IfOk};
 ghost use Rattle.std.specs.Io.KnownBytes.{Appends};
 ghost use Rattle.world_io.specs.Causes.{Rose};
 ghost use Rattle.world_io.specs.Told.{AppendsPrefix};
 ghost use Rattle.world_run.specs.Checks.{Checks, answer_line, ReadsAnswer, IsAnswer, IsBeforeLine, IsOfCheck, IsOfReading};
 ghost use Rattle.world_run.specs.Runs.{IsPastWords};
-ghost use Rattle.world_run.specs.inner.Stages.{IsOfWords};
-ghost use Rattle.command_words.specs.Words.{AreCheck};
+ghost use Rattle.world_run.specs.Made.{EndsWriting, IsMade};
+ghost use Rattle.command_words.specs.Words.{AreCheck, AreGen, IsGen};
+ghost use Rattle.command_words.specs.declared.command.GenPart.{GenPart as Part};
 ghost use Rattle.world_run.specs.declared.status.Status.{Status as StatusView};
 
+use crate::made::make_part;
 use crate::status::Status;
 use command_words::{Command, WordsFault, read_words};
 use player_run::{Refusal, admit};
@@ -16,11 +18,12 @@ use std::alloc::{AllocError, Global};
 use upload_stream::most_module_bytes;
 use world_io::{Disk, ReadStop, Sink, Source, read_all, write_all};
 
-/// Runs a command that only reads: so far `check MODULE`.
+/// Runs a command that keeps nothing: `check MODULE` or `gen SEED ROOMS PART`.
 ///
-/// The module is read to its end, or to one byte past 1 MiB. What is printed is one line: `accepted`
-/// where the bytes spell a valid module without floats, within the limits, that links to the host
-/// calls, and else `refused` and why. The disk is left as it is.
+/// For a check the module is read to its end, or to one byte past 1 MiB. What is printed is one line:
+/// `accepted` where the bytes spell a valid module without floats, within the limits, that links to the
+/// host calls, and else `refused` and why. For a gen nothing is read, and the part is written as it is.
+/// The disk is left as it is.
 pub fn tool_main<S: Source, O: Sink, D: Disk>(
     alloc: Global,
     words: &[String],
@@ -28,15 +31,21 @@ pub fn tool_main<S: Source, O: Sink, D: Disk>(
     out: &mut O,
     _disk: &mut D,
 ) -> Status
-    // Each answer is the one that the bytes call for, and its line was printed.
-    ensures checked { IsAnswer result → AreCheck (map string_bytes words.now)
-        × ReadsAnswer (S.left input.old) (S.left input.new) result
+    // With the words of a check each answer is the one that the bytes call for, and its line was printed.
+    ensures checked { AreCheck (map string_bytes words.now) → IsAnswer result
+        → ReadsAnswer (S.left input.old) (S.left input.new) result
         × Appends (O.written out.old) (O.written out.new) (answer_line result) }
     ensures only { IsOfCheck result }
 
-    // The words are refused exactly where they are none of a check.
-    ensures usage { result ≡ Status.Usage → AreCheck (map string_bytes words.now) → ⊥ }
-    ensures words { IsPastWords result → AreCheck (map string_bytes words.now) }
+    // With the words of a gen the part that they ask for was written.
+    ensures made { (seed rooms : ℕ) (part : Part) → IsGen (map string_bytes words.now) seed rooms part
+        → EndsWriting (IsMade seed rooms part) (O.written out.old) (O.written out.new) result }
+
+    // The words are refused exactly where they are none of a check and none of a gen.
+    ensures usage { result ≡ Status.Usage → (AreCheck (map string_bytes words.now) → ⊥)
+        × (AreGen (map string_bytes words.now) → ⊥) }
+    ensures words { IsPastWords result → AreCheck (map string_bytes words.now)
+        ⊎ AreGen (map string_bytes words.now) }
 
     // A fault comes only where that object's count rose.
     ensures read_fault { result ≡ Status.ReadFault → Rose (S.faults input.old) (S.faults input.new) }
@@ -49,15 +58,23 @@ pub fn tool_main<S: Source, O: Sink, D: Disk>(
         → (Rose (O.faults out.old) (O.faults out.new) → ⊥)
         → (result ≡ Status.Memory) ⊎ Checks bytes result }
 
+    // With the words of a gen and no fault all is done, or memory is wanted.
+    ensures made_complete { AreGen (map string_bytes words.now)
+        → (Rose (O.faults out.old) (O.faults out.new) → ⊥)
+        → (result ≡ Status.Memory) ⊎ (result ≡ Status.Done) }
+
     // What is left in the sink and on the disk.
     ensures untouched { IsBeforeLine result → O.written out.new ≡ O.written out.old }
-    ensures write_stopped { result ≡ Status.WriteFault → (answer : StatusView) × IsAnswer answer
+    ensures write_stopped { AreCheck (map string_bytes words.now) → result ≡ Status.WriteFault
+        → (answer : StatusView) × IsAnswer answer
         × ReadsAnswer (S.left input.old) (S.left input.new) answer
         × AppendsPrefix (O.written out.old) (O.written out.new) (answer_line answer) }
     ensures disk { (D.seen _disk.new ≡ D.seen _disk.old) × (D.faults _disk.new ≡ D.faults _disk.old) }
 
     // Words that are none of a check read nothing.
     ensures unread { result ≡ Status.Usage → S.left input.new ≡ S.left input.old }
+    ensures made_unread { AreGen (map string_bytes words.now)
+        → (S.left input.new ≡ S.left input.old) × (S.faults input.new ≡ S.faults input.old) }
 
     // No failure is passed over: a count stays but where its fault is answered.
     ensures read_steady { result ≢ Status.ReadFault → S.faults input.new ≡ S.faults input.old }
@@ -67,29 +84,42 @@ pub fn tool_main<S: Source, O: Sink, D: Disk>(
     ensures input_later { S.faults input.old ≤ S.faults input.new }
     ensures out_later { O.faults out.old ≤ O.faults out.new }
 {
-    if let Err(status) = ask_check(alloc, words) {
-        return status;
+    match read_words(alloc, words) {
+        Ok(Command::Check { .. }) => check_module(alloc, input, out),
+        Ok(Command::Gen { seed, rooms, part }) => make_part(alloc, seed, rooms, part, out),
+        Ok(_) => Status::Usage,
+        Err(WordsFault::Usage) => Status::Usage,
+        Err(WordsFault::Memory) => Status::Memory,
     }
+}
+
+// Reads a module, and prints the line of its answer.
+fn check_module<S: Source, O: Sink>(alloc: Global, input: &mut S, out: &mut O) -> Status
+    ensures checked { IsAnswer result → ReadsAnswer (S.left input.old) (S.left input.new) result
+        × Appends (O.written out.old) (O.written out.new) (answer_line result) }
+    ensures only { IsOfCheck result }
+    ensures words { result ≢ Status.Usage }
+    ensures read_fault { result ≡ Status.ReadFault → Rose (S.faults input.old) (S.faults input.new) }
+    ensures write_fault { result ≡ Status.WriteFault → Rose (O.faults out.old) (O.faults out.new) }
+    ensures complete { (bytes : List ℕ) → S.left input.old ≡ Some bytes
+        → (Rose (S.faults input.old) (S.faults input.new) → ⊥)
+        → (Rose (O.faults out.old) (O.faults out.new) → ⊥)
+        → (result ≡ Status.Memory) ⊎ Checks bytes result }
+    ensures untouched { IsBeforeLine result → O.written out.new ≡ O.written out.old }
+    ensures write_stopped { result ≡ Status.WriteFault → (answer : StatusView) × IsAnswer answer
+        × ReadsAnswer (S.left input.old) (S.left input.new) answer
+        × AppendsPrefix (O.written out.old) (O.written out.new) (answer_line answer) }
+    ensures read_steady { result ≢ Status.ReadFault → S.faults input.new ≡ S.faults input.old }
+    ensures write_steady { result ≢ Status.WriteFault → O.faults out.new ≡ O.faults out.old }
+    ensures input_later { S.faults input.old ≤ S.faults input.new }
+    ensures out_later { O.faults out.old ≤ O.faults out.new }
+{
     match answer(alloc, input) {
         answer @ (Status::Done | Status::Refused(_)) => match line_of(alloc, answer) {
             Ok(line) => print(out, &line, answer),
             Err(_) => Status::Memory,
         },
         status => status,
-    }
-}
-
-// Whether the words ask for a check.
-fn ask_check(alloc: Global, words: &[String]) -> Result<(), Status>
-    ensures check { OnOk result (AreCheck (map string_bytes words.now)) }
-    ensures usage { IfErr result (λ status. status ≡ Status.Usage → AreCheck (map string_bytes words.now)
-        → ⊥) }
-    ensures only { IfErr result IsOfWords }
-{
-    match read_words(alloc, words) {
-        Ok(Command::Check { .. }) => Ok(()),
-        Ok(Command::Run { .. }) | Err(WordsFault::Usage) => Err(Status::Usage),
-        Err(WordsFault::Memory) => Err(Status::Memory),
     }
 }
 

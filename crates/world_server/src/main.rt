@@ -2,7 +2,7 @@
 #![tactic(auto)]
 
 ghost use Rattle.std.specs.Prelude.{◌≡◌, ◌⊎◌, map, string_bytes};
-ghost use Rattle.command_words.specs.Words.{AreCheck, AreRun};
+ghost use Rattle.command_words.specs.Words.{AreCheck, AreGen, AreRun};
 ghost use Rattle.world_run.specs.Runs.{IsPastWords};
 
 mod pages;
@@ -12,7 +12,7 @@ use pages::page_of;
 use std::env;
 use std::io::ErrorKind;
 use std::process::ExitCode;
-use world_io::{FileDisk, FileSource, MemoryDisk, StreamSink, write_all};
+use world_io::{FileDisk, FileSource, MemoryDisk, Source, SteadySource, StreamSink, write_all};
 use world_run::{Status, run_alone, tool_main};
 
 fn main(rt: HostRuntime) -> ExitCode {
@@ -74,9 +74,9 @@ fn print(rt: &HostRuntime, page: &str) -> Status {
 // Runs the command that the words say.
 fn run(rt: &HostRuntime, words: &[String]) -> Status
     ensures usage { result ≡ Status.Usage → (AreRun (map string_bytes words.now) → ⊥)
-        × (AreCheck (map string_bytes words.now) → ⊥) }
+        × (AreCheck (map string_bytes words.now) → ⊥) × (AreGen (map string_bytes words.now) → ⊥) }
     ensures words { IsPastWords result → AreRun (map string_bytes words.now)
-        ⊎ AreCheck (map string_bytes words.now) }
+        ⊎ (AreCheck (map string_bytes words.now) ⊎ AreGen (map string_bytes words.now)) }
 {
     match read_words(rt.alloc(), words) {
         Ok(
@@ -93,7 +93,15 @@ fn run(rt: &HostRuntime, words: &[String]) -> Status
             uploads.as_str(),
             journal.as_str(),
         ),
-        Ok(Command::Check { module }) => check_file(rt, words, module.as_str()),
+        Ok(Command::Check { module }) => {
+            use_tool(rt, words, &mut FileSource::open(rt, module.as_str()))
+        }
+        Ok(Command::Gen { .. }) => {
+            use_tool(rt, words, &mut SteadySource::new(Vec::new(rt.alloc())))
+        }
+        // The words of a replay, of the showing of a tick and of a run in memory: so far the
+        // program does none of these.
+        Ok(_) => Status::Usage,
         Err(fault) => refused_words(fault),
     }
 }
@@ -120,15 +128,18 @@ fn run_files(
     )
 }
 
-// Checks the module of a file, with no disk. A file that cannot be opened fails at its first call.
-fn check_file(rt: &HostRuntime, words: &[String], path: &str) -> Status
-    ensures usage { result ≡ Status.Usage → AreCheck (map string_bytes words.now) → ⊥ }
-    ensures words { IsPastWords result → AreCheck (map string_bytes words.now) }
+// Checks the module of a source, or makes a part of a world, with no disk. A file that cannot be opened
+// fails at its first call.
+fn use_tool<S: Source>(rt: &HostRuntime, words: &[String], input: &mut S) -> Status
+    ensures usage { result ≡ Status.Usage → (AreCheck (map string_bytes words.now) → ⊥)
+        × (AreGen (map string_bytes words.now) → ⊥) }
+    ensures words { IsPastWords result → AreCheck (map string_bytes words.now)
+        ⊎ AreGen (map string_bytes words.now) }
 {
     tool_main(
         rt.alloc(),
         words,
-        &mut FileSource::open(rt, path),
+        input,
         &mut StreamSink::over(rt.stdout()),
         &mut MemoryDisk::new(Vec::new(rt.alloc()), Vec::new(rt.alloc()), None),
     )

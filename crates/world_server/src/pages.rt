@@ -9,6 +9,7 @@ const HELP: &str =
     Choices:\n\
     \x20 run WORLD UPLOADS JOURNAL --ticks N  runs N ticks and prints the lines of each\n\
     \x20 check MODULE                         says whether players may upload a module\n\
+    \x20 gen SEED ROOMS PART                  prints a world that is made of a number, or its players' modules\n\
     \n\
     CHOICE --help says what the words of a choice mean. --version prints the version.\n\
     \n\
@@ -45,6 +46,21 @@ const CHECK_HELP: &str = "world_server check MODULE\n\
     \n\
     docs/players.md says how to write a module, and docs/hosting.md what each refusal means.\n";
 
+const GEN_HELP: &str = "world_server gen SEED ROOMS PART\n\
+    \n\
+    Makes a world of a number and prints a part of it: the same words always print the same bytes.\n\
+    \n\
+    \x20 SEED   the number that the world is made of, in digits: 0 to 18446744073709551615\n\
+    \x20 ROOMS  how many rooms it has, in digits: 1 to 400; each of the first eight has a player with a creep\n\
+    \x20 PART   `world`, the world file, or `uploads`, the stream in which each player uploads a module that works\n\
+    \n\
+    An example, which runs ten ticks of such a world:\n\
+    \x20 world_server gen 7 9 world > seven.json\n\
+    \x20 world_server gen 7 9 uploads > seven.uploads\n\
+    \x20 world_server run seven.json seven.uploads seven.journal --ticks 10\n\
+    \n\
+    docs/hosting.md says what stands in such a world, and docs/formats.md what the bytes are.\n";
+
 /// The text that the words ask for: `--help` or `--version`, alone or behind a choice.
 pub(crate) fn page_of(words: &[String]) -> Option<&'static str> {
     match words {
@@ -63,6 +79,7 @@ fn page_of_choice(choice: &str, word: &str) -> Option<&'static str> {
     let help = match choice {
         "run" => RUN_HELP,
         "check" => CHECK_HELP,
+        "gen" => GEN_HELP,
         _ => return None,
     };
     match word {

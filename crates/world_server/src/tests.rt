@@ -65,7 +65,7 @@ fn each_path_is_the_one_of_its_word(rt: HostRuntime) -> Result<(), Fail> {
     fs::write(&rt, "words_text", b"x")?;
     fs::write(&rt, "words_module", b"\0asm\x01\0\0\0")?;
     fs::write(&rt, "words_empty", b"")?;
-    let cases: [(&[&str], Status); 8] = [
+    let cases: [(&[&str], Status); 12] = [
         (
             &[
                 "run",
@@ -127,6 +127,10 @@ fn each_path_is_the_one_of_its_word(rt: HostRuntime) -> Result<(), Fail> {
             Status::Refused(Refusal::Malformed),
         ),
         (&["check", "no_file"], Status::ReadFault),
+        (&["gen", "7", "0", "world"], Status::Usage),
+        (&["replay", "words_empty"], Status::Usage),
+        (&["show", "words_empty", "0"], Status::Usage),
+        (&["demo", "7", "1", "1"], Status::Usage),
     ];
     for (words, status) in cases {
         assert_eq!(rt; run(&rt, &words_of(alloc, words)?), status);

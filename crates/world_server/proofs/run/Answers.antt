@@ -1,0 +1,20 @@
+use Rattle.std.proofs.Common.{◌≡◌, ◌∙◌, refl, sym}
+use Rattle.command_words.specs.Commands.{a_check, a_gen, a_run}
+use Rattle.command_words.specs.declared.command.WordsFault.{WordsFault}
+use Rattle.command_words.specs.declared.command.WordsFault.TheVariants as faults
+use Rattle.world_run.specs.declared.status.Status.{Status}
+use Rattle.world_run.specs.declared.status.Status.TheVariants as statuses
+use Rattle.world_server.proofs.run.Goals as goal
+
+-- A call that ends with `Usage` did not want memory.
+is_usage : (fault : WordsFault) (status : Status) → (fault ≡ faults.Memory → status ≡ statuses.Memory)
+    → status ≡ statuses.Usage → fault ≡ faults.Usage
+is_usage faults.Usage status wanted is = refl
+is_usage faults.Memory status wanted is =
+    let bad : statuses.Memory ≡ statuses.Usage = sym (wanted refl) ∙ is in cc
+
+pub returns-clause-usage : goal.returns-clause-usage
+returns-clause-usage c = λ is.
+    let none = c.in-Err.ensures.usage
+    (is_usage c.in-Err.fault c.refused_words.result c.refused_words.ensures.memory is) in
+    (none a_run, none a_check, none a_gen)
