@@ -4,23 +4,11 @@
 #![tactic(auto)]
 
 #[cfg(test)]
-mod base_tests;
-#[cfg(test)]
-mod bytes_tests;
-#[cfg(test)]
-mod content_tests;
-#[cfg(test)]
 mod device_tests;
 #[cfg(test)]
 mod disk_tests;
 #[cfg(test)]
 mod file_tests;
-#[cfg(test)]
-mod log_tests;
-#[cfg(test)]
-mod rules_tests;
-#[cfg(test)]
-mod text_tests;
 #[cfg(test)]
 mod tick_tests;
 #[cfg(test)]

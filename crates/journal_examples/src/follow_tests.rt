@@ -1,0 +1,163 @@
+// Records that follow a world, and records that don't, each for one cause.
+use crate::worlds::{IDLE, PARTS, account, pile, world_of};
+use intent_book::{Intents, RunOutcome};
+use object_store::{Bytes, RoomTable, World};
+use record_follows::{advance, after, follows};
+use std::alloc::{AllocError, Global};
+use std::test::Fail;
+use tick_journal::{Entries, RunEntry, TickRecord, UploadEntry};
+
+// What is changed of a record that follows.
+#[derive(Clone, Copy)]
+struct Changed {
+    tick: u64,
+    index: u32,
+    id: u64,
+    x: u8,
+    energy: u64,
+    owner: u32,
+    runner: u32,
+    account: u32,
+    sender: u32,
+    result_number: u8,
+    bytes: usize,
+}
+
+// The record that follows the world of tick 41.
+const RIGHT: Changed = Changed {
+    tick: 42,
+    index: 1,
+    id: 4_294_967_297,
+    x: 20,
+    energy: 1,
+    owner: 0,
+    runner: 9,
+    account: 7,
+    sender: 7,
+    result_number: 0,
+    bytes: 34,
+};
+
+// The record with these changes. Of the room there are two tables, of which the first counts, and of the player
+// two accounts.
+fn record(alloc: Global, changed: Changed) -> Result<TickRecord, AllocError> {
+    let pile = pile(changed.id, changed.x, changed.energy, changed.owner);
+    let first = RoomTable::of(alloc, changed.index, 3, vec![in alloc; pile]?)?;
+    let second = RoomTable::of(alloc, changed.index, 3, Vec::new(alloc))?;
+    let bytes = IDLE.get(..changed.bytes).unwrap_or(&[]);
+    let upload = UploadEntry {
+        player: changed.sender,
+        result_number: changed.result_number,
+        bytes: Bytes::of(alloc, bytes)?,
+    };
+    let run = RunEntry {
+        player: changed.runner,
+        outcome: RunOutcome::Finished,
+        used: 3,
+        intents: Intents::new(alloc),
+    };
+    let one = account(alloc, changed.account, 6, b"")?;
+    let other = account(alloc, changed.account, 8, b"")?;
+    Ok(TickRecord {
+        tick: changed.tick,
+        uploads: Entries::from_vec(vec![in alloc; upload]?),
+        runs: Entries::from_vec(vec![in alloc; run]?),
+        accounts: Entries::from_vec(vec![in alloc; one, other]?),
+        rooms: Entries::from_vec(vec![in alloc; first, second]?),
+    })
+}
+
+// Whether the record with these changes follows the world, which is as it was.
+fn fits(alloc: Global, changed: Changed) -> Result<bool, AllocError> {
+    follows(
+        alloc,
+        &world_of(alloc, 41, PARTS)?,
+        &record(alloc, changed)?,
+    )
+}
+
+// The energy of the first object of a room.
+fn energy_in(world: &World, index: usize) -> Option<u64> {
+    let room = world.room_list().get(index)?;
+    let object = room.table.nth(0)?;
+    Some(object.energy)
+}
+
+// The bucket of a player.
+fn bucket_of(world: &World, player: u32) -> Option<u32> {
+    let account = world.account(player)?;
+    Some(account.bucket)
+}
+
+// What the record changed: the tick, the pile of the second room and the bucket of player 7.
+fn seen(world: &World) -> (u64, Option<u64>, Option<u64>, Option<u32>, Option<u32>) {
+    (
+        world.tick(),
+        energy_in(world, 0),
+        energy_in(world, 1),
+        bucket_of(world, 7),
+        bucket_of(world, 9),
+    )
+}
+
+#[test]
+fn each_field_of_a_record_is_tested(rt: HostRuntime) -> Result<(), Fail> {
+    let alloc = rt.alloc();
+    assert!(rt; fits(alloc, RIGHT)?);
+    // (an upload that was refused, of whomever and of whatever bytes)
+    assert!(rt;
+        fits(
+            alloc,
+            Changed {
+                sender: 8,
+                result_number: 1,
+                bytes: 0,
+                ..RIGHT
+            }
+        )?
+    );
+    for changed in [
+        Changed { tick: 41, ..RIGHT },
+        Changed { tick: 43, ..RIGHT },
+        // (no room)
+        Changed { index: 2, ..RIGHT },
+        // (nobody's run, account and upload)
+        Changed { runner: 8, ..RIGHT },
+        Changed {
+            account: 8,
+            ..RIGHT
+        },
+        Changed { sender: 8, ..RIGHT },
+        // (no module)
+        Changed { bytes: 33, ..RIGHT },
+        // (no tile, a pile of nothing, one that somebody owns, an id that was not given, and one that is there
+        // twice)
+        Changed { x: 50, ..RIGHT },
+        Changed { energy: 0, ..RIGHT },
+        Changed { owner: 7, ..RIGHT },
+        Changed {
+            id: 4_294_967_299,
+            ..RIGHT
+        },
+        Changed { id: 1, ..RIGHT },
+    ] {
+        assert!(rt; !fits(alloc, changed)?);
+    }
+    Ok(())
+}
+
+#[test]
+fn a_record_that_follows_leads_to_the_world_after_it(rt: HostRuntime) -> Result<(), Fail> {
+    let alloc = rt.alloc();
+    let mut world = world_of(alloc, 41, PARTS)?;
+    let entry = record(alloc, RIGHT)?;
+    assert_eq!(rt; seen(&world), (41, Some(5), Some(5), Some(5), Some(5)));
+    if follows(alloc, &world, &entry)? {
+        let next = after(alloc, &world, &entry)?;
+        assert_eq!(rt; seen(&next), (42, Some(5), Some(1), Some(6), Some(5)));
+    }
+    assert!(rt; advance(alloc, &mut world, &entry)?);
+    assert_eq!(rt; seen(&world), (42, Some(5), Some(1), Some(6), Some(5)));
+    assert!(rt; !advance(alloc, &mut world, &entry)?);
+    Ok(())
+}

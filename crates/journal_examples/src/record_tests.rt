@@ -1,0 +1,97 @@
+// The records of ticks, of which only what is stored of the worlds before and after counts.
+use crate::worlds::{PARTS, Parts, world_of};
+use intent_book::{Intents, PlayerRun, RunOutcome};
+use object_store::Bytes;
+use recorded_tick::record_tick;
+use std::alloc::Global;
+use std::test::Fail;
+use tick_journal::{TickRecord, UploadEntry};
+
+// The record of a tick to the world of these parts, with an upload and a run of player 7.
+fn record_to(alloc: Global, parts: Parts) -> Result<TickRecord, Fail> {
+    let (before, after) = (world_of(alloc, 40, PARTS)?, world_of(alloc, 41, parts)?);
+    if before.rooms() != after.rooms() || before.accounts() != after.accounts() {
+        return Err("not as many".into());
+    }
+    let upload = UploadEntry {
+        player: 7,
+        result_number: 4,
+        bytes: Bytes::of(alloc, b"no module")?,
+    };
+    let run = PlayerRun {
+        player: 7,
+        outcome: RunOutcome::Trapped(3),
+        used: 77,
+        intents: Intents::new(alloc),
+        memory: Bytes::new(alloc),
+    };
+    let (uploads, runs) = (vec![in alloc; upload]?, vec![in alloc; run]?);
+    Ok(record_tick(alloc, &before, &after, uploads, runs)?)
+}
+
+// How many accounts and rooms are recorded.
+fn changed(record: &TickRecord) -> (usize, usize) {
+    (
+        record.accounts.as_slice().len(),
+        record.rooms.as_slice().len(),
+    )
+}
+
+// The player, the bucket and the memory text of the first account that is recorded.
+fn first_account(record: &TickRecord) -> Option<(u32, u32, &[u8])> {
+    let account = record.accounts.as_slice().first()?;
+    Some((account.player, account.bucket, account.memory.as_slice()))
+}
+
+// The index of the first room that is recorded, the serial of its next object, and the energy of its first.
+fn first_room(record: &TickRecord) -> Option<(u32, u32, u64)> {
+    let table = record.rooms.as_slice().first()?;
+    let object = table.nth(0)?;
+    Some((table.index(), table.next(), object.energy))
+}
+
+#[test]
+fn what_did_not_change_is_not_recorded(rt: HostRuntime) -> Result<(), Fail> {
+    let record = record_to(rt.alloc(), PARTS)?;
+    assert_eq!(rt; (record.tick, changed(&record)), (41, (0, 0)));
+    let upload = record.uploads.as_slice().first().ok_or("no upload")?;
+    assert_eq!(rt; (upload.player, upload.result_number), (7, 4));
+    assert_eq!(rt; upload.bytes.as_slice(), b"no module".as_slice());
+    let run = record.runs.as_slice().first().ok_or("no run")?;
+    assert_eq!(rt;
+        (run.player, run.outcome, run.used),
+        (7, RunOutcome::Trapped(3), 77)
+    );
+    Ok(())
+}
+
+#[test]
+fn what_changed_is_recorded(rt: HostRuntime) -> Result<(), Fail> {
+    for (parts, account) in [
+        (Parts { bucket: 4, ..PARTS }, (9, 4, b"nine".as_slice())),
+        (
+            Parts {
+                memory: b"none",
+                ..PARTS
+            },
+            (9, 5, b"none".as_slice()),
+        ),
+    ] {
+        let record = record_to(rt.alloc(), parts)?;
+        assert_eq!(rt;
+            (changed(&record), first_account(&record)),
+            ((1, 0), Some(account))
+        );
+    }
+    for (parts, room) in [
+        (Parts { next: 4, ..PARTS }, (1, 4, 5)),
+        (Parts { energy: 4, ..PARTS }, (1, 3, 4)),
+    ] {
+        let record = record_to(rt.alloc(), parts)?;
+        assert_eq!(rt;
+            (changed(&record), first_room(&record)),
+            ((0, 1), Some(room))
+        );
+    }
+    Ok(())
+}
