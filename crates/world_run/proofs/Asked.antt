@@ -4,7 +4,7 @@ use Rattle.std.specs.Prelude.{slice_index}
 use Rattle.std.specs.Str.Parse.{digits_value}
 use Rattle.clap.specs.Walk.{Text}
 use Rattle.command_words.specs.Choices.{Choice}
-use Rattle.command_words.specs.Words.{AreGen, GivesNumber, IsGen, part_word}
+use Rattle.command_words.specs.Words.{GivesNumber, IsGen, part_word}
 use Rattle.command_words.specs.declared.command.GenPart.{GenPart}
 use Rattle.command_words.specs.declared.command.GenPart.TheVariants.{World, Uploads}
 use Rattle.world_run.specs.Made.{EndsWriting, IsMade}

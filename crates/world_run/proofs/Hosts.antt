@@ -11,7 +11,7 @@ use Rattle.world_form.specs.Written.{IsWritable, IsWritableAccount}
 use Rattle.hosted_tick.specs.Hosting.{IsHosted}
 
 -- Nothing is above a bound that it can't be above.
-not_above : (n most : ℕ) → (most < n → ⊥) → n ≤ most
+pub not_above : (n most : ℕ) → (most < n → ⊥) → n ≤ most
 not_above n most below = grind (arith, below)
 
 short_memories : (accounts : List Account) → AllByRecursion IsWritableAccount accounts → AllByRecursion (λ account. length account.memory ≤ most_memory) accounts

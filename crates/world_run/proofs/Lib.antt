@@ -5,6 +5,10 @@ pub mod Asked
 pub mod Checked
 pub mod WorldFaults
 pub mod Hosts
+pub mod Starting
 pub mod Worldly
+pub mod Uploaded
 pub mod Ended
+pub mod Opened
 pub mod Serials
+pub mod Recorded

@@ -1,22 +1,26 @@
 -- The steps of a run, one after another.
-use Rattle.std.proofs.Common.{◌≡◌, ℕ, ◌+◌, ◌≤◌, List, [], ◌∷◌, ◌++◌, length, take, Option, Some, None, refl, ap, sym, subst, ◌∙◌, arith, append_assoc}
-use Rattle.std.proofs.lemmas.List.{append-nil, length_push}
+use Rattle.std.proofs.Common.{◌≡◌, ℕ, ◌+◌, List, [], ◌∷◌, ◌++◌, length, take, Option, Some, None, IfSome, refl, ap, sym, subst, ◌∙◌, append_assoc}
+use Rattle.std.proofs.lemmas.List.{append-nil, length_push, map-append}
 use Rattle.std.proofs.lemmas.List.Concat.{flat_map-append}
 use Rattle.std.specs.List.{flat_map}
 use Rattle.std.specs.Io.KnownBytes.{Appends}
 use Rattle.object_store.specs.Stored.{Stored}
-use Rattle.world_io.specs.Disk.{LengthIs}
+use Rattle.tick_journal.specs.BaseForms.{world_as_read}
+use Rattle.tick_journal.specs.declared.tick_record.TickRecord.{TickRecord}
+use Rattle.world_io.specs.Moments.{Moment}
 use Rattle.world_io.specs.Told.{AppendsPrefix}
 use Rattle.world_io.proofs.Known.{appends_more}
+use Rattle.world_journal.specs.Journals.{HasJournal, IsJournal}
 use Rattle.world_rules.proofs.Ticks.{next_world-tick}
 use Rattle.world_rules.specs.Sound.{HaveSerials}
 use Rattle.world_rules.specs.World.{world_of}
 use Rattle.upload_stream.specs.Streams.{Upload}
 use Rattle.hosted_tick.specs.Hosting.{Held, IsHosted}
-use Rattle.world_run.specs.inner.Held.{Step, step_lines, Follow, IsStep, base_frame, step_frame, last_of, opened, CutsLast, Leaves, LeavesPart, output}
+use Rattle.world_run.specs.declared.kept.Kept.{Kept}
+use Rattle.world_run.specs.inner.Held.{Step, step_lines, Follow, IsKeptAt, IsStep, last_of, CutsLast, Leaves, LeavesPart, Prints, output, recorded_of}
 use Rattle.world_run.specs.Lines.{start_line}
-use Rattle.world_run.specs.Runs.{Fills, IsEmpty, AppendsPart}
-use Rattle.world_run.specs.inner.Stages.{Grows, GrowsPart}
+use Rattle.world_run.specs.Runs.{AppendsPart, Stood}
+use Rattle.world_run.specs.inner.Stages.{Continues, Grows, GrowsPart}
 
 -- ---- known bytes
 
@@ -27,17 +31,6 @@ appends_nothing (Some xs) = sym (append-nil xs)
 -- a part of a last piece behind two whole ones
 appends_part : (a b c : Option (List ℕ)) (xs ys zs : List ℕ) → Appends a b xs → AppendsPart b c ys zs → AppendsPart a c (xs ++ ys) zs
 appends_part a b c xs ys zs h k = (k.0, subst (Appends a c) (sym (append_assoc xs ys (take k.0 zs))) (appends_more a b c xs (ys ++ take k.0 zs) h k.1))
-
-pub is_empty : (disk : Option (List ℕ)) (len : ℕ) → LengthIs disk len → len ≤ 0 → IsEmpty disk
-is_empty None len h low = tt
-is_empty (Some []) len h low = refl
-is_empty (Some (x ∷ xs)) len h low = absurd (omega arith)
-
--- what comes to an empty disk is all that it has
-pub fills : (old new : Option (List ℕ)) (bytes : List ℕ) → IsEmpty old → Appends old new bytes → Fills old new bytes
-fills None new bytes e h = tt
-fills (Some old) None bytes e h = absurd h
-fills (Some old) (Some new) bytes e h = (e, ap Some (h ∙ ap (λ z. z ++ bytes) e))
 
 -- ---- the steps of a run
 
@@ -52,19 +45,43 @@ follow_more stream first (x ∷ steps) step h serials is hosted = (h.0, h.1, h.2
 pub flat_more : (f : Step → List ℕ) (steps : List Step) (step : Step) → flat_map f steps ++ f step ≡ flat_map f (steps ++ step ∷ [])
 flat_more f steps step = ap (λ z. flat_map f steps ++ z) (sym (append-nil (f step))) ∙ sym (flat_map-append f steps (step ∷ []))
 
+-- ---- the journal of a run
+
+same_bytes : (one other : List ℕ) → Some one ≡ Some other → one ≡ other
+same_bytes one other same = cc
+
+-- What a disk has between calls is a journal.
+pub has_journal : (base : Stored) (entries : List TickRecord) (gate : ℕ) (bytes : List ℕ) (moments : List Moment) → HasJournal base entries gate (Some bytes) moments → IsJournal base entries bytes
+has_journal base entries gate bytes moments h = record {
+  contents = h.contents;
+  stand = record { front = h.has.front; spelled = h.has.spelled; rest = []; split = same_bytes bytes (h.has.front ++ 0 ∷ []) h.has.rests.read };
+  are = h.are;
+}
+
+pub journal_of : (base : Stored) (entries : List TickRecord) (gate : ℕ) (seen : Option (List ℕ)) (moments : List Moment) → IfSome seen (λ bytes. HasJournal base entries gate seen moments) → IfSome seen (IsJournal base entries)
+journal_of base entries gate None moments h = tt
+journal_of base entries gate (Some bytes) moments h = has_journal base entries gate bytes moments h
+
+records_more : (entries : List TickRecord) (steps : List Step) (step : Step) → (entries ++ recorded_of steps) ++ step.recorded ∷ [] ≡ entries ++ recorded_of (steps ++ step ∷ [])
+records_more entries steps step =
+    append_assoc entries (recorded_of steps) (step.recorded ∷ [])
+    ∙ ap (λ (l : List TickRecord). entries ++ l) (sym (map-append (λ (s : Step). s.recorded) steps (step ∷ [])))
+
 -- So many ticks ran from the first world to the last.
-pub record Along (disk_old disk_new sink_old sink_new : Option (List ℕ)) (stream : List Upload) (first : Held) (count : ℕ) (last : Held) : Type 0 where
+pub record Along (seen_old : Option (List ℕ)) (moments_old : List Moment) (seen : Option (List ℕ)) (moments : List Moment) (sink_old sink_new : Option (List ℕ)) (stream : List Upload) (first : Kept) (count : ℕ) (last : Kept) : Type 0 where
   pub steps : List Step
   pub counted : length steps ≡ count
-  pub grows : Grows disk_old disk_new sink_old sink_new stream first steps
-  pub ended : last_of first steps ≡ last
+  pub grows : Grows sink_old sink_new stream first.hosted steps
+  pub ended : last_of first.hosted steps ≡ last.hosted
+  pub keeps : (base : Stored) (entries : List TickRecord) → IsKeptAt base entries first seen_old moments_old → IsKeptAt base (entries ++ recorded_of steps) last seen moments
 
-pub along_none : (disk sink : Option (List ℕ)) (stream : List Upload) (first : Held) → IsHosted first.world → Along disk disk sink sink stream first 0 first
-along_none disk sink stream first hosted = record {
+pub along_none : (seen : Option (List ℕ)) (moments : List Moment) (sink : Option (List ℕ)) (stream : List Upload) (first : Kept) → IsHosted first.hosted.world → Along seen moments seen moments sink sink stream first 0 first
+along_none seen moments sink stream first hosted = record {
   steps = [];
   counted = refl;
-  grows = record { follow = hosted; frames = appends_nothing disk; lines = appends_nothing sink };
+  grows = record { follow = hosted; lines = appends_nothing sink };
   ended = refl;
+  keeps = λ base entries kept. subst (λ (l : List TickRecord). IsKeptAt base l first seen moments) (sym (append-nil entries)) kept;
 }
 
 -- A step behind the last one.
@@ -78,60 +95,91 @@ follow_last stream first steps last step h e more =
     let there : Further stream (last_of first steps) step = subst (λ (held : Held). Further stream held step) (sym e) more in
     follow_more stream first steps step h there.serials there.step_is there.hosted
 
-pub along_more : (disk_old disk disk_new sink_old sink sink_new : Option (List ℕ)) (stream : List Upload) (first : Held) (count : ℕ) (last : Held) (step : Step) → Along disk_old disk sink_old sink stream first count last → Further stream last step → Appends disk disk_new (step_frame step) → Appends sink sink_new (step_lines step) → Along disk_old disk_new sink_old sink_new stream first (count + 1) step.after
-along_more disk_old disk disk_new sink_old sink sink_new stream first count last step so_far more bytes line = record {
-  steps = so_far.steps ++ step ∷ [];
-  counted = length_push so_far.steps step ∙ ap (λ n. n + 1) so_far.counted;
-  grows = record {
-    follow = follow_last stream first so_far.steps last step so_far.grows.follow so_far.ended more;
-    frames = rw (← flat_more step_frame so_far.steps step) (appends_more disk_old disk disk_new (flat_map step_frame so_far.steps) (step_frame step) so_far.grows.frames bytes);
-    lines = rw (← flat_more step_lines so_far.steps step) (appends_more sink_old sink sink_new (flat_map step_lines so_far.steps) (step_lines step) so_far.grows.lines line);
-  };
-  ended = last_more first so_far.steps step;
-}
+module _ (seen_old : Option (List ℕ)) (moments_old : List Moment) (seen : Option (List ℕ)) (moments : List Moment) (sink_old sink sink_new : Option (List ℕ)) (stream : List Upload) (first : Kept) (count : ℕ) (last : Kept) (step : Step) (so_far : Along seen_old moments_old seen moments sink_old sink stream first count last) (more : Further stream last.hosted step) where
+  pub along_more : (seen_new : Option (List ℕ)) (moments_new : List Moment) (next : Kept) → step.after ≡ next.hosted → Appends sink sink_new (step_lines step)
+      → ((base : Stored) (entries : List TickRecord) → IsKeptAt base entries last seen moments → IsKeptAt base (entries ++ step.recorded ∷ []) next seen_new moments_new)
+      → Along seen_old moments_old seen_new moments_new sink_old sink_new stream first (count + 1) next
+  along_more seen_new moments_new next after line kept = record {
+    steps = so_far.steps ++ step ∷ [];
+    counted = length_push so_far.steps step ∙ ap (λ n. n + 1) so_far.counted;
+    grows = record {
+      follow = follow_last stream first.hosted so_far.steps last.hosted step so_far.grows.follow so_far.ended more;
+      lines = rw (← flat_more step_lines so_far.steps step) (appends_more sink_old sink sink_new (flat_map step_lines so_far.steps) (step_lines step) so_far.grows.lines line);
+    };
+    ended = last_more first.hosted so_far.steps step ∙ after;
+    keeps = λ base entries start. subst (λ (l : List TickRecord). IsKeptAt base l next seen_new moments_new) (records_more entries so_far.steps step) (kept base (entries ++ recorded_of so_far.steps) (so_far.keeps base entries start));
+  }
 
-pub along_part : (disk_old disk disk_new sink_old sink sink_new : Option (List ℕ)) (stream : List Upload) (first : Held) (count : ℕ) (last : Held) (step : Step) → Along disk_old disk sink_old sink stream first count last → Further stream last step → Appends disk disk_new (step_frame step) → AppendsPrefix sink sink_new (step_lines step) → (steps : List Step) × (length steps ≡ count + 1) × GrowsPart disk_old disk_new sink_old sink_new stream first steps
-along_part disk_old disk disk_new sink_old sink sink_new stream first count last step so_far more bytes line = (
-  so_far.steps ++ step ∷ [],
-  length_push so_far.steps step ∙ ap (λ n. n + 1) so_far.counted,
-  record {
-    follow = follow_last stream first so_far.steps last step so_far.grows.follow so_far.ended more;
-    frames = rw (← flat_more step_frame so_far.steps step) (appends_more disk_old disk disk_new (flat_map step_frame so_far.steps) (step_frame step) so_far.grows.frames bytes);
-    earlier = so_far.steps;
-    last = step;
-    ordered = refl;
-    lines = (line.0, appends_more sink_old sink sink_new (flat_map step_lines so_far.steps) (take line.0 (step_lines step)) so_far.grows.lines line.1);
-  },
-)
+  pub along_part : (seen_new : Option (List ℕ)) → AppendsPrefix sink sink_new (step_lines step)
+      → ((base : Stored) (entries : List TickRecord) → IsKeptAt base entries last seen moments → IfSome seen_new (IsJournal base (entries ++ step.recorded ∷ [])))
+      → (steps : List Step) × (length steps ≡ count + 1) × GrowsPart sink_old sink_new stream first.hosted steps × Continues first seen_old moments_old seen_new steps
+  along_part seen_new line kept = (
+    so_far.steps ++ step ∷ [],
+    length_push so_far.steps step ∙ ap (λ n. n + 1) so_far.counted,
+    record {
+      follow = follow_last stream first.hosted so_far.steps last.hosted step so_far.grows.follow so_far.ended more;
+      earlier = so_far.steps;
+      last = step;
+      ordered = refl;
+      lines = (line.0, appends_more sink_old sink sink_new (flat_map step_lines so_far.steps) (take line.0 (step_lines step)) so_far.grows.lines line.1);
+    },
+    λ base entries start. subst (λ (l : List TickRecord). IfSome seen_new (IsJournal base l)) (records_more entries so_far.steps step) (kept base (entries ++ recorded_of so_far.steps) (so_far.keeps base entries start)),
+  )
+
+-- The journal has the records of all steps.
+pub continues : (seen_old : Option (List ℕ)) (moments_old : List Moment) (seen : Option (List ℕ)) (moments : List Moment) (first : Kept) (last : Kept) (steps : List Step)
+    → ((base : Stored) (entries : List TickRecord) → IsKeptAt base entries first seen_old moments_old → IsKeptAt base (entries ++ recorded_of steps) last seen moments)
+    → Continues first seen_old moments_old seen steps
+continues seen_old moments_old seen moments first last steps keeps base entries start =
+    let end = keeps base entries start in
+    journal_of base (entries ++ recorded_of steps) last.journal.log.gate seen moments end.journal
 
 pub tick_rises : (stream : List Upload) (before : Held) (step : Step) → IsStep stream before step → step.after.world.tick ≡ before.world.tick + 1
-tick_rises stream before step is = ap (λ w. w.tick) is.ruled ∙ next_world-tick (world_of before.world) step.runs
+tick_rises stream before step is = ap (λ w. w.tick) is.made.ruled ∙ next_world-tick (world_of before.world) step.runs
 
--- ---- a run from an empty disk
+-- ---- a run from an opened journal
 
-pub leaves : (disk_old disk disk_new sink_old sink sink_new : Option (List ℕ)) (stream : List Upload) (first : Stored) (steps : List Step) → IsEmpty disk_old → Appends disk_old disk (base_frame first) → Appends sink_old sink (start_line first) → Grows disk disk_new sink sink_new stream (opened first) steps → Leaves disk_old disk_new sink_old sink_new stream first steps
-leaves disk_old disk disk_new sink_old sink sink_new stream first steps empty bytes line grows = record {
-  follow = grows.follow;
-  journal_is = fills disk_old disk_new _ empty (appends_more disk_old disk disk_new (base_frame first) (flat_map step_frame steps) bytes grows.frames);
-  output_is = appends_more sink_old sink sink_new (start_line first) (flat_map step_lines steps) line grows.lines;
-}
+module _ (disk_old : Option (List ℕ)) (sink_old sink sink_new : Option (List ℕ)) (stream : List Upload) (world : Stored) (entries : List TickRecord) (kept : Kept) (seen : Option (List ℕ)) (moments : List Moment) (steps : List Step)
+    (stood : Stood disk_old (world_as_read world) entries) (opened : IsKeptAt (world_as_read world) entries kept seen moments) (line : Appends sink_old sink (start_line kept.hosted.world)) where
+  unfoldable pub prints : Grows sink sink_new stream kept.hosted steps → Prints disk_old sink_old sink_new stream world steps
+  prints grows = record {
+    entries = entries;
+    first = kept.hosted;
+    stood = stood;
+    at_end = opened.at_end;
+    follow = grows.follow;
+    output_is = appends_more sink_old sink sink_new (start_line kept.hosted.world) (flat_map step_lines steps) line grows.lines;
+  }
 
-cuts_last : (old new : Option (List ℕ)) (first : Stored) (earlier : List Step) (last : Step) → AppendsPart old new (output first earlier) (step_lines last) → CutsLast old new first (earlier ++ last ∷ [])
-cuts_last old new first [] last part = ([], last, refl, part)
-cuts_last old new first (step ∷ earlier) last part = (step ∷ earlier, last, refl, part)
+  unfoldable pub leaves : (disk_new : Option (List ℕ)) → Grows sink sink_new stream kept.hosted steps → Continues kept seen moments disk_new steps → Leaves disk_old disk_new sink_old sink_new stream world steps
+  unfolding prints
+  leaves disk_new grows more = record { prints = prints grows; journal_is = more (world_as_read world) entries opened }
 
-pub leaves_part : (disk_old disk disk_new sink_old sink sink_new : Option (List ℕ)) (stream : List Upload) (first : Stored) (steps : List Step) → IsEmpty disk_old → Appends disk_old disk (base_frame first) → Appends sink_old sink (start_line first) → GrowsPart disk disk_new sink sink_new stream (opened first) steps → LeavesPart disk_old disk_new sink_old sink_new stream first steps
-leaves_part disk_old disk disk_new sink_old sink sink_new stream first steps empty bytes line grows = record {
-  follow = grows.follow;
-  journal_is = fills disk_old disk_new _ empty (appends_more disk_old disk disk_new (base_frame first) (flat_map step_frame steps) bytes grows.frames);
-  output_is = subst (CutsLast sink_old sink_new first) (sym grows.ordered)
-      (cuts_last sink_old sink_new first grows.earlier grows.last (appends_part sink_old sink sink_new (start_line first) (flat_map step_lines grows.earlier) (step_lines grows.last) line grows.lines));
-}
+  cuts_last : (earlier : List Step) (last : Step) → AppendsPart sink_old sink_new (output kept.hosted.world earlier) (step_lines last) → CutsLast sink_old sink_new kept.hosted.world (earlier ++ last ∷ [])
+  cuts_last [] last part = ([], last, refl, part)
+  cuts_last (step ∷ earlier) last part = (step ∷ earlier, last, refl, part)
+
+  pub leaves_part : (disk_new : Option (List ℕ)) → GrowsPart sink sink_new stream kept.hosted steps → Continues kept seen moments disk_new steps → LeavesPart disk_old disk_new sink_old sink_new stream world steps
+  leaves_part disk_new grows more = record {
+    entries = entries;
+    first = kept.hosted;
+    stood = stood;
+    at_end = opened.at_end;
+    follow = grows.follow;
+    journal_is = more (world_as_read world) entries opened;
+    output_is = subst (CutsLast sink_old sink_new kept.hosted.world) (sym grows.ordered)
+        (cuts_last grows.earlier grows.last (appends_part sink_old sink sink_new (start_line kept.hosted.world) (flat_map step_lines grows.earlier) (step_lines grows.last) line grows.lines));
+  }
 
 -- The opening line was cut off.
-pub leaves_start : (disk_old disk_new sink_old sink_new : Option (List ℕ)) (stream : List Upload) (first : Stored) → IsHosted first → IsEmpty disk_old → Appends disk_old disk_new (base_frame first) → AppendsPrefix sink_old sink_new (start_line first) → LeavesPart disk_old disk_new sink_old sink_new stream first []
-leaves_start disk_old disk_new sink_old sink_new stream first hosted empty bytes line = record {
-  follow = hosted;
-  journal_is = rw append-nil (fills disk_old disk_new (base_frame first) empty bytes);
+pub leaves_start : (disk_old : Option (List ℕ)) (sink_old sink_new : Option (List ℕ)) (stream : List Upload) (world : Stored) (entries : List TickRecord) (kept : Kept) (seen : Option (List ℕ)) (moments : List Moment)
+    → Stood disk_old (world_as_read world) entries → IsKeptAt (world_as_read world) entries kept seen moments → AppendsPrefix sink_old sink_new (start_line kept.hosted.world) → LeavesPart disk_old seen sink_old sink_new stream world []
+leaves_start disk_old sink_old sink_new stream world entries kept seen moments stood opened line = record {
+  entries = entries;
+  first = kept.hosted;
+  stood = stood;
+  at_end = opened.at_end;
+  follow = opened.at_end.hosted;
+  journal_is = subst (λ (l : List TickRecord). IfSome seen (IsJournal (world_as_read world) l)) (sym (append-nil entries)) (journal_of (world_as_read world) entries kept.journal.log.gate seen moments opened.journal);
   output_is = line;
 }

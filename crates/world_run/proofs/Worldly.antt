@@ -1,35 +1,40 @@
 -- Runs of stored worlds are runs of the worlds that they store: the same journal, the same lines, the same ticks.
-use Rattle.std.proofs.Common.{◌≡◌, ℕ, suc, ◌≤◌, List, [], ◌∷◌, ◌++◌, length, map, take, Option, Some, None, option_map, refl, sym, ap, subst, ◌∙◌, append_assoc}
+use Rattle.std.proofs.Common.{◌≡◌, ℕ, suc, ◌≤◌, List, [], ◌∷◌, ◌++◌, length, map, take, Option, Some, None, option_map, inl, inr, refl, sym, ap, subst, ◌∙◌, append_assoc}
 use Rattle.std.specs.Prelude.{slice_get}
 use Rattle.std.specs.List.{All, AllByRecursion, flat_map}
 use Rattle.std.specs.FinMap.{get, values}
 use Rattle.std.proofs.lemmas.List.{length-map, map-append}
 use Rattle.std.specs.Io.KnownBytes.{Appends}
-use Rattle.world_io.specs.Told.{AppendsPrefix}
+use Rattle.world_io.specs.Told.{AppendsPrefix, GaveAll}
 use Rattle.object_store.specs.declared.account.Account.{Account}
 use Rattle.object_store.specs.declared.object.Object.{Object}
 use Rattle.object_store.specs.declared.world.Room.{Room}
 use Rattle.object_store.specs.Tallies.{no_tallies}
 use Rattle.object_store.specs.Stored.{Stored}
-use Rattle.object_store.specs.Tables.{IsRising}
+use Rattle.object_store.specs.Tables.{IsRising, Table}
 use Rattle.intent_book.specs.declared.player_run.PlayerRun.{PlayerRun}
 use Rattle.world_rules.specs.World.{World, Frame, Listing, ListedRoom, framed_from, listing_of, world_of}
 use Rattle.world_rules.specs.World as worlds
 use Rattle.world_rules.specs.RoomParts.{RoomPart, objects_in}
 use Rattle.world_rules.specs.Sound.{IsSound, HaveSerials, serials_bound, bare_room, bare}
+use Rattle.world_form.specs.Facts.{Filed, filed_listing}
+use Rattle.world_form.specs.Files.{WorldForm}
+use Rattle.world_form.proofs.OneThing.{one_world}
 use Rattle.world_rules.proofs.Keys.{table_sorted, accounts_sorted, values_of, entries_of_sorted}
 use Rattle.world_rules.proofs.Same.{once, tables_at}
 use Rattle.world_rules.proofs.Lifting.{frames_stored, frame_stored, part_of_stored, room_at}
 use Rattle.std.proofs.lemmas.Option.{get_or_from_slice_get, slice_get_within}
-use Rattle.world_bytes.specs.Forms.{room_bytes}
 use Rattle.upload_stream.specs.Streams.{Upload}
-use Rattle.tick_journal.specs.Contents.{base_content, tick_content, whole_record}
+use Rattle.tick_journal.specs.BaseForms.{world_as_read}
 use Rattle.tick_journal.specs.declared.entries.UploadEntry.{UploadEntry}
-use Rattle.tick_journal.proofs.BaseContents.{as_read_same}
+use Rattle.tick_journal.specs.declared.tick_record.TickRecord.{TickRecord}
+use Rattle.record_follows.specs.Courses.{world_after}
+use Rattle.recorded_tick.specs.Recording.{AreChangedRooms, IsRecordOf}
 use Rattle.hosted_tick.specs.Hosting.{Held, IsHosted, state_of}
+use Rattle.world_run.proofs.Checked.{gave_whole}
 use Rattle.world_run.specs.Lines.{object_count, total_energy, start_line, tick_line, tick_lines}
 use Rattle.world_run.specs.Listed.{listed_room, listed}
-use Rattle.world_run.specs.Runs.{Step, HasSerials, IsExhausted, Follow, last_of, base_frame, step_frame, step_lines, journal, output, frame, AppendsPart, Fills}
+use Rattle.world_run.specs.Runs.{Step, HasSerials, IsExhausted, IsStep, Follow, last_of, output, recorded_of, resumed, step_lines, AppendsPart}
 use Rattle.world_run.specs.inner.Held as held
 use Rattle.world_run.specs.Ends.{CutsLast}
 
@@ -81,35 +86,15 @@ listed_is stored s =
     let accounts = ap (map (λ (e : ℕ × Account). e.1)) (entries_of_sorted (map (λ (account : Account). (account.player, account)) stored.accounts) (accounts_sorted stored.accounts s.accounts)) ∙ values_of (λ (account : Account). account.player) stored.accounts in
     λ i. record { tick = stored.tick; rooms = rooms i; accounts = accounts i }
 
--- ---- that room is in no frame and in no line
+-- ---- that room is in no line
 
 mapped_same : {A B : Type 0} (f : A → B) (g : A → A) → ((x : A) → f (g x) ≡ f x) → (xs : List A) → map f (map g xs) ≡ map f xs
 mapped_same f g same [] = refl
 mapped_same f g same (x ∷ xs) = let rest = mapped_same f g same xs in λ i. same x i ∷ rest i
 
-table_same : (room : Room) → room_bytes (bare_room room).table ≡ room_bytes room.table
-unfolding room_bytes
-table_same room = refl
-
--- the bytes of the tables of rooms
-tables_same : (rooms : List Room) → flat_map room_bytes (map (λ (room : Room). room.table) (map bare_room rooms)) ≡ flat_map room_bytes (map (λ (room : Room). room.table) rooms)
-tables_same [] = refl
-tables_same (room ∷ rooms) = let rest = tables_same rooms in λ i. table_same room i ++ rest i
-
-many_tables : (rooms : List Room) → length (map (λ (room : Room). room.table) (map bare_room rooms)) ≡ length (map (λ (room : Room). room.table) rooms)
-many_tables [] = refl
-many_tables (room ∷ rooms) = ap suc (many_tables rooms)
-
 many_rooms : (rooms : List Room) → length (map bare_room rooms) ≡ length rooms
 many_rooms [] = refl
 many_rooms (room ∷ rooms) = ap suc (many_rooms rooms)
-
-tick_same : (uploads : List UploadEntry) (runs : List PlayerRun) (stored : Stored) → tick_content (whole_record uploads runs (bare stored)) ≡ tick_content (whole_record uploads runs stored)
-unfolding tick_content
-tick_same uploads runs stored =
-    let many = many_tables stored.rooms in
-    let flat = tables_same stored.rooms in
-    rw (many, flat)
 
 listing_same : (stored : Stored) → listing_of (bare stored) ≡ listing_of stored
 listing_same stored =
@@ -140,16 +125,10 @@ line_same stored n =
 
 -- a step as it is held, told of its state
 abbrev pub shown : held.Step → Step
-shown step = record { uploads = step.uploads; runs = step.runs; after = state_of step.after }
+shown step = record { uploads = step.uploads; runs = step.runs; after = state_of step.after; recorded = step.recorded }
 
 abbrev AreSound : List held.Step → Type 0
 AreSound steps = AllByRecursion (λ step. IsSound step.after.world) steps
-
-base_shown : (first : Stored) → IsSound first → base_frame (world_of first) ≡ held.base_frame first
-base_shown first s = ap frame (ap base_content (listed_is first s) ∙ as_read_same first)
-
-step_shown : (step : held.Step) → IsSound step.after.world → step_frame (shown step) ≡ held.step_frame step
-step_shown step s = ap frame (ap (λ (w : Stored). tick_content (whole_record step.uploads step.runs w)) (listed_is step.after.world s) ∙ tick_same step.uploads step.runs step.after.world)
 
 start_shown : (first : Stored) → IsSound first → start_line (listed (world_of first)) ≡ start_line first
 start_shown first s = ap start_line (listed_is first s) ∙ start_same first
@@ -165,12 +144,6 @@ all_shown f h same (step ∷ steps) sound =
     let first = same step sound.0 in
     let rest = all_shown f h same steps sound.1 in
     λ i. first i ++ rest i
-
-journal_shown : (first : Stored) (steps : List held.Step) → IsSound first → AreSound steps → journal (world_of first) (map shown steps) ≡ held.journal first steps
-journal_shown first steps s sound =
-    let base = base_shown first s in
-    let later = all_shown step_frame held.step_frame step_shown steps sound in
-    λ i. base i ++ later i
 
 output_shown : (first : Stored) (steps : List held.Step) → IsSound first → AreSound steps → output (world_of first) (map shown steps) ≡ held.output first steps
 output_shown first steps s sound =
@@ -217,9 +190,37 @@ exhausted_shown stored index e =
           subst (λ (n : ℕ). n ≤ serials_bound) found.2 (e.first earlier found.0 below found.1);
     }
 
+-- What changed of stored worlds changed of what is listed of them.
+rooms_bare : (before after : List Room) (tables : List Table) → AreChangedRooms before after tables → AreChangedRooms (map bare_room before) (map bare_room after) tables
+rooms_bare [] after tables is = is
+rooms_bare (one ∷ before) [] tables is = is
+rooms_bare (one ∷ before) (other ∷ after) tables (inl same) = inl (same.0, rooms_bare before after tables same.1)
+rooms_bare (one ∷ before) (other ∷ after) tables (inr changed) = inr (changed.0, changed.1, changed.2, changed.3, changed.4, rooms_bare before after changed.2 changed.5)
+
+recorded_listed : (before after : Stored) (uploads : List UploadEntry) (runs : List PlayerRun) (entry : TickRecord) → IsSound before → IsSound after → IsRecordOf before after uploads runs entry → IsRecordOf (listed (world_of before)) (listed (world_of after)) uploads runs entry
+recorded_listed before after uploads runs entry s e is =
+    let bared : IsRecordOf (bare before) (bare after) uploads runs entry = record {
+      tick = is.tick;
+      uploads_are = is.uploads_are;
+      runs_are = is.runs_are;
+      accounts = is.accounts;
+      rooms = rooms_bare before.rooms after.rooms entry.rooms is.rooms;
+    } in
+    subst (λ (w : Stored). IsRecordOf w (listed (world_of after)) uploads runs entry) (sym (listed_is before s))
+    (subst (λ (w : Stored). IsRecordOf (bare before) w uploads runs entry) (sym (listed_is after e)) bared)
+
 pub follow_shown : (stream : List Upload) (before : Held) (steps : List held.Step) → held.Follow stream before steps → Follow stream (state_of before) (map shown steps)
 follow_shown stream before [] f = tt
-follow_shown stream before (step ∷ later) f = (serials_shown before.world f.1, f.2, follow_shown stream step.after later f.3)
+follow_shown stream before (step ∷ later) f =
+    let is : IsStep stream (state_of before) (shown step) = record {
+      made = f.2.made;
+      recorded = recorded_listed before.world step.after.world step.uploads step.runs step.recorded f.0.sound (hosted_first stream step.after later f.3).sound f.2.recorded;
+    } in
+    (serials_shown before.world f.1, is, follow_shown stream step.after later f.3)
+
+pub records_shown : (steps : List held.Step) → recorded_of (map shown steps) ≡ held.recorded_of steps
+records_shown [] = refl
+records_shown (step ∷ later) = ap (λ (l : List TickRecord). step.recorded ∷ l) (records_shown later)
 
 pub last_shown : (before : Held) (steps : List held.Step) → last_of (state_of before) (map shown steps) ≡ state_of (held.last_of before steps)
 last_shown before [] = refl
@@ -228,40 +229,58 @@ last_shown before (step ∷ later) = last_shown step.after later
 pub many_shown : (steps : List held.Step) → length (map shown steps) ≡ length steps
 many_shown steps = length-map steps shown
 
+-- ---- where a run starts
+
+-- the world of a file, as the journal has it
+pub file_listed : (world : Stored) → IsSound world → listed (world_of world) ≡ world_as_read world
+file_listed world s = listed_is world s
+
+-- A file's bytes say one world, which the journal has.
+pub file_read : (new : Option (List ℕ)) (bytes given : List ℕ) (found : World) (world : Stored) → IsSound world → GaveAll (Some bytes) new given → WorldForm bytes found → WorldForm given (world_of world) → listed found ≡ world_as_read world
+file_read new bytes given found world s gave form other =
+    let there : WorldForm bytes (world_of world) = subst (λ (b : List ℕ). WorldForm b (world_of world)) (gave_whole new bytes given gave) other in
+    let filed : form.0 ≡ there.0 = one_world bytes form.0 there.0 form.1.0 there.1.0 in
+    ap listed (form.2 ∙ (ap (λ (f : Filed). worlds.world_listed (filed_listing f)) filed ∙ sym there.2)) ∙ file_listed world s
+
+read_world_of : (world : Stored) → world_of (world_as_read world) ≡ world_of world
+read_world_of world = ap worlds.world_listed (listing_same world)
+
+pub start_is : (base : Stored) (entries : List TickRecord) (first : Held) → held.IsAt base entries first → state_of first ≡ resumed base entries
+start_is base entries first at =
+    let world : world_of first.world ≡ world_of (world_after base entries) = sym (read_world_of first.world) ∙ ap world_of at.world in
+    λ i. record { world = world i; modules = at.modules i }
+
 -- ---- what is left
 
-module _ (stream : List Upload) (first : Stored) (steps : List held.Step) (f : held.Follow stream (held.opened first) steps) where
-  first_sound : IsSound first
-  first_sound = (hosted_first stream (held.opened first) steps f).sound
+module _ (stream : List Upload) (first : Held) (steps : List held.Step) (f : held.Follow stream first steps) where
+  first_sound : IsSound first.world
+  first_sound = (hosted_first stream first steps f).sound
 
   steps_sound : AreSound steps
-  steps_sound = sound_steps stream (held.opened first) steps f
+  steps_sound = sound_steps stream first steps f
 
-  pub journal_left : (old new : Option (List ℕ)) → Fills old new (held.journal first steps) → Fills old new (journal (world_of first) (map shown steps))
-  journal_left old new fills = subst (Fills old new) (sym (journal_shown first steps first_sound steps_sound)) fills
-
-  pub output_left : (old new : Option (List ℕ)) → Appends old new (held.output first steps) → Appends old new (output (world_of first) (map shown steps))
-  output_left old new given = subst (Appends old new) (sym (output_shown first steps first_sound steps_sound)) given
+  pub output_left : (old new : Option (List ℕ)) → Appends old new (held.output first.world steps) → Appends old new (output (world_of first.world) (map shown steps))
+  output_left old new given = subst (Appends old new) (sym (output_shown first.world steps first_sound steps_sound)) given
 
   front_sound : (earlier : List held.Step) (last : held.Step) → AreSound (earlier ++ last ∷ []) → AreSound earlier × IsSound last.after.world
   front_sound [] last all = (tt, all.0)
   front_sound (x ∷ earlier) last all = let rest = front_sound earlier last all.1 in ((all.0, rest.0), rest.1)
 
-  cut_at : (old new : Option (List ℕ)) (earlier : List held.Step) (last : held.Step) → steps ≡ earlier ++ last ∷ [] → AppendsPart old new (held.output first earlier) (held.step_lines last)
-      → (map shown steps ≡ map shown earlier ++ shown last ∷ []) × AppendsPart old new (output (world_of first) (map shown earlier)) (step_lines (shown last))
+  cut_at : (old new : Option (List ℕ)) (earlier : List held.Step) (last : held.Step) → steps ≡ earlier ++ last ∷ [] → AppendsPart old new (held.output first.world earlier) (held.step_lines last)
+      → (map shown steps ≡ map shown earlier ++ shown last ∷ []) × AppendsPart old new (output (world_of first.world) (map shown earlier)) (step_lines (shown last))
   cut_at old new earlier last is part =
       let both = front_sound earlier last (subst AreSound is steps_sound) in
-      let lines = output_shown first earlier first_sound both.0 in
+      let lines = output_shown first.world earlier first_sound both.0 in
       let ending = lines_shown last both.1 in (
         ap (map shown) is ∙ map-append shown earlier (last ∷ []),
         (part.0, subst (Appends old new) (λ i. sym lines i ++ take part.0 (sym ending i)) part.1),
       )
 
-  cuts_as : (old new : Option (List ℕ)) (all : List held.Step) → steps ≡ all → held.CutsLast old new first all → CutsLast old new (world_of first) (map shown all)
-  cuts_as old new [] is cut = subst (AppendsPrefix old new) (sym (start_shown first first_sound)) cut
+  cuts_as : (old new : Option (List ℕ)) (all : List held.Step) → steps ≡ all → held.CutsLast old new first.world all → CutsLast old new (world_of first.world) (map shown all)
+  cuts_as old new [] is cut = subst (AppendsPrefix old new) (sym (start_shown first.world first_sound)) cut
   cuts_as old new (x ∷ later) is cut =
       let found = cut_at old new cut.0 cut.1 (is ∙ cut.2) cut.3 in
       (map shown cut.0, shown cut.1, sym (ap (map shown) is) ∙ found.0, found.1)
 
-  pub cuts_left : (old new : Option (List ℕ)) → held.CutsLast old new first steps → CutsLast old new (world_of first) (map shown steps)
+  pub cuts_left : (old new : Option (List ℕ)) → held.CutsLast old new first.world steps → CutsLast old new (world_of first.world) (map shown steps)
   cuts_left old new cut = cuts_as old new steps refl cut

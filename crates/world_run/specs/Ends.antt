@@ -1,15 +1,18 @@
 -- How a run ends, by its status.
-use Rattle.std.specs.Prelude.{◌≡◌, ◌≢◌, ℕ, suc, ◌^◌, ◌≤◌, ◌⊎◌, List, [], ◌∷◌, ◌++◌, length, Option, Some}
+use Rattle.std.specs.Prelude.{◌≡◌, ◌≢◌, ℕ, suc, ◌^◌, ◌≤◌, ◌⊎◌, List, [], ◌∷◌, ◌++◌, length, Option, Some, IfSome}
 use Rattle.std.specs.Io.KnownBytes.{Appends}
 use Rattle.world_io.specs.Causes.{Rose}
 use Rattle.world_io.specs.Told.{AppendsPrefix}
 use Rattle.world_rules.specs.World.{World}
 use Rattle.world_form.specs.Files.{WorldForm}
 use Rattle.upload_stream.specs.Streams.{Upload, UploadList}
+use Rattle.tick_journal.specs.declared.tick_record.TickRecord.{TickRecord}
+use Rattle.world_journal.specs.Faults.{FailsAt}
+use Rattle.world_journal.specs.Journals.{IsJournal}
 use Rattle.world_run.specs.Lines.{start_line}
 use Rattle.world_run.specs.Listed.{listed}
 use Rattle.command_words.specs.Words.{AreRun, Asks, AsksAtLeast}
-use Rattle.world_run.specs.Runs.{Step, Follow, IsExhausted, last_of, opened, journal, output, step_lines, AppendsPart, ReadsWorld, ReadsFault, ReadsUploads, ReadsBad, IsEmpty, IsFilled, Fills}
+use Rattle.world_run.specs.Runs.{Step, Follow, IsExhausted, last_of, output, recorded_of, resumed, step_lines, AppendsPart, ReadsWorld, ReadsFault, ReadsUploads, ReadsBad, HasOther, IsKept, Stood}
 use Rattle.world_run.specs.declared.status.Status.{Status}
 use Rattle.world_run.specs.declared.status.Status.TheVariants as statuses
 
@@ -45,27 +48,46 @@ module _ (words : List (List ℕ)) (old new : Outside) where
   abbrev pub IsUntouched : Type 0
   IsUntouched = (new.disk ≡ old.disk) × (new.written ≡ old.written)
 
-  -- The inputs are a world and uploads, and these are ticks of them.
-  pub record Makes (first : World) (stream : List Upload) (steps : List Step) : Type 0 where
+  -- Nothing was printed, and the disk is as it was, but for what followed a journal that stands there.
+  pub record IsUnprinted : Type 0 where
+    pub disk : IsKept old.disk new.disk
+    pub sink : new.written ≡ old.written
+
+  -- The inputs are a world and uploads; a journal of the world stood on the disk with these records, or none was
+  -- there; and these are ticks behind them.
+  pub record Makes (first : World) (stream : List Upload) (entries : List TickRecord)
+      (steps : List Step) : Type 0 where
     pub world : ReadsWorld old.world new.world first
     pub uploads : ReadsUploads old.uploads new.uploads stream
-    pub follow : Follow stream (opened first) steps
+    pub stood : Stood old.disk (listed first) entries
+    pub follow : Follow stream (resumed (listed first) entries) steps
 
-  -- The disk was empty and has their journal, and the sink was given their lines.
-  pub record Leaves (first : World) (stream : List Upload) (steps : List Step) : Type 0 where
-    pub makes : Makes first stream steps
-    pub journal_is : Fills old.disk new.disk (journal first steps)
-    pub output_is : Appends old.written new.written (output first steps)
+  -- The disk has the journal of the world, with those records and the steps' behind them.
+  abbrev pub Keeps : World → List TickRecord → List Step → Type 0
+  Keeps first entries steps = IfSome new.disk (IsJournal (listed first) (entries ++ recorded_of steps))
+
+  -- the world that the run starts from
+  abbrev pub start_of : World → List TickRecord → World
+  start_of first entries = (resumed (listed first) entries).world
+
+  -- The disk has their journal, and the sink was given their lines.
+  pub record Leaves (first : World) (stream : List Upload) (entries : List TickRecord)
+      (steps : List Step) : Type 0 where
+    pub makes : Makes first stream entries steps
+    pub journal_is : Keeps first entries steps
+    pub output_is : Appends old.written new.written (output (start_of first entries) steps)
 
   -- The same, but that the sink was given only a part of the last lines.
-  pub record LeavesPart (first : World) (stream : List Upload) (steps : List Step) : Type 0 where
-    pub makes : Makes first stream steps
-    pub journal_is : Fills old.disk new.disk (journal first steps)
-    pub output_is : CutsLast old.written new.written first steps
+  pub record LeavesPart (first : World) (stream : List Upload) (entries : List TickRecord)
+      (steps : List Step) : Type 0 where
+    pub makes : Makes first stream entries steps
+    pub journal_is : Keeps first entries steps
+    pub output_is : CutsLast old.written new.written (start_of first entries) steps
 
-  -- Some ticks were made of a world and of uploads, of which this is known.
-  abbrev pub Some_made : (World → List Upload → List Step → Type 0) → Type 0
-  Some_made Known = (first : World) × (stream : List Upload) × (steps : List Step) × Known first stream steps
+  -- Some ticks were made of a world, of uploads and of a journal, of which this is known.
+  abbrev pub Some_made : (World → List Upload → List TickRecord → List Step → Type 0) → Type 0
+  Some_made Known = (first : World) × (stream : List Upload) × (entries : List TickRecord) × (steps : List Step)
+      × Known first stream entries steps
 
   -- At least so many ticks were asked for.
   abbrev pub Asked : List Step → Type 0
@@ -73,9 +95,10 @@ module _ (words : List (List ℕ)) (old new : Outside) where
 
   -- A run ends with this status.
   abbrev pub Ends : Status → Type 0
-  -- All was done: the journal has the file's world and each tick after it, with what each player's module
-  -- emits of what he sees, and their lines were printed.
-  Ends statuses.Done = Some_made (λ first stream steps. Asks words (length steps) × Leaves first stream steps)
+  -- All was done: the journal has the file's world, the records that it had, and one for each tick, with what
+  -- each player's module emits of what he sees; and their lines were printed.
+  Ends statuses.Done =
+      Some_made (λ first stream entries steps. Asks words (length steps) × Leaves first stream entries steps)
   -- The words are not those of a run; nothing was read.
   Ends statuses.Usage =
       (AreRun words → ⊥) × IsUntouched × (new.world ≡ old.world) × (new.uploads ≡ old.uploads)
@@ -91,25 +114,32 @@ module _ (words : List (List ℕ)) (old new : Outside) where
       × ((Rose old.world_faults new.world_faults × (new.uploads ≡ old.uploads))
       ⊎ (Rose old.uploads_faults new.uploads_faults × AcceptsWorld))
       × IsUntouched
-  -- The disk has bytes already.
+  -- The disk has bytes that are no journal: the frame behind the gate at the place is the first that fails.
   Ends (statuses.NotAJournal at) =
-      AreRun words × AcceptsWorld × AcceptsUploads × (at ≡ 0) × IsFilled old.disk × IsUntouched
+      AreRun words × AcceptsWorld × AcceptsUploads × IfSome old.disk (FailsAt at) × IsUntouched
+  -- The journal on the disk begins with another world than the file's.
+  Ends (statuses.OtherWorld at kept given) =
+      AreRun words × AcceptsUploads
+      × ((first : World) × ReadsWorld old.world new.world first × IfSome old.disk (HasOther at kept given first))
+      × IsUnprinted
   -- The disk failed: nothing was printed, or the lines of some ticks. Nothing is said of its bytes.
   Ends statuses.DiskFault =
       AreRun words × AcceptsWorld × AcceptsUploads × Rose old.disk_faults new.disk_faults
-      × ((new.written ≡ old.written) ⊎ Some_made (λ first stream steps. Asked steps × Makes first stream steps
-      × Appends old.written new.written (output first steps)))
+      × ((new.written ≡ old.written) ⊎ Some_made (λ first stream entries steps. Asked steps
+      × Makes first stream entries steps
+      × Appends old.written new.written (output (start_of first entries) steps)))
   -- The sink failed: the journal has whole ticks, and only the last lines are cut.
   Ends statuses.WriteFault =
       Rose old.sink_faults new.sink_faults
-      × Some_made (λ first stream steps. Asked steps × LeavesPart first stream steps)
+      × Some_made (λ first stream entries steps. Asked steps × LeavesPart first stream entries steps)
   -- Before a further tick this room is the first whose serials are used up; all ticks before it were done.
   Ends (statuses.IdsExhausted index) =
-      Some_made (λ first stream steps. AsksAtLeast words (suc (length steps)) × Leaves first stream steps
-      × IsExhausted (last_of (opened first) steps).world index)
-  -- Memory was wanted: before anything was written, or behind some ticks, which were done.
+      Some_made (λ first stream entries steps. AsksAtLeast words (suc (length steps))
+      × Leaves first stream entries steps
+      × IsExhausted (last_of (resumed (listed first) entries) steps).world index)
+  -- Memory was wanted: before anything was printed, or behind some ticks, which were done.
   Ends statuses.Memory =
-      IsUntouched ⊎ Some_made (λ first stream steps. Asked steps × Leaves first stream steps)
+      IsUnprinted ⊎ Some_made (λ first stream entries steps. Asked steps × Leaves first stream entries steps)
   Ends (statuses.Refused refusal) = ⊥
 
   -- No failure is passed over: a count stays but where its fault is answered, and none falls.
@@ -123,7 +153,7 @@ module _ (words : List (List ℕ)) (old new : Outside) where
     pub sink_later : old.sink_faults ≤ new.sink_faults
     pub disk_later : old.disk_faults ≤ new.disk_faults
 
-  -- Words of a run, good inputs and an empty disk, of which none fails.
+  -- Words of a run, good inputs, and a disk that is empty or has a journal of the world, of which none fails.
   pub record IsGood : Type 0 where
     pub run : AreRun words
     pub world_bytes : List ℕ
@@ -135,7 +165,10 @@ module _ (words : List (List ℕ)) (old new : Outside) where
     pub short : length stream_bytes ≤ 2 ^ 28
     pub stream : List Upload
     pub list : UploadList stream_bytes stream
-    pub empty : old.disk ≡ Some []
+    pub disk_bytes : List ℕ
+    pub told : old.disk ≡ Some disk_bytes
+    pub entries : List TickRecord
+    pub stood : Stood old.disk (listed world) entries
     pub world_holds : Rose old.world_faults new.world_faults → ⊥
     pub uploads_hold : Rose old.uploads_faults new.uploads_faults → ⊥
     pub sink_holds : Rose old.sink_faults new.sink_faults → ⊥
@@ -147,10 +180,8 @@ module _ (words : List (List ℕ)) (old new : Outside) where
       (status ≡ statuses.Done) ⊎ (status ≡ statuses.Memory)
       ⊎ ((index : ℕ) × (status ≡ statuses.IdsExhausted index))
 
-  -- A run ends so: as its status says; with good inputs and no fault it is whole; a disk that has bytes is
-  -- never changed; and no failure is passed over.
+  -- A run ends so: as its status says; with good inputs and no fault it is whole; and no failure is passed over.
   pub record Runs (status : Status) : Type 0 where
     pub ends : Ends status
     pub whole : IsGood → IsWhole status
-    pub overwrites_nothing : IsEmpty old.disk ⊎ (new.disk ≡ old.disk)
     pub steady : IsSteady status

@@ -1,5 +1,5 @@
 -- The number and the fault line of a status.
-use Rattle.std.specs.Prelude.{ℕ, List, ◌++◌, decimal, codes}
+use Rattle.std.specs.Prelude.{ℕ, List, ◌++◌, Option, Some, None, decimal, codes}
 use Rattle.game_tables.specs.declared.kind.Kind.{Kind}
 use Rattle.game_tables.specs.declared.kind.Kind.TheVariants as kinds
 use Rattle.world_rules.specs.declared.rule.Rule.{Rule}
@@ -75,6 +75,16 @@ rule_name rules.Sites = codes "Sites"
 abbrev pub and_number : ℕ → List ℕ
 and_number n = codes " " ++ decimal n
 
+-- a byte, where there is one
+abbrev pub byte_text : Option ℕ → List ℕ
+byte_text None = codes "none"
+byte_text (Some byte) = decimal byte
+
+-- where the base contents of a journal and of a file differ first, and the two bytes
+abbrev pub other_world_text : ℕ → Option ℕ → Option ℕ → List ℕ
+other_world_text at kept given =
+    codes "OtherWorld" ++ and_number at ++ codes " " ++ byte_text kept ++ codes " " ++ byte_text given
+
 -- a fault of a world file: its name, and its values each after a space
 abbrev pub world_fault_text : WorldFault → List ℕ
 world_fault_text faults.TooLong = codes "TooLong"
@@ -94,6 +104,7 @@ status_number statuses.ReadFault = 5
 status_number statuses.WriteFault = 6
 status_number statuses.DiskFault = 7
 status_number (statuses.NotAJournal at) = 8
+status_number (statuses.OtherWorld at kept given) = 9
 status_number (statuses.IdsExhausted index) = 10
 status_number statuses.Memory = 11
 status_number (statuses.Refused refusal) = 12
@@ -107,6 +118,7 @@ status_text statuses.ReadFault = codes "ReadFault"
 status_text statuses.WriteFault = codes "WriteFault"
 status_text statuses.DiskFault = codes "DiskFault"
 status_text (statuses.NotAJournal at) = codes "NotAJournal" ++ and_number at
+status_text (statuses.OtherWorld at kept given) = other_world_text at kept given
 status_text (statuses.IdsExhausted index) = codes "IdsExhausted" ++ and_number index
 status_text statuses.Memory = codes "Memory"
 status_text (statuses.Refused refusal) = codes "Refused " ++ refusal_name refusal

@@ -1,19 +1,24 @@
--- What a run makes of its inputs: the worlds of its ticks, the journal, and the lines.
-use Rattle.std.specs.Prelude.{◌≡◌, ℕ, ◌+◌, ◌^◌, ◌<◌, ◌≤◌, ◌⊎◌, List, [], ◌∷◌, ◌++◌, length, take, Option, Some, None, ⊤}
+-- What a run makes of its inputs: the worlds of its ticks, their records, and the lines.
+use Rattle.std.specs.Prelude.{◌≡◌, ◌≢◌, ℕ, ◌+◌, ◌^◌, ◌<◌, ◌≤◌, ◌⊎◌, List, [], ◌∷◌, ◌++◌, length, map, take, slice_get, Option, Some, None, IfSome, ⊤}
 use Rattle.std.specs.List.{flat_map}
-use Rattle.std.specs.Int.{w64, to_le_bytes}
 use Rattle.std.specs.Io.KnownBytes.{Appends}
-use Rattle.std.specs.FinMap.{get, from_entries}
+use Rattle.std.specs.FinMap.{empty, get}
+use Rattle.frame_log.specs.Frames.{IsEmpty}
 use Rattle.intent_book.specs.declared.player_run.PlayerRun.{PlayerRun}
-use Rattle.world_rules.specs.World.{Frame, World}
+use Rattle.object_store.specs.Stored.{Stored}
+use Rattle.world_rules.specs.World.{Frame, World, world_of}
 use Rattle.world_rules.specs.Sound.{serials_bound}
 use Rattle.world_form.specs.Files.{WorldForm, HasFault}
 use Rattle.world_form.specs.declared.fault.WorldFault.{WorldFault}
 use Rattle.world_form.specs.declared.fault.WorldFault.TheVariants as faults
 use Rattle.world_io.specs.Told.{GaveAll, Gave}
 use Rattle.upload_stream.specs.Streams.{Upload, UploadList, IsFirstBad, uploads_at}
-use Rattle.tick_journal.specs.Contents.{base_content, tick_content, whole_record}
+use Rattle.tick_journal.specs.Contents.{base_content}
 use Rattle.tick_journal.specs.declared.entries.UploadEntry.{UploadEntry}
+use Rattle.tick_journal.specs.declared.tick_record.TickRecord.{TickRecord}
+use Rattle.record_follows.specs.Courses.{modules_after, world_after}
+use Rattle.recorded_tick.specs.Recording.{IsRecordOf}
+use Rattle.world_journal.specs.Journals.{IsJournal}
 use Rattle.hosted_tick.specs.Next.{Next, State}
 use Rattle.world_run.specs.Lines.{start_line, tick_lines}
 use Rattle.world_run.specs.Listed.{listed}
@@ -22,16 +27,22 @@ use Rattle.world_run.specs.declared.status.Status.TheVariants as statuses
 
 -- ---- the ticks
 
--- a tick that was made: its uploads with their results, the runs of its players, and the world after it with
--- the players' modules
+-- a tick that was made: its uploads with their results, the runs of its players, the world after it with the
+-- players' modules, and what is recorded of it
 pub record Step : Type 0 where
   pub uploads : List UploadEntry
   pub runs : List PlayerRun
   pub after : State
+  pub recorded : TickRecord
 
--- a world to which no module was uploaded yet
-abbrev pub opened : World → State
-opened world = record { world = world; modules = from_entries [] }
+-- what is recorded of steps
+abbrev pub recorded_of : List Step → List TickRecord
+recorded_of steps = map (λ (step : Step). step.recorded) steps
+
+-- the world that a journal's records lead to, and the latest modules that were accepted in them
+abbrev pub resumed : Stored → List TickRecord → State
+resumed base entries =
+    record { world = world_of (world_after base entries); modules = modules_after empty entries }
 
 -- No room has used up its serials.
 abbrev pub HasSerials : World → Type 0
@@ -46,10 +57,11 @@ pub record IsExhausted (world : World) (index : ℕ) : Type 0 where
   pub first : (earlier : ℕ) (other : Frame) → earlier < index → get world.rooms earlier ≡ Some other
       → other.next ≤ serials_bound
 
--- The step is the tick that comes with the uploads of its number in this stream.
-abbrev pub IsStep : List Upload → State → Step → Type 0
-IsStep stream before step =
-    Next before (uploads_at before.world.tick stream) step.uploads step.runs step.after
+-- The step is the tick that comes with the uploads of its number in this stream, and its record has what it
+-- changed.
+pub record IsStep (stream : List Upload) (before : State) (step : Step) : Type 0 where
+  pub made : Next before (uploads_at before.world.tick stream) step.uploads step.runs step.after
+  pub recorded : IsRecordOf (listed before.world) (listed step.after.world) step.uploads step.runs step.recorded
 
 -- Each step is the tick after the world before it, in which no room has used up its serials.
 abbrev pub Follow : List Upload → State → List Step → Type 0
@@ -62,22 +74,7 @@ abbrev pub last_of : State → List Step → State
 last_of before [] = before
 last_of before (step ∷ later) = last_of step.after later
 
--- ---- the journal and the lines
-
--- a frame of the journal: the length of a content in 8 bytes, little endian, and the content
-abbrev pub frame : List ℕ → List ℕ
-frame content = to_le_bytes w64 (length content) ++ content
-
--- the frame of the world that the journal begins with, and that of a tick
-abbrev pub base_frame : World → List ℕ
-base_frame world = frame (base_content (listed world))
-
-abbrev pub step_frame : Step → List ℕ
-step_frame step = frame (tick_content (whole_record step.uploads step.runs (listed step.after.world)))
-
--- the journal of a run: the opening world, then each tick
-abbrev pub journal : World → List Step → List ℕ
-journal first steps = base_frame first ++ flat_map step_frame steps
+-- ---- the lines
 
 -- the lines of a tick
 abbrev pub step_lines : Step → List ℕ
@@ -113,20 +110,31 @@ ReadsBad old new at =
 
 -- ---- what is on the disk
 
--- The disk has no byte, where it tells.
-abbrev pub IsEmpty : Option (List ℕ) → Type 0
-IsEmpty None = ⊤
-IsEmpty (Some bytes) = bytes ≡ []
+-- Where the disk told its bytes, nothing was ever committed on it, and there is no record; or a journal of this
+-- world stood there with these records.
+abbrev pub Stood : Option (List ℕ) → Stored → List TickRecord → Type 0
+Stood None base entries = ⊤
+Stood (Some bytes) base entries = (IsEmpty bytes × (entries ≡ [])) ⊎ IsJournal base entries bytes
 
--- The disk has a byte, where it tells.
-abbrev pub IsFilled : Option (List ℕ) → Type 0
-IsFilled None = ⊤
-IsFilled (Some bytes) = 0 < length bytes
+-- The disk is as it was, where it tells; or a journal stood there and stands there still, and what followed it may
+-- be cut off.
+abbrev pub IsKept : Option (List ℕ) → Option (List ℕ) → Type 0
+IsKept old new = (new ≡ old) ⊎ ((base : Stored) × (entries : List TickRecord)
+    × IfSome old (IsJournal base entries) × IfSome new (IsJournal base entries))
 
--- The disk was empty and has these bytes now, where it tells.
-abbrev pub Fills : Option (List ℕ) → Option (List ℕ) → List ℕ → Type 0
-Fills None new bytes = ⊤
-Fills (Some old) new bytes = (old ≡ []) × (new ≡ Some bytes)
+-- The contents differ first at the place, where one has this byte and the other that one, or none.
+pub record DifferAt (at : ℕ) (kept given : Option ℕ) (one other : List ℕ) : Type 0 where
+  pub same : take at one ≡ take at other
+  pub kept_is : slice_get one at ≡ kept
+  pub given_is : slice_get other at ≡ given
+  pub differ : kept ≢ given
+
+-- A journal of another world stands on the disk: its base content differs from the file's, first at the place.
+pub record HasOther (at : ℕ) (kept given : Option ℕ) (world : World) (bytes : List ℕ) : Type 0 where
+  pub base : Stored
+  pub entries : List TickRecord
+  pub is : IsJournal base entries bytes
+  pub contents : DifferAt at kept given (base_content base) (base_content (listed world))
 
 -- ---- how far a run came, by its status
 

@@ -5,7 +5,7 @@ ghost use Rattle.world_io.specs.Told.{GaveAll, Gave};
 ghost use Rattle.world_rules.specs.World.{World as GameWorld, world_of};
 ghost use Rattle.world_form.specs.Files.{WorldForm};
 ghost use Rattle.world_form.specs.declared.fault.WorldFault.{WorldFault};
-ghost use Rattle.hosted_tick.specs.Hosting.{IsHosted};
+ghost use Rattle.world_run.specs.inner.Held.{HaveTiles, MayStart};
 ghost use Rattle.world_run.specs.inner.Stages.{status_of_fault, IsOfWords, IsOfWorld, IsOfUploads, IsOfInputs, IsPastWorld};
 ghost use Rattle.command_words.specs.Words.{AreRun, Asks};
 ghost use Rattle.world_run.specs.Runs.{ReadsWorld, ReadsFault, IsPastWords};
@@ -42,8 +42,8 @@ pub(crate) fn read_inputs<W: Source, U: Source>(
     ensures run { IfOk result (λ inputs. Asks (map string_bytes words.now) inputs.ticks) }
     ensures found { IfOk result
         (λ inputs. ReadsWorld (W.left world.old) (W.left world.new) (world_of inputs.world)) }
-    ensures hosted { IfOk result (λ inputs. IsHosted inputs.world) }
-    ensures tick { IfOk result (λ inputs. inputs.world.tick ≤ 2 ^ 53) }
+    ensures starts { IfOk result (λ inputs. MayStart inputs.world) }
+    ensures ticks { IfOk result (λ inputs. inputs.ticks ≤ 1000000) }
     ensures stream { IfOk result
         (λ inputs. GaveAll (U.left uploads.old) (U.left uploads.new) inputs.stream.items) }
     ensures within { IfOk result (λ inputs. length inputs.stream.items ≤ 2 ^ 28) }
@@ -92,6 +92,7 @@ pub(crate) fn read_inputs<W: Source, U: Source>(
 // The number of ticks that the words ask for.
 fn asked_ticks(alloc: Global, words: &[String]) -> Result<u64, Status>
     ensures run { IfOk result (Asks (map string_bytes words.now)) }
+    ensures few { IfOk result (λ ticks. ticks ≤ 1000000) }
     ensures usage { IfErr result (λ status. status ≡ Status.Usage → AreRun (map string_bytes words.now) → ⊥) }
     ensures only { IfErr result IsOfWords }
 {
@@ -108,8 +109,7 @@ fn asked_ticks(alloc: Global, words: &[String]) -> Result<u64, Status>
 fn load_world<W: Source>(alloc: Global, source: &mut W) -> Result<World, Status>
     ensures found { IfOk result
         (λ world. ReadsWorld (W.left source.old) (W.left source.new) (world_of world)) }
-    ensures hosted { IfOk result IsHosted }
-    ensures tick { IfOk result (λ world. world.tick ≤ 2 ^ 53) }
+    ensures starts { IfOk result MayStart }
     ensures only { IfErr result IsOfWorld }
     ensures refused { IfErr result (λ status. (fault : WorldFault) → status ≡ Status.World fault
         → ReadsFault (W.left source.old) (W.left source.new) fault) }
@@ -130,8 +130,20 @@ fn load_world<W: Source>(alloc: Global, source: &mut W) -> Result<World, Status>
         Err(ReadStop::Memory) => return Err(Status::Memory),
     };
     match read_world(alloc, &bytes) {
-        Ok(file) => Ok(file.world),
+        Ok(file) => {
+            have_tiles(&file.world);
+            Ok(file.world)
+        }
         Err(fault) => Err(refused_world(fault)),
+    }
+}
+
+// What the terrain of each room keeps: that it has 2,500 tiles.
+fn have_tiles(world: &World)
+    ensures { HaveTiles world.now.rooms }
+{
+    for room in world.room_list() {
+        let _tiles = room.terrain.grounds();
     }
 }
 

@@ -2,9 +2,10 @@
 #![tactic(auto)]
 
 mod inputs;
-mod journal;
+mod kept;
 mod lines;
 mod made;
+mod opening;
 mod run;
 mod status;
 mod ticks;

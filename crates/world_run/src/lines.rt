@@ -2,8 +2,7 @@
 ghost use Rattle.std.specs.Prelude.{◌≡◌, ◌<◌, ◌^◌, ◌++◌, length, string_bytes, IfOk, OnOk};
 ghost use Rattle.std.specs.List.{flat_map, sum_by};
 ghost use Rattle.world_rules.specs.Tick.{intents_of};
-ghost use Rattle.world_run.specs.inner.Held.{step_of, step_lines as step_lines_of};
-ghost use Rattle.world_run.specs.Lines.{start_line as start_line_of, upload_line as upload_line_of, result_text as result_text_of, run_line as run_line_of, outcome_text as outcome_text_of, tick_line as tick_line_of, object_count as object_count_of, total_energy as total_energy_of};
+ghost use Rattle.world_run.specs.Lines.{start_line as start_line_of, upload_line as upload_line_of, result_text as result_text_of, run_line as run_line_of, outcome_text as outcome_text_of, tick_line as tick_line_of, object_count as object_count_of, total_energy as total_energy_of, tick_lines};
 
 use hosted_tick::Ticked;
 use intent_book::{PlayerRun, Refusal, RunOutcome};
@@ -28,7 +27,8 @@ pub(crate) fn start_line(alloc: Global, world: &World) -> Result<Vec<u8>, AllocE
 /// The lines that are printed after a tick, each with its line feed: one for each upload, one for each
 /// run, and one for the world that the tick made.
 pub(crate) fn step_lines(alloc: Global, done: &Ticked) -> Result<Vec<u8>, AllocError>
-    ensures { IfOk result (λ lines. lines.items ≡ step_lines_of (step_of done.now)) }
+    ensures { IfOk result (λ lines.
+        lines.items ≡ tick_lines done.now.uploads.items done.now.runs.items done.now.hosted.world) }
 {
     let mut lines = String::new(alloc);
     add_uploads(&done.uploads, &mut lines)?;

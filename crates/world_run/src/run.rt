@@ -1,16 +1,21 @@
 // A run of ticks, from the bytes of its inputs to the bytes that it writes.
-ghost use Rattle.std.specs.Prelude.{◌≡◌, ◌≢◌, ◌⊎◌, ℕ, suc, ◌^◌, ◌≤◌, List, [], length, map, string_bytes, Some};
-ghost use Rattle.std.specs.Io.KnownBytes.{Appends};
+ghost use Rattle.std.specs.Prelude.{◌≡◌, ◌≢◌, ◌⊎◌, ℕ, suc, ◌^◌, ◌≤◌, List, length, map, string_bytes, Option, Some, IfSome};
 ghost use Rattle.object_store.specs.Stored.{Stored};
 ghost use Rattle.world_io.specs.Causes.{Rose};
+ghost use Rattle.world_rules.specs.Sound.{IsSound};
 ghost use Rattle.world_rules.specs.World.{World as GameWorld, world_of};
 ghost use Rattle.world_form.specs.Files.{WorldForm};
 ghost use Rattle.world_form.specs.declared.fault.WorldFault.{WorldFault};
 ghost use Rattle.upload_stream.specs.Streams.{Upload as UploadOfStream, UploadList};
-ghost use Rattle.world_run.specs.inner.Held.{Step, IsExhausted, Leaves, LeavesPart, Follow, last_of, opened, output};
+ghost use Rattle.tick_journal.specs.Contents.{base_content};
+ghost use Rattle.tick_journal.specs.declared.tick_record.TickRecord.{TickRecord};
+ghost use Rattle.world_journal.specs.Faults.{FailsAt};
+ghost use Rattle.world_journal.specs.Journals.{IsJournal, IsQuiet};
+ghost use Rattle.world_run.specs.inner.Held.{Step, IsExhausted, Leaves, LeavesPart, Prints, last_of};
 ghost use Rattle.command_words.specs.Words.{AreRun, Asks, AsksAtLeast};
-ghost use Rattle.world_run.specs.Runs.{ReadsWorld, ReadsFault, ReadsUploads, ReadsBad, IsEmpty, IsFilled, IsPastWords};
-ghost use Rattle.world_run.specs.inner.Stages.{IsOfRun, IsPastWorld, IsPastUploads, IsPastJournal, IsBeforeJournal};
+ghost use Rattle.world_run.specs.Listed.{listed};
+ghost use Rattle.world_run.specs.Runs.{ReadsWorld, ReadsFault, ReadsUploads, ReadsBad, DifferAt, IsKept, IsPastWords, Stood};
+ghost use Rattle.world_run.specs.inner.Stages.{IsOfRun, IsPastWorld, IsPastUploads, IsBeforeJournal};
 ghost use Rattle.world_run.specs.Ends.{Runs};
 
 use crate::inputs::{Inputs, read_inputs};
@@ -22,10 +27,11 @@ use world_io::{Disk, Sink, Source};
 
 /// Runs N ticks on the world of a file, for the words `run WORLD UPLOADS JOURNAL --ticks N`.
 ///
-/// The whole world file is read first, then the whole upload stream; then the disk, which has to be
-/// empty, gets the opening world, and the sink the opening line. In each tick the uploads of its
-/// number are judged, each player with a module runs it on what he sees of the world, and what the
-/// runs want is ruled. The tick is recorded before its lines are printed.
+/// The whole world file is read first, then the whole upload stream; then the journal on the disk, which has to
+/// begin with the world of the file, and which the run goes on with; where there is none it is begun. The sink
+/// gets the opening line. In each tick the uploads of its number are judged, each player with a module runs it on
+/// what he sees of the world, and what the runs want is ruled. The tick is recorded before its lines are
+/// printed.
 pub fn run_alone<W: Source, U: Source, O: Sink, D: Disk>(
     alloc: Global,
     words: &[String],
@@ -34,6 +40,7 @@ pub fn run_alone<W: Source, U: Source, O: Sink, D: Disk>(
     out: &mut O,
     disk: &mut D,
 ) -> Status
+    requires { IsQuiet (D.seen disk.old) (D.moments disk.old) }
     ensures { Runs (map string_bytes words.now)
         (record {
           world = W.left world.old;
@@ -68,12 +75,13 @@ fn run_stored<W: Source, U: Source, O: Sink, D: Disk>(
     out: &mut O,
     disk: &mut D,
 ) -> Status
-    // All was done: the journal has the file's world and each tick after it, with what each player's module
-    // emits of what he sees, and the lines were printed.
+    requires { IsQuiet (D.seen disk.old) (D.moments disk.old) }
+    // All was done: the journal has the file's world, the records that it had, and one for each tick, with what
+    // each player's module emits of what he sees, and the lines were printed.
     ensures done { result ≡ Status.Done → (first : Stored) × (stream : List UploadOfStream)
         × (steps : List Step)
         × Asks (map string_bytes words.now) (length steps)
-        × ReadsWorld (W.left world.old) (W.left world.new) (world_of first)
+        × ReadsWorld (W.left world.old) (W.left world.new) (world_of first) × IsSound first
         × ReadsUploads (U.left uploads.old) (U.left uploads.new) stream
         × Leaves (D.seen disk.old) (D.seen disk.new) (O.written out.old)
         (O.written out.new) stream first steps }
@@ -91,19 +99,25 @@ fn run_stored<W: Source, U: Source, O: Sink, D: Disk>(
     ensures uploads_accepted { IsPastUploads result → (stream : List UploadOfStream)
         × ReadsUploads (U.left uploads.old) (U.left uploads.new) stream }
     ensures journal_refused { (at : ℕ) → result ≡ Status.NotAJournal at
-        → (at ≡ 0) × IsFilled (D.seen disk.old) }
-    ensures journal_accepted { IsPastJournal result → IsEmpty (D.seen disk.old) }
+        → IfSome (D.seen disk.old) (FailsAt at) × (D.seen disk.new ≡ D.seen disk.old)
+        × (O.written out.new ≡ O.written out.old) }
+    ensures other { (at : ℕ) (one given : Option ℕ) → result ≡ Status.OtherWorld at one given
+        → (first : Stored) × ReadsWorld (W.left world.old) (W.left world.new) (world_of first)
+        × IsSound first × IfSome (D.seen disk.old) (λ bytes. (base : Stored) × (entries : List TickRecord)
+        × IsJournal base entries bytes × DifferAt at one given (base_content base) (base_content first)) }
+    ensures other_kept { (at : ℕ) (one given : Option ℕ) → result ≡ Status.OtherWorld at one given
+        → IsKept (D.seen disk.old) (D.seen disk.new) × (O.written out.new ≡ O.written out.old) }
 
     // Before a tick that is asked for the room is the first whose serials are used up, and all ticks before
     // it were done.
     ensures exhausted { (index : ℕ) → result ≡ Status.IdsExhausted index
         → (first : Stored) × (stream : List UploadOfStream) × (steps : List Step)
         × AsksAtLeast (map string_bytes words.now) (suc (length steps))
-        × ReadsWorld (W.left world.old) (W.left world.new) (world_of first)
+        × ReadsWorld (W.left world.old) (W.left world.new) (world_of first) × IsSound first
         × ReadsUploads (U.left uploads.old) (U.left uploads.new) stream
-        × Leaves (D.seen disk.old) (D.seen disk.new) (O.written out.old)
-        (O.written out.new) stream first steps
-        × IsExhausted (last_of (opened first) steps).world index }
+        × (leaves : Leaves (D.seen disk.old) (D.seen disk.new) (O.written out.old)
+        (O.written out.new) stream first steps)
+        × IsExhausted (last_of leaves.prints.first steps).world index }
 
     // A fault comes only where that object's count rose, and that of the upload stream only where the world
     // file was accepted.
@@ -120,7 +134,8 @@ fn run_stored<W: Source, U: Source, O: Sink, D: Disk>(
         → AreRun (map string_bytes words.now)
         → W.left world.old ≡ Some bytes → WorldForm bytes found
         → U.left uploads.old ≡ Some stream → length stream ≤ 2 ^ 28 → UploadList stream list
-        → D.seen disk.old ≡ Some []
+        → (disk_bytes : List ℕ) (entries : List TickRecord) → D.seen disk.old ≡ Some disk_bytes
+        → Stood (D.seen disk.old) (listed found) entries
         → (Rose (W.faults world.old) (W.faults world.new) → ⊥)
         → (Rose (U.faults uploads.old) (U.faults uploads.new) → ⊥)
         → (Rose (O.faults out.old) (O.faults out.new) → ⊥)
@@ -131,32 +146,27 @@ fn run_stored<W: Source, U: Source, O: Sink, D: Disk>(
     // What is left on the disk and in the sink.
     ensures untouched { IsBeforeJournal result → (D.seen disk.new ≡ D.seen disk.old)
         × (O.written out.new ≡ O.written out.old) }
-    ensures disk_kept { (at : ℕ) → result ≡ Status.NotAJournal at → (D.seen disk.new ≡ D.seen disk.old)
-        × (O.written out.new ≡ O.written out.old) }
     ensures write_stopped { result ≡ Status.WriteFault → (first : Stored) × (stream : List UploadOfStream)
         × (steps : List Step)
         × AsksAtLeast (map string_bytes words.now) (length steps)
-        × ReadsWorld (W.left world.old) (W.left world.new) (world_of first)
+        × ReadsWorld (W.left world.old) (W.left world.new) (world_of first) × IsSound first
         × ReadsUploads (U.left uploads.old) (U.left uploads.new) stream
         × LeavesPart (D.seen disk.old) (D.seen disk.new) (O.written out.old)
         (O.written out.new) stream first steps }
     ensures disk_stopped { result ≡ Status.DiskFault → (O.written out.new ≡ O.written out.old)
         ⊎ ((first : Stored) × (stream : List UploadOfStream) × (steps : List Step)
         × AsksAtLeast (map string_bytes words.now) (length steps)
-        × ReadsWorld (W.left world.old) (W.left world.new) (world_of first)
+        × ReadsWorld (W.left world.old) (W.left world.new) (world_of first) × IsSound first
         × ReadsUploads (U.left uploads.old) (U.left uploads.new) stream
-        × Follow stream (opened first) steps × Appends (O.written out.old) (O.written out.new)
-        (output first steps)) }
+        × Prints (D.seen disk.old) (O.written out.old) (O.written out.new) stream first steps) }
     ensures memory_stopped { result ≡ Status.Memory
-        → ((D.seen disk.new ≡ D.seen disk.old) × (O.written out.new ≡ O.written out.old))
+        → (IsKept (D.seen disk.old) (D.seen disk.new) × (O.written out.new ≡ O.written out.old))
         ⊎ ((first : Stored) × (stream : List UploadOfStream) × (steps : List Step)
         × AsksAtLeast (map string_bytes words.now) (length steps)
-        × ReadsWorld (W.left world.old) (W.left world.new) (world_of first)
+        × ReadsWorld (W.left world.old) (W.left world.new) (world_of first) × IsSound first
         × ReadsUploads (U.left uploads.old) (U.left uploads.new) stream
         × Leaves (D.seen disk.old) (D.seen disk.new) (O.written out.old)
         (O.written out.new) stream first steps) }
-
-    ensures overwrites_nothing { IsEmpty (D.seen disk.old) ⊎ (D.seen disk.new ≡ D.seen disk.old) }
 
     // What is not needed is not read.
     ensures unread { result ≡ Status.Usage → (W.left world.new ≡ W.left world.old)

@@ -1,6 +1,6 @@
 // How a run ends.
 ghost use Rattle.std.specs.Prelude.{◌≡◌, string_bytes, IfOk};
-ghost use Rattle.world_run.specs.Faults.{field_name, kind_name, rule_name, world_fault_text, status_number, status_text, fault_text};
+ghost use Rattle.world_run.specs.Faults.{byte_text as text_of_byte, field_name, kind_name, other_world_text, rule_name, world_fault_text, status_number, status_text, fault_text};
 
 use game_tables::Kind;
 use player_run::Refusal;
@@ -27,6 +27,13 @@ pub enum Status {
     DiskFault,
     /// 8: the journal is refused, at this place.
     NotAJournal(u64),
+    /// 9: the journal begins with another world than that of the file. Their base contents differ first at this
+    /// place, where they have these bytes; a content that ends there has none.
+    OtherWorld {
+        at: u64,
+        kept: Option<u8>,
+        given: Option<u8>,
+    },
     /// 10: the room of this index has too few serials left for a tick.
     IdsExhausted(u32),
     /// 11: there is not enough memory.
@@ -49,6 +56,7 @@ impl Status {
             Status::WriteFault => 6,
             Status::DiskFault => 7,
             Status::NotAJournal(_) => 8,
+            Status::OtherWorld { .. } => 9,
             Status::IdsExhausted(_) => 10,
             Status::Memory => 11,
             Status::Refused(_) => 12,
@@ -81,6 +89,7 @@ impl Status {
             Status::WriteFault => String::from_str(alloc, "WriteFault"),
             Status::DiskFault => String::from_str(alloc, "DiskFault"),
             Status::NotAJournal(place) => format!(in alloc; "NotAJournal {place}"),
+            Status::OtherWorld { at, kept, given } => other_world(alloc, at, kept, given),
             Status::IdsExhausted(index) => format!(in alloc; "IdsExhausted {index}"),
             Status::Memory => String::from_str(alloc, "Memory"),
             Status::Refused(refusal) => {
@@ -88,6 +97,31 @@ impl Status {
                 format!(in alloc; "Refused {name}")
             }
         }
+    }
+}
+
+// That a journal begins with another world: where, and the two bytes.
+fn other_world(
+    alloc: Global,
+    at: u64,
+    kept: Option<u8>,
+    given: Option<u8>,
+) -> Result<String, AllocError>
+    ensures { IfOk result (λ text. string_bytes text ≡ other_world_text at kept given) }
+{
+    let one = byte_text(alloc, kept)?;
+    let other = byte_text(alloc, given)?;
+    let text = format!(in alloc; "OtherWorld {at} {one} {other}")?;
+    Ok(text)
+}
+
+// A byte in decimal, or `none`.
+fn byte_text(alloc: Global, byte: Option<u8>) -> Result<String, AllocError>
+    ensures { IfOk result (λ text. string_bytes text ≡ text_of_byte byte) }
+{
+    match byte {
+        Some(byte) => format!(in alloc; "{byte}"),
+        None => String::from_str(alloc, "none"),
     }
 }
 

@@ -1,5 +1,5 @@
 -- With which statuses each stage can end a run, and what the ticks leave.
-use Rattle.std.specs.Prelude.{◌≡◌, ℕ, List, [], ◌∷◌, ◌++◌, Option}
+use Rattle.std.specs.Prelude.{◌≡◌, ℕ, List, [], ◌∷◌, ◌++◌, Option, IfSome}
 use Rattle.std.specs.List.{flat_map}
 use Rattle.std.specs.Io.KnownBytes.{Appends}
 use Rattle.upload_stream.specs.Streams.{Upload}
@@ -7,7 +7,12 @@ use Rattle.hosted_tick.specs.Hosting.{Held}
 use Rattle.world_form.specs.declared.fault.WorldFault.{WorldFault}
 use Rattle.world_form.specs.declared.fault.WorldFault.TheVariants as faults
 use Rattle.world_run.specs.Runs.{AppendsPart}
-use Rattle.world_run.specs.inner.Held.{Follow, Step, step_frame, step_lines}
+use Rattle.object_store.specs.Stored.{Stored}
+use Rattle.tick_journal.specs.declared.tick_record.TickRecord.{TickRecord}
+use Rattle.world_io.specs.Moments.{Moment}
+use Rattle.world_journal.specs.Journals.{IsJournal}
+use Rattle.world_run.specs.declared.kept.Kept.{Kept}
+use Rattle.world_run.specs.inner.Held.{Follow, IsKeptAt, Step, recorded_of, step_lines}
 use Rattle.world_run.specs.declared.status.Status.{Status}
 use Rattle.world_run.specs.declared.status.Status.TheVariants as statuses
 
@@ -22,6 +27,7 @@ IsOfRun status = Unit {0}
 abbrev pub IsPastWorld : Status → Type 0
 IsPastWorld (statuses.Uploads at) = Unit {0}
 IsPastWorld (statuses.NotAJournal at) = Unit {0}
+IsPastWorld (statuses.OtherWorld at kept given) = Unit {0}
 IsPastWorld (statuses.IdsExhausted index) = Unit {0}
 IsPastWorld statuses.DiskFault = Unit {0}
 IsPastWorld statuses.WriteFault = Unit {0}
@@ -31,18 +37,12 @@ IsPastWorld status = ⊥
 -- It accepted the upload stream.
 abbrev pub IsPastUploads : Status → Type 0
 IsPastUploads (statuses.NotAJournal at) = Unit {0}
+IsPastUploads (statuses.OtherWorld at kept given) = Unit {0}
 IsPastUploads (statuses.IdsExhausted index) = Unit {0}
 IsPastUploads statuses.DiskFault = Unit {0}
 IsPastUploads statuses.WriteFault = Unit {0}
 IsPastUploads statuses.Done = Unit {0}
 IsPastUploads status = ⊥
-
--- It accepted the disk.
-abbrev pub IsPastJournal : Status → Type 0
-IsPastJournal (statuses.IdsExhausted index) = Unit {0}
-IsPastJournal statuses.WriteFault = Unit {0}
-IsPastJournal statuses.Done = Unit {0}
-IsPastJournal status = ⊥
 
 -- It ended before it looked at the disk.
 abbrev pub IsBeforeJournal : Status → Type 0
@@ -94,12 +94,13 @@ IsOfRecord statuses.DiskFault = Unit {0}
 IsOfRecord statuses.WriteFault = Unit {0}
 IsOfRecord status = ⊥
 
--- The recording of the opening world can end a run so.
-abbrev pub IsOfStart : Status → Type 0
-IsOfStart statuses.DiskFault = Unit {0}
-IsOfStart statuses.WriteFault = Unit {0}
-IsOfStart statuses.Memory = Unit {0}
-IsOfStart status = ⊥
+-- The opening of the journal can end a run so.
+abbrev pub IsOfOpening : Status → Type 0
+IsOfOpening (statuses.NotAJournal at) = Unit {0}
+IsOfOpening (statuses.OtherWorld at kept given) = Unit {0}
+IsOfOpening statuses.DiskFault = Unit {0}
+IsOfOpening statuses.Memory = Unit {0}
+IsOfOpening status = ⊥
 
 -- A tick can end a run so.
 abbrev pub IsOfTick : Status → Type 0
@@ -117,28 +118,26 @@ IsOfTicks status = IsOfTick status
 -- What comes after the inputs can end a run so.
 abbrev pub IsOfJournal : Status → Type 0
 IsOfJournal (statuses.NotAJournal at) = Unit {0}
+IsOfJournal (statuses.OtherWorld at kept given) = Unit {0}
 IsOfJournal status = IsOfTicks status
 
--- Each step is the tick after the world before it; their frames came to the disk, and their lines to the
--- sink.
-pub record Grows (disk_old disk_new sink_old sink_new : Option (List ℕ)) (stream : List Upload) (first : Held)
+-- Each step is the tick after the world before it, and their lines came to the sink.
+pub record Grows (sink_old sink_new : Option (List ℕ)) (stream : List Upload) (first : Held)
     (steps : List Step) : Type 0 where
   pub follow : Follow stream first steps
-  pub frames : Appends disk_old disk_new (flat_map step_frame steps)
   pub lines : Appends sink_old sink_new (flat_map step_lines steps)
 
 -- The same, but that only a part of the lines of the last step came to the sink.
-pub record GrowsPart (disk_old disk_new sink_old sink_new : Option (List ℕ)) (stream : List Upload)
-    (first : Held) (steps : List Step) : Type 0 where
+pub record GrowsPart (sink_old sink_new : Option (List ℕ)) (stream : List Upload) (first : Held)
+    (steps : List Step) : Type 0 where
   pub follow : Follow stream first steps
-  pub frames : Appends disk_old disk_new (flat_map step_frame steps)
   pub earlier : List Step
   pub last : Step
   pub ordered : steps ≡ earlier ++ last ∷ []
   pub lines : AppendsPart sink_old sink_new (flat_map step_lines earlier) (step_lines last)
 
--- The same, but that nothing is said of the disk.
-pub record GrowsLines (sink_old sink_new : Option (List ℕ)) (stream : List Upload) (first : Held)
-    (steps : List Step) : Type 0 where
-  pub follow : Follow stream first steps
-  pub lines : Appends sink_old sink_new (flat_map step_lines steps)
+-- The records of the steps stand in the journal behind those that were there, where the disk tells.
+abbrev pub Continues : Kept → Option (List ℕ) → List Moment → Option (List ℕ) → List Step → Type 0
+Continues first seen moments seen_after steps = (base : Stored) (entries : List TickRecord)
+    → IsKeptAt base entries first seen moments
+    → IfSome seen_after (IsJournal base (entries ++ recorded_of steps))

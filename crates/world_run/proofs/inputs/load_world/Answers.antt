@@ -2,7 +2,7 @@ use Rattle.std.proofs.Common.{◌≡◌, List, ℕ, sym, subst, ◌∙◌}
 use Rattle.world_form.specs.Files.{HasFault, WorldForm}
 use Rattle.world_io.specs.Told.{GaveAll}
 use Rattle.world_run.proofs.Checked.{gave_whole}
-use Rattle.world_run.proofs.Hosts.{writable_hosted}
+use Rattle.world_run.proofs.Starting.{may_start}
 use Rattle.world_run.proofs.WorldFaults.{fault_read, fault_memory}
 use Rattle.world_run.proofs.inputs.load_world.Goals as goal
 
@@ -17,5 +17,5 @@ returns-clause-complete g c = λ bytes found left form fine.
     let text : c.deref.result.now ≡ bytes = c.deref.ensures.value ∙ whole in
     c.refused_world.ensures ∙ fault_memory c.in-Err.fault c.deref.result.now found c.in-Err.ensures.refused (subst (λ (b : List ℕ). WorldForm b found) (sym text) form)
 
-pub returns-in-Ok-read_world-clause-hosted : goal.returns-in-Ok-read_world-clause-hosted
-returns-in-Ok-read_world-clause-hosted g c = writable_hosted _ c.in-Ok-read_world.ensures.writable
+pub returns-in-Ok-read_world-clause-starts : goal.returns-in-Ok-read_world-clause-starts
+returns-in-Ok-read_world-clause-starts g c = may_start _ c.in-Ok-read_world.ensures.writable c.have_tiles.ensures

@@ -1,36 +1,46 @@
-use Rattle.std.proofs.Common.{◌≤◌, [], arith, inl, inr}
-use Rattle.world_run.proofs.RunsLists.{is_empty, leaves, leaves_part, leaves_start}
-use Rattle.world_run.specs.Runs.{IsEmpty}
+use Rattle.std.proofs.Common.{◌∙◌, [], arith, inr, refl, subst}
+use Rattle.std.specs.Io.KnownBytes.{Appends}
+use Rattle.world_io.specs.Told.{AppendsPrefix}
+use Rattle.world_run.proofs.RunsLists.{leaves, leaves_part, leaves_start, prints}
 use Rattle.world_run.proofs.ticks.keep_journal.Goals as goal
 
-pub returns-in-Ok-record_start-clause-write_stopped : goal.returns-in-Ok-record_start-clause-write_stopped
-returns-in-Ok-record_start-clause-write_stopped g c = λ stopped.
-    let part = c.run_ticks.ensures.write_stopped stopped in
-    let low : c.in-Ok.len ≤ 0 = omega arith in
-    let empty : IsEmpty (g.D.Disk.seen c.args.disk.now) = is_empty _ _ c.in-Ok.ensures.told low in
-    (part.0, part.1, leaves_part _ _ _ _ _ _ _ _ _ empty (rw c.in-Ok.ensures.same at c.in-Ok-record_start.ensures.frame) c.in-Ok-record_start.ensures.line (rw c.new.ensures at part.2))
+pub returns-clause-done : goal.returns-clause-done
+returns-clause-done g c = λ done.
+    let opened = c.in-Ok.ensures.opened in
+    let run = c.run_ticks.ensures.done done in
+    (run.0, run.1, leaves _ _ _ _ _ c.args.world opened.0 c.in-Ok.opening.kept _ _ run.0 opened.1 opened.2 (subst (Appends _ _) (c.deref.ensures.value ∙ c.in-Ok.ensures.line) c.in-Ok-write_all.ensures.whole) _ run.2 run.3)
 
-pub returns-in-Err-clause-write_stopped : goal.returns-in-Err-clause-write_stopped
-returns-in-Err-clause-write_stopped g c = λ stopped.
-    let low : c.in-Ok.len ≤ 0 = omega arith in
-    let empty : IsEmpty (g.D.Disk.seen c.args.disk.now) = is_empty _ _ c.in-Ok.ensures.told low in
-    ([], omega arith, leaves_start _ _ _ _ _ _ c.requires.hosted empty (rw c.in-Ok.ensures.same at (c.in-Err.ensures.frame_kept stopped)) (c.in-Err.ensures.line_cut stopped))
+pub returns-clause-exhausted : goal.returns-clause-exhausted
+unfolding leaves prints
+returns-clause-exhausted g c = λ index is.
+    let opened = c.in-Ok.ensures.opened in
+    let run = c.run_ticks.ensures.exhausted index is in
+    (run.0, run.1, leaves _ _ _ _ _ c.args.world opened.0 c.in-Ok.opening.kept _ _ run.0 opened.1 opened.2 (subst (Appends _ _) (c.deref.ensures.value ∙ c.in-Ok.ensures.line) c.in-Ok-write_all.ensures.whole) _ run.2 run.3, run.4)
 
-pub returns-in-Ok-record_start-clause-memory_stopped : goal.returns-in-Ok-record_start-clause-memory_stopped
-returns-in-Ok-record_start-clause-memory_stopped g c = λ stopped.
+pub returns-clause-write_stopped : goal.returns-clause-write_stopped
+returns-clause-write_stopped g c = λ stopped.
+    let opened = c.in-Ok.ensures.opened in
+    let run = c.run_ticks.ensures.write_stopped stopped in
+    (run.0, run.1, leaves_part _ _ _ _ _ c.args.world opened.0 c.in-Ok.opening.kept _ _ run.0 opened.1 opened.2 (subst (Appends _ _) (c.deref.ensures.value ∙ c.in-Ok.ensures.line) c.in-Ok-write_all.ensures.whole) _ run.2 run.3)
+
+pub returns-clause-disk_stopped : goal.returns-clause-disk_stopped
+returns-clause-disk_stopped g c = λ stopped.
+    let opened = c.in-Ok.ensures.opened in
+    let run = c.run_ticks.ensures.disk_stopped stopped in
+    inr (run.0, run.1, prints _ _ _ _ _ c.args.world opened.0 c.in-Ok.opening.kept _ _ run.0 opened.1 opened.2 (subst (Appends _ _) (c.deref.ensures.value ∙ c.in-Ok.ensures.line) c.in-Ok-write_all.ensures.whole) run.2)
+
+pub returns-clause-memory_stopped : goal.returns-clause-memory_stopped
+returns-clause-memory_stopped g c = λ stopped.
+    let opened = c.in-Ok.ensures.opened in
     let run = c.run_ticks.ensures.memory stopped in
-    let low : c.in-Ok.len ≤ 0 = omega arith in
-    let empty : IsEmpty (g.D.Disk.seen c.args.disk.now) = is_empty _ _ c.in-Ok.ensures.told low in
-    let start = rw c.in-Ok.ensures.same at c.in-Ok-record_start.ensures.frame in
-    inr (
-      run.0,
-      run.1,
-      leaves _ _ _ _ _ _ _ _ _ empty start c.in-Ok-record_start.ensures.line
-          (rw c.new.ensures at run.2),
-    )
+    inr (run.0, run.1, leaves _ _ _ _ _ c.args.world opened.0 c.in-Ok.opening.kept _ _ run.0 opened.1 opened.2 (subst (Appends _ _) (c.deref.ensures.value ∙ c.in-Ok.ensures.line) c.in-Ok-write_all.ensures.whole) _ run.2 run.3)
 
-pub returns-in-Ok-record_start-clause-overwrites_nothing :
-    goal.returns-in-Ok-record_start-clause-overwrites_nothing
-returns-in-Ok-record_start-clause-overwrites_nothing g c =
-    let low : c.in-Ok.len ≤ 0 = omega arith in
-    inl (is_empty _ _ c.in-Ok.ensures.told low)
+pub returns-in_default-clause-write_stopped : goal.returns-in_default-clause-write_stopped
+returns-in_default-clause-write_stopped g c = λ stopped.
+    let opened = c.in-Ok.ensures.opened in
+    ([], omega arith, leaves_start _ _ _ _ c.args.world opened.0 c.in-Ok.opening.kept _ _ opened.1 opened.2 (subst (AppendsPrefix _ _) (c.deref.ensures.value ∙ c.in-Ok.ensures.line) c.in_default.ensures.prefix))
+
+pub returns-in-Err-clause-journal_refused : goal.returns-in-Err-clause-journal_refused
+returns-in-Err-clause-journal_refused g c = λ at is.
+    let end = c.in-Err.ensures.not_a_journal at is in
+    (end.0, end.1, refl)

@@ -1,47 +1,41 @@
-use Rattle.std.proofs.Common.{◌≡◌, List, ℕ, ap, map, refl, subst, ◌∙◌}
+use Rattle.std.proofs.Common.{[], ◌∷◌, ◌++◌, List, ℕ, IfSome, subst, sym, ◌∙◌}
 use Rattle.std.specs.Io.KnownBytes.{Appends}
 use Rattle.object_store.specs.Stored.{Stored}
+use Rattle.hosted_tick.specs.Hosting.{Held, IsHosted}
+use Rattle.tick_journal.specs.declared.tick_record.TickRecord.{TickRecord}
 use Rattle.world_io.specs.Told.{AppendsPrefix}
+use Rattle.world_journal.specs.Journals.{IsJournal}
 use Rattle.world_rules.specs.Sound.{HaveSerials}
-use Rattle.upload_stream.specs.Streams.{Upload, uploads_at}
-use Rattle.upload_stream.specs.Entries.{upload_of}
-use Rattle.hosted_tick.specs.Next.{Next}
-use Rattle.hosted_tick.specs.Hosting.{state_of}
-use Rattle.world_run.specs.inner.Held.{Step, step_of, step_lines, IsStep, step_frame}
+use Rattle.world_run.specs.declared.kept.Kept.{Kept}
+use Rattle.world_run.specs.inner.Held.{IsKeptAt}
+use Rattle.world_run.proofs.Recorded.{kept_one, records_one}
 use Rattle.world_run.proofs.ticks.one_tick.Goals as goal
 
 pub returns-in-Ok-record-clause-step : goal.returns-in-Ok-record-clause-step
 returns-in-Ok-record-clause-step g c =
-    let step : Step = step_of c.in-Ok.done in
-    let stream : List Upload = map upload_of c.args.stream.now in
-    let uploads : map upload_of c.uploads_at-uploads.result.now ≡ uploads_at c.args.kept.hosted.world.tick stream =
-    c.uploads_at-uploads.ensures ∙ ap (λ n. uploads_at n stream) (c.tick.ensures ∙ ap (λ (w : Stored). w.tick) c.world-2.ensures) in
-    let is : IsStep stream c.args.kept.hosted step = subst (λ (list : List Upload). Next (state_of c.args.kept.hosted) list step.uploads step.runs (state_of step.after)) uploads c.in-Ok.ensures.next in
+    let made = c.in-Ok.ensures.step in
     let serials : HaveSerials c.args.kept.hosted.world.rooms = subst (λ (w : Stored). HaveSerials w.rooms) c.world.ensures c.in_default.ensures.none in
-    let bytes : c.deref.result.now ≡ step_frame step = c.deref.ensures.value ∙ c.in-Ok-step_frame_of.ensures in
-    let text : c.deref-2.result.now ≡ step_lines step = c.deref-2.ensures.value ∙ c.in-Ok-lines_of.ensures in (
-      step,
-      refl,
-      is,
+    let text = c.deref.ensures.value ∙ made.4 in
+    let next : Kept = record { hosted = c.in-Ok.made.hosted; journal = c.record.new.journal } in (
+      made.0,
+      made.1,
+      made.3,
       serials,
-      subst (λ (b : List ℕ). Appends (g.D.Disk.seen c.args.disk.now) (g.D.Disk.seen c.record.new.disk) b) bytes c.in-Ok-record.ensures.frame,
-      subst (λ (b : List ℕ). Appends (g.O.Sink.written c.args.out.now) (g.O.Sink.written c.record.new.out) b) text c.in-Ok-record.ensures.line,
+      subst (λ (b : List ℕ). Appends (g.O.Sink.written c.args.out.now) (g.O.Sink.written c.record.new.out) b) text c.in-Ok-record.ensures.lines,
+      λ base entries start. subst (λ (r : TickRecord). IsKeptAt base (entries ++ r ∷ []) next (g.D.Disk.seen c.record.new.disk) (g.D.Disk.moments c.record.new.disk)) (sym made.2)
+          (kept_one base entries c.args.kept c.in-Ok.made.entry _ _ start c.in-Ok.ensures.follows c.in-Ok.made.hosted c.record.new.journal _ _ c.record.ensures.alike (c.in-Ok-record.ensures.recorded base entries) c.in-Ok.ensures.leads c.in-Ok.ensures.modules c.in-Ok.ensures.hosted c.in-Ok.ensures.few c.in-Ok-record.ensures.log c.in-Ok-record.ensures.is_open),
     )
 
 pub returns-in-Err-clause-write_stopped : goal.returns-in-Err-clause-write_stopped
 returns-in-Err-clause-write_stopped g c = λ stopped.
-    let step : Step = step_of c.in-Ok.done in
-    let stream : List Upload = map upload_of c.args.stream.now in
-    let uploads : map upload_of c.uploads_at-uploads.result.now ≡ uploads_at c.args.kept.hosted.world.tick stream =
-    c.uploads_at-uploads.ensures ∙ ap (λ n. uploads_at n stream) (c.tick.ensures ∙ ap (λ (w : Stored). w.tick) c.world-2.ensures) in
-    let is : IsStep stream c.args.kept.hosted step = subst (λ (list : List Upload). Next (state_of c.args.kept.hosted) list step.uploads step.runs (state_of step.after)) uploads c.in-Ok.ensures.next in
+    let made = c.in-Ok.ensures.step in
     let serials : HaveSerials c.args.kept.hosted.world.rooms = subst (λ (w : Stored). HaveSerials w.rooms) c.world.ensures c.in_default.ensures.none in
-    let bytes : c.deref.result.now ≡ step_frame step = c.deref.ensures.value ∙ c.in-Ok-step_frame_of.ensures in
-    let text : c.deref-2.result.now ≡ step_lines step = c.deref-2.ensures.value ∙ c.in-Ok-lines_of.ensures in (
-      step,
-      is,
+    let text = c.deref.ensures.value ∙ made.4 in (
+      made.0,
+      made.3,
       serials,
-      c.in-Ok.ensures.hosted,
-      subst (λ (b : List ℕ). Appends (g.D.Disk.seen c.args.disk.now) (g.D.Disk.seen c.record.new.disk) b) bytes (c.in-Err.ensures.frame_kept stopped),
-      subst (λ (b : List ℕ). AppendsPrefix (g.O.Sink.written c.args.out.now) (g.O.Sink.written c.record.new.out) b) text (c.in-Err.ensures.line_cut stopped),
+      subst (λ (held : Held). IsHosted held.world) (sym made.1) c.in-Ok.ensures.hosted,
+      subst (λ (b : List ℕ). AppendsPrefix (g.O.Sink.written c.args.out.now) (g.O.Sink.written c.record.new.out) b) text (c.in-Err.ensures.lines_cut stopped),
+      λ base entries start. subst (λ (r : TickRecord). IfSome (g.D.Disk.seen c.record.new.disk) (IsJournal base (entries ++ r ∷ []))) (sym made.2)
+          (records_one base entries c.args.kept c.in-Ok.made.entry _ _ start c.in-Ok.ensures.follows c.record.new.journal.log.gate _ _ c.record.ensures.alike (c.in-Err.ensures.recorded_too stopped base entries)),
     )

@@ -1,35 +1,73 @@
-use Rattle.std.proofs.Common.{◌≡◌, ◌+◌, arith, ap, map, subst, sym, ◌∙◌}
+use Rattle.std.proofs.Common.{◌≡◌, ◌+◌, ℕ, List, Option, arith, ap, map, refl, subst, sym, ◌∙◌}
 use Rattle.upload_stream.specs.Entries.{upload_of}
 use Rattle.hosted_tick.specs.Hosting.{Held, IsHosted}
 use Rattle.world_run.specs.inner.Held.{IsExhausted}
-use Rattle.world_run.proofs.RunsLists.{Further, along_more, along_part, tick_rises}
+use Rattle.world_run.specs.inner.Stages.{Continues, Grows}
+use Rattle.world_run.proofs.RunsLists.{Further, along_more, along_none, along_part, continues, tick_rises}
 use Rattle.world_run.proofs.ticks.run_ticks.Goals as goal
+
+pub loop-turn-init : goal.loop-turn-init
+loop-turn-init g c = record {
+  along = along_none _ _ _ _ c.args.first c.requires.hosted;
+  hosted = c.requires.hosted;
+  few = c.requires.few;
+  tick = omega arith;
+  is_open = c.requires.is_open;
+  log = c.requires.log;
+  out_steady = refl;
+  disk_steady = refl;
+}
 
 pub returns-in-Err-clause-write_stopped : goal.returns-in-Err-clause-write_stopped
 returns-in-Err-clause-write_stopped g c = λ stopped.
     let part = c.in-Err.ensures.write_stopped stopped in
     let further : Further (map upload_of c.args.stream.now) c.loop-turn.kept.hosted part.0 = record { serials = part.2; step_is = part.1; hosted = part.3 } in
-    let more = along_part _ _ _ _ _ _ _ _ _ _ part.0 c.loop-turn.invariant.along further part.4 part.5 in
-    (more.0, omega (arith, more.1), more.2)
+    let more = along_part _ _ _ _ _ _ _ _ _ _ _ part.0 c.loop-turn.invariant.along further _ part.4 part.5 in
+    (more.0, omega (arith, more.1), more.2, more.3)
 
 pub returns-in-Err-clause-exhausted : goal.returns-in-Err-clause-exhausted
 returns-in-Err-clause-exhausted g c = λ index is.
     let end = c.in-Err.ensures.exhausted index is in
     let along = c.loop-turn.invariant.along in
-    (along.steps, omega (arith, along.counted), rw (end.1, end.2) along.grows, subst (λ (held : Held). IsExhausted held.world index) (sym along.ended) end.0)
+    let grows = subst (λ (sink : Option (List ℕ)). Grows (g.O.Sink.written c.args.out.now) sink (map upload_of c.args.stream.now) c.args.first.hosted along.steps) (sym end.2) along.grows in
+    let more = continues _ _ _ _ c.args.first c.loop-turn.kept along.steps along.keeps in
+    let kept = subst (λ (seen : Option (List ℕ)). Continues c.args.first (g.D.Disk.seen c.args.disk.now) (g.D.Disk.moments c.args.disk.now) seen along.steps) (sym end.1) more in
+    (along.steps, omega (arith, along.counted), grows, kept, subst (λ (held : Held). IsExhausted held.world index) (sym along.ended) end.0)
+
+pub returns-in-Err-clause-memory : goal.returns-in-Err-clause-memory
+returns-in-Err-clause-memory g c = λ is.
+    let end = c.in-Err.ensures.memory is in
+    let along = c.loop-turn.invariant.along in
+    let grows = subst (λ (sink : Option (List ℕ)). Grows (g.O.Sink.written c.args.out.now) sink (map upload_of c.args.stream.now) c.args.first.hosted along.steps) (sym end.1) along.grows in
+    let more = continues _ _ _ _ c.args.first c.loop-turn.kept along.steps along.keeps in
+    let kept = subst (λ (seen : Option (List ℕ)). Continues c.args.first (g.D.Disk.seen c.args.disk.now) (g.D.Disk.moments c.args.disk.now) seen along.steps) (sym end.0) more in
+    (along.steps, omega (arith, along.counted), grows, kept)
+
+pub returns-clause-done : goal.returns-clause-done
+returns-clause-done g c = λ done.
+    let along = c.loop-turn.invariant.along in
+    (along.steps, omega (arith, along.counted), along.grows, continues _ _ _ _ c.args.first c.loop-turn.kept along.steps along.keeps)
+
+pub returns-in-Err-clause-disk_stopped : goal.returns-in-Err-clause-disk_stopped
+returns-in-Err-clause-disk_stopped g c = λ is.
+    let along = c.loop-turn.invariant.along in
+    let grows = subst (λ (sink : Option (List ℕ)). Grows (g.O.Sink.written c.args.out.now) sink (map upload_of c.args.stream.now) c.args.first.hosted along.steps) (sym (c.in-Err.ensures.disk_stopped is)) along.grows in
+    (along.steps, omega (arith, along.counted), grows)
 
 pub loop-turn-preserved : goal.loop-turn-preserved
 loop-turn-preserved g c =
     let made = c.in-Ok.ensures.step in
     let further : Further (map upload_of c.args.stream.now) c.loop-turn.kept.hosted made.0 =
     record { serials = made.3; step_is = made.2; hosted = subst (λ (held : Held). IsHosted held.world) (sym made.1) c.in-Ok.ensures.hosted } in
-    let along = along_more _ _ _ _ _ _ _ _ _ _ made.0 c.loop-turn.invariant.along further made.4 made.5 in
+    let along = along_more _ _ _ _ _ _ _ _ _ _ _ made.0 c.loop-turn.invariant.along further _ _ c.in-Ok.next made.1 made.4 made.5 in
     let risen : c.in-Ok.next.hosted.world.tick ≡ c.loop-turn.kept.hosted.world.tick + 1 = ap (λ (held : Held). held.world.tick) (sym made.1) ∙ tick_rises (map upload_of c.args.stream.now) c.loop-turn.kept.hosted made.0 made.2 in
     record {
-      along = rw (← made.1) along;
+      along = along;
       hosted = c.in-Ok.ensures.hosted;
+      few = c.in-Ok.ensures.few;
       tick = omega (arith, risen, c.loop-turn.invariant.tick);
-      end = c.in-Ok.ensures.end;
+      is_open = c.in-Ok.ensures.is_open;
+      log = c.in-Ok.ensures.log;
       out_steady = c.in-Ok.ensures.steady.0 ∙ c.loop-turn.invariant.out_steady;
       disk_steady = c.in-Ok.ensures.steady.1 ∙ c.loop-turn.invariant.disk_steady;
     }

@@ -1,17 +1,20 @@
-use Rattle.std.proofs.Common.{◌≡◌, ◌+◌, map}
-use Rattle.world_io.specs.Disk.{LengthIs}
+use Rattle.std.proofs.Common.{◌≡◌, ◌+◌, false, map}
+use Rattle.frame_log.specs.Frames.{IsLog}
 use Rattle.upload_stream.specs.Entries.{upload_of}
 use Rattle.hosted_tick.specs.Hosting.{IsHosted}
+use Rattle.site_limit.specs.FewSites.{HaveFewSites}
 use Rattle.world_run.proofs.RunsLists.{Along}
 use Rattle.world_run.proofs.ticks.run_ticks.Given as goal
 
 abbrev pub invariant-loop-turn : goal.invariant-loop-turn
 invariant-loop-turn g l =
     record {
-      along : Along (g.D.Disk.seen l.fn.disk) (g.D.Disk.seen l.disk) (g.O.Sink.written l.fn.out) (g.O.Sink.written l.out) (map upload_of l.fn.stream) l.fn.first.hosted l._turn l.kept.hosted;
+      along : Along (g.D.Disk.seen l.fn.disk) (g.D.Disk.moments l.fn.disk) (g.D.Disk.seen l.disk) (g.D.Disk.moments l.disk) (g.O.Sink.written l.fn.out) (g.O.Sink.written l.out) (map upload_of l.fn.stream) l.fn.first l._turn l.kept;
       hosted : IsHosted l.kept.hosted.world;
+      few : HaveFewSites l.kept.hosted.world;
       tick : l.kept.hosted.world.tick ≡ l.fn.first.hosted.world.tick + l._turn;
-      end : LengthIs (g.D.Disk.seen l.disk) l.kept.end;
+      is_open : l.kept.journal.log.is_closed ≡ false;
+      log : IsLog l.kept.journal.log.gate (g.D.Disk.seen l.disk) (g.D.Disk.moments l.disk);
       out_steady : g.O.Sink.faults l.out ≡ g.O.Sink.faults l.fn.out;
       disk_steady : g.D.Disk.faults l.disk ≡ g.D.Disk.faults l.fn.disk;
     }

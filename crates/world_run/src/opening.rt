@@ -1,0 +1,226 @@
+// The opening of a journal: one that stands is gone on with, and else one is begun.
+ghost use Rattle.std.specs.Prelude.{◌≡◌, ◌≢◌, ◌⊎◌, ℕ, ◌≤◌, ◌<◌, ◌^◌, List, [], slice_get, Option, Some, IfOk, IfErr, IfSome, IfNone, OnOk};
+ghost use Rattle.frame_log.specs.Frames.{IsEmptyDisk};
+ghost use Rattle.object_store.specs.Stored.{Stored};
+ghost use Rattle.tick_journal.specs.BaseForms.{HasBaseForm, world_as_read};
+ghost use Rattle.tick_journal.specs.Contents.{base_content};
+ghost use Rattle.tick_journal.specs.declared.tick_record.TickRecord.{TickRecord};
+ghost use Rattle.world_io.specs.Causes.{Rose};
+ghost use Rattle.world_journal.specs.Faults.{FailsAt};
+ghost use Rattle.world_journal.specs.Journals.{IsJournal, IsQuiet, MayBegin};
+ghost use Rattle.world_journal.specs.Recovering.{HasRecovered};
+ghost use Rattle.world_run.specs.Lines.{start_line as start_line_of};
+ghost use Rattle.world_run.specs.Runs.{DifferAt, IsKept, Stood};
+ghost use Rattle.world_run.specs.inner.Held.{IsAt, IsKeptAt, MayStart};
+ghost use Rattle.world_run.specs.inner.Stages.{IsOfOpening};
+
+use crate::kept::Kept;
+use crate::lines::start_line;
+use crate::status::Status;
+use hosted_tick::Hosted;
+use object_store::World;
+use recorded_tick::courses_can_be_hosted;
+use std::alloc::{AllocError as NoMemory, Global};
+use tick_journal::{bases_are_one, write_base};
+use world_io::Disk;
+use world_journal::{AppendFault, Journal, RecoverFault, Recovered, bytes_stand_for_one_journal};
+
+/// A journal that is open, and the line that is printed for it.
+#[derive(Drop)]
+pub(crate) struct Opening {
+    pub kept: Kept,
+    pub line: Vec<u8>,
+}
+
+/// Opens the journal of a disk for the world of a file: it is begun on a disk on which nothing was committed, and
+/// else gone on with, where it begins with this world.
+pub(crate) fn open_journal<D: Disk>(
+    alloc: Global,
+    world: World,
+    disk: &mut D,
+) -> Result<Opening, Status>
+    requires starts { MayStart world }
+    requires quiet { IsQuiet (D.seen disk.old) (D.moments disk.old) }
+    ensures opened { IfOk result (λ opening. (entries : List TickRecord)
+        × Stood (D.seen disk.old) (world_as_read world) entries
+        × IsKeptAt (world_as_read world) entries opening.kept (D.seen disk.new) (D.moments disk.new)) }
+    ensures tick { IfOk result (λ opening. opening.kept.hosted.world.tick < 2 ^ 63) }
+    ensures line { IfOk result
+        (λ opening. opening.line.items ≡ start_line_of opening.kept.hosted.world) }
+    ensures only { IfErr result IsOfOpening }
+    ensures not_a_journal { IfErr result (λ status. (at : ℕ) → status ≡ Status.NotAJournal at
+        → IfSome (D.seen disk.old) (FailsAt at) × (D.seen disk.new ≡ D.seen disk.old)) }
+    ensures other { IfErr result (λ status. (at : ℕ) (one given : Option ℕ)
+        → status ≡ Status.OtherWorld at one given
+        → IfSome (D.seen disk.old) (λ bytes. (base : Stored) × (entries : List TickRecord)
+        × IsJournal base entries bytes
+        × DifferAt at one given (base_content base) (base_content world))) }
+    ensures kept { IfErr result (λ status. status ≢ Status.DiskFault
+        → IsKept (D.seen disk.old) (D.seen disk.new)) }
+    ensures right { IfErr result (λ status. (entries : List TickRecord) (bytes : List ℕ)
+        → D.seen disk.old ≡ Some bytes → Stood (D.seen disk.old) (world_as_read world) entries
+        → (Rose (D.faults disk.old) (D.faults disk.new) → ⊥) → status ≡ Status.Memory) }
+    ensures disk_fault { IfErr result (λ status. status ≡ Status.DiskFault
+        → Rose (D.faults disk.old) (D.faults disk.new)) }
+    ensures steady { OnOk result (D.faults disk.new ≡ D.faults disk.old) }
+    ensures steady_else { IfErr result (λ status. status ≢ Status.DiskFault
+        → D.faults disk.new ≡ D.faults disk.old) }
+    ensures later { D.faults disk.old ≤ D.faults disk.new }
+{
+    bytes_stand_for_one_journal();
+    match Journal::recover(alloc, disk) {
+        Ok(found) => match go_on(alloc, &world, found) {
+            Ok(opening) => Ok(opening),
+            Err(status) => Err(status),
+        },
+        Err(RecoverFault::Empty) => match begin(alloc, world, disk) {
+            Ok(opening) => Ok(opening),
+            Err(status) => Err(status),
+        },
+        Err(RecoverFault::DiskFault) => Err(Status::DiskFault),
+        Err(RecoverFault::NotAJournal(at)) => Err(Status::NotAJournal(at)),
+        Err(RecoverFault::Memory) => Err(Status::Memory),
+    }
+}
+
+// Begins a journal with the world of a file.
+fn begin<D: Disk>(alloc: Global, world: World, disk: &mut D) -> Result<Opening, Status>
+    requires starts { MayStart world }
+    requires none { IsEmptyDisk (D.seen disk.old) (D.moments disk.old) }
+    ensures opened { IfOk result (λ opening.
+        IsKeptAt (world_as_read world) [] opening.kept (D.seen disk.new) (D.moments disk.new)) }
+    ensures tick { IfOk result (λ opening. opening.kept.hosted.world.tick < 2 ^ 63) }
+    ensures line { IfOk result
+        (λ opening. opening.line.items ≡ start_line_of opening.kept.hosted.world) }
+    ensures only { IfErr result (λ status. (status ≡ Status.Memory) ⊎ (status ≡ Status.DiskFault)) }
+    ensures memory { IfErr result (λ status. status ≡ Status.Memory → D.seen disk.new ≡ D.seen disk.old) }
+    ensures disk_fault { IfErr result (λ status. status ≡ Status.DiskFault
+        → Rose (D.faults disk.old) (D.faults disk.new)) }
+    ensures steady { OnOk result (D.faults disk.new ≡ D.faults disk.old) }
+    ensures steady_else { IfErr result (λ status. status ≡ Status.Memory
+        → D.faults disk.new ≡ D.faults disk.old) }
+    ensures later { D.faults disk.old ≤ D.faults disk.new }
+{
+    let Ok(line) = start_line(alloc, &world) else {
+        return Err(Status::Memory);
+    };
+    match Journal::create(alloc, disk, &world) {
+        Ok(journal) => Ok(Opening {
+            kept: Kept {
+                hosted: Hosted::new(alloc, world),
+                journal,
+            },
+            line,
+        }),
+        Err(AppendFault::Memory) => Err(Status::Memory),
+        Err(_) => Err(Status::DiskFault),
+    }
+}
+
+// Goes on with a journal, where it begins with the world of a file.
+fn go_on(alloc: Global, world: &World, found: Recovered) -> Result<Opening, Status>
+    requires starts { MayStart world.now }
+    requires found { (entries : List TickRecord) × HasRecovered entries found }
+    ensures at_end { IfOk result (λ opening. (entries : List TickRecord) → HasRecovered entries found
+        → IsAt (world_as_read world.now) entries opening.kept.hosted) }
+    ensures same { IfOk result (λ opening. found.base ≡ world_as_read world.now) }
+    ensures journal { IfOk result (λ opening. opening.kept.journal ≡ found.journal) }
+    ensures tick { IfOk result (λ opening. opening.kept.hosted.world.tick < 2 ^ 63) }
+    ensures line { IfOk result
+        (λ opening. opening.line.items ≡ start_line_of opening.kept.hosted.world) }
+    ensures other { IfErr result (λ status. (at : ℕ) (one given : Option ℕ)
+        → status ≡ Status.OtherWorld at one given
+        → DifferAt at one given (base_content found.base) (base_content world.now)) }
+    ensures only { IfErr result (λ status. (status ≡ Status.Memory)
+        ⊎ ((at : ℕ) × (one : Option ℕ) × (given : Option ℕ) × (status ≡ Status.OtherWorld at one given))) }
+{
+    same_base(alloc, &found.base, world)?;
+    let Ok(opening) = restore(alloc, found) else {
+        return Err(Status::Memory);
+    };
+    Ok(opening)
+}
+
+// The last world of a journal, with its modules.
+fn restore(alloc: Global, found: Recovered) -> Result<Opening, NoMemory>
+    requires { (entries : List TickRecord) × HasRecovered entries found }
+    ensures at_end { IfOk result (λ opening. (entries : List TickRecord) → HasRecovered entries found
+        → IsAt found.base entries opening.kept.hosted) }
+    ensures journal { IfOk result (λ opening. opening.kept.journal ≡ found.journal) }
+    ensures tick { IfOk result (λ opening. opening.kept.hosted.world.tick < 2 ^ 63) }
+    ensures line { IfOk result
+        (λ opening. opening.line.items ≡ start_line_of opening.kept.hosted.world) }
+{
+    courses_can_be_hosted();
+    let Recovered {
+        journal,
+        base: _,
+        world,
+        modules,
+        uploads: _,
+    } = found;
+    let line = start_line(alloc, &world)?;
+    let hosted = Hosted::restored(alloc, world, modules)?;
+    Ok(Opening {
+        kept: Kept { hosted, journal },
+        line,
+    })
+}
+
+// Whether a journal that begins with the one world begins with the other.
+fn same_base(alloc: Global, base: &World, world: &World) -> Result<(), Status>
+    requires form { HasBaseForm base.now }
+    requires begins { MayBegin world.now }
+    ensures same { OnOk result (base.now ≡ world_as_read world.now) }
+    ensures other { IfErr result (λ status. (at : ℕ) (one given : Option ℕ)
+        → status ≡ Status.OtherWorld at one given
+        → DifferAt at one given (base_content base.now) (base_content world.now)) }
+    ensures only { IfErr result (λ status. (status ≡ Status.Memory)
+        ⊎ ((at : ℕ) × (one : Option ℕ) × (given : Option ℕ) × (status ≡ Status.OtherWorld at one given))) }
+{
+    bases_are_one();
+    let Ok(kept) = write_base(alloc, base) else {
+        return Err(Status::Memory);
+    };
+    let Ok(given) = write_base(alloc, world) else {
+        return Err(Status::Memory);
+    };
+    match first_difference(&kept, &given) {
+        None => Ok(()),
+        Some(place) => Err(Status::OtherWorld {
+            at: place as u64,
+            kept: byte_at(&kept, place),
+            given: byte_at(&given, place),
+        }),
+    }
+}
+
+// The byte at a place, where there is one.
+fn byte_at(bytes: &[u8], place: usize) -> Option<u8>
+    ensures { result ≡ slice_get bytes.now place }
+{
+    bytes.get(place).copied()
+}
+
+// The first place at which contents differ, or at which one of them ends.
+fn first_difference(one: &[u8], other: &[u8]) -> Option<usize>
+    ensures some { IfSome result
+        (λ at. DifferAt at (slice_get one.now at) (slice_get other.now at) one.now other.now) }
+    ensures none { IfNone result (one.now ≡ other.now) }
+{
+    let shorter = if one.len() < other.len() {
+        one.len()
+    } else {
+        other.len()
+    };
+    for place in 0..shorter {
+        if one[place] != other[place] {
+            return Some(place);
+        }
+    }
+    if one.len() == other.len() {
+        None
+    } else {
+        Some(shorter)
+    }
+}
