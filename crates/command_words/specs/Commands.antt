@@ -2,7 +2,7 @@
 use Rattle.std.specs.Prelude.{◌≢◌, ℕ, List, string_bytes}
 use Rattle.clap.specs.Walk.{Text}
 use Rattle.command_words.specs.Choices.{Choice, run, check, replay, show, gen, demo}
-use Rattle.command_words.specs.Words.{AreCheck, AreGen, AreRun, IsCheck, IsDemo, IsGen, IsReplay, IsRun, IsShow}
+use Rattle.command_words.specs.Words.{AreCheck, AreGen, AreRun, AreShow, IsCheck, IsDemo, IsGen, IsReplay, IsRun, IsShow}
 use Rattle.command_words.specs.declared.command.Command.{Command}
 use Rattle.command_words.specs.declared.command.Command.TheVariants as commands
 
@@ -38,7 +38,7 @@ abbrev pub AreOf : Kind → List Text → Type 0
 AreOf a_run words = AreRun words
 AreOf a_check words = AreCheck words
 AreOf a_replay words = (path : Text) × IsReplay words path
-AreOf a_show words = (path : Text) × (tick : ℕ) × IsShow words path tick
+AreOf a_show words = AreShow words
 AreOf a_gen words = AreGen words
 AreOf a_demo words = (seed : ℕ) × (rooms : ℕ) × (ticks : ℕ) × IsDemo words seed rooms ticks
 

@@ -87,6 +87,14 @@ pub record IsShow (words : List Text) (path : Text) (tick : ℕ) : Type 0 where
   pub tick_is : GivesNumber show words (codes "TICK") tick
   pub limit : tick < 2 ^ 64
 
+-- The words are those of the showing of a tick.
+abbrev pub AreShow : List Text → Type 0
+AreShow words = (path : Text) × (tick : ℕ) × IsShow words path tick
+
+-- The words ask for the world of this tick.
+abbrev pub AsksFor : List Text → ℕ → Type 0
+AsksFor words tick = (path : Text) × IsShow words path tick
+
 -- ---- `gen SEED ROOMS PART`
 
 -- the word of a part

@@ -1,10 +1,10 @@
--- The words of a gen ask for one part of one world.
+-- The words of a gen ask for one part of one world, and those of a show for one tick.
 use Rattle.std.proofs.Common.{◌≡◌, ◌∙◌, ℕ, List, Option, Some, arith, ap, refl, subst, sym}
 use Rattle.std.specs.Prelude.{slice_index}
 use Rattle.std.specs.Str.Parse.{digits_value}
 use Rattle.clap.specs.Walk.{Text}
 use Rattle.command_words.specs.Choices.{Choice}
-use Rattle.command_words.specs.Words.{GivesNumber, IsGen, part_word}
+use Rattle.command_words.specs.Words.{AsksFor, GivesNumber, IsGen, IsShow, part_word}
 use Rattle.command_words.specs.declared.command.GenPart.{GenPart}
 use Rattle.command_words.specs.declared.command.GenPart.TheVariants.{World, Uploads}
 use Rattle.world_run.specs.Made.{EndsWriting, IsMade}
@@ -37,3 +37,6 @@ asked_once words seed rooms part seed' rooms' part' old new status asks also end
     subst (λ (s : ℕ). EndsWriting (IsMade s rooms' part') old new status) same_seed
     (subst (λ (r : ℕ). EndsWriting (IsMade seed r part') old new status) same_rooms
     (subst (λ (p : GenPart). EndsWriting (IsMade seed rooms p) old new status) same_part ends))
+
+pub one_tick : (words : List Text) (path : Text) (tick tick' : ℕ) → IsShow words path tick → AsksFor words tick' → tick ≡ tick'
+one_tick words path tick tick' asks also = one_number _ words _ tick tick' asks.tick_is also.1.tick_is

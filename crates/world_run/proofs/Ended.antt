@@ -176,6 +176,8 @@ module _ (words : List (List ℕ)) (old new : Outside) where
     | inr d ↦ inr (world_of d.0, d.1, d.7.prints.entries, map shown d.2, (asked d.0 d.1 d.2 d.4 d.5 d.6 d.3, left d.0 d.1 d.2 d.4 d.5 d.6 d.7))
   ]
   ends_as (statuses.Refused refusal) h = h.only
+  ends_as (statuses.NoSuchTick first last) h = h.only
+  ends_as statuses.NoJournal h = h.only
 
 pub stored_ends : (words : List (List ℕ)) (old new : Outside) (status : Status) → IsStored words old new status → Ends words old new status
 stored_ends words old new status h = ends_as words old new status h

@@ -2,6 +2,7 @@ pub mod LinesSums
 pub mod LinesTexts
 pub mod RunsLists
 pub mod Asked
+pub mod Shows
 pub mod Checked
 pub mod WorldFaults
 pub mod Hosts

@@ -141,6 +141,8 @@ module _ (words : List (List ℕ)) (old new : Outside) where
   Ends statuses.Memory =
       IsUnprinted ⊎ Some_made (λ first stream entries steps. Asked steps × Leaves first stream entries steps)
   Ends (statuses.Refused refusal) = ⊥
+  Ends (statuses.NoSuchTick first last) = ⊥
+  Ends statuses.NoJournal = ⊥
 
   -- No failure is passed over: a count stays but where its fault is answered, and none falls.
   pub record IsSteady (status : Status) : Type 0 where

@@ -108,6 +108,8 @@ status_number (statuses.OtherWorld at kept given) = 9
 status_number (statuses.IdsExhausted index) = 10
 status_number statuses.Memory = 11
 status_number (statuses.Refused refusal) = 12
+status_number (statuses.NoSuchTick first last) = 13
+status_number statuses.NoJournal = 15
 
 abbrev pub status_text : Status → List ℕ
 status_text statuses.Done = codes "Done"
@@ -122,6 +124,8 @@ status_text (statuses.OtherWorld at kept given) = other_world_text at kept given
 status_text (statuses.IdsExhausted index) = codes "IdsExhausted" ++ and_number index
 status_text statuses.Memory = codes "Memory"
 status_text (statuses.Refused refusal) = codes "Refused " ++ refusal_name refusal
+status_text (statuses.NoSuchTick first last) = codes "NoSuchTick" ++ and_number first ++ and_number last
+status_text statuses.NoJournal = codes "NoJournal"
 
 -- the line `fault N TEXT` of a status
 abbrev pub fault_text : Status → List ℕ

@@ -5,4 +5,5 @@ pub mod Runs
 pub mod Ends
 pub mod Checks
 pub mod Made
+pub mod Shown
 pub mod inner

@@ -7,6 +7,7 @@ mod lines;
 mod made;
 mod opening;
 mod run;
+mod shown;
 mod status;
 mod ticks;
 mod tool;

@@ -40,6 +40,14 @@ pub enum Status {
     Memory,
     /// 12: the module is refused.
     Refused(Refusal),
+    /// 13: the journal's worlds are those of the ticks from the first to the last, and the one that is asked
+    /// for is none of them.
+    NoSuchTick {
+        first: u64,
+        last: u64,
+    },
+    /// 15: there is no journal: nothing was ever recorded on the disk.
+    NoJournal,
 }
 
 impl Status {
@@ -60,6 +68,8 @@ impl Status {
             Status::IdsExhausted(_) => 10,
             Status::Memory => 11,
             Status::Refused(_) => 12,
+            Status::NoSuchTick { .. } => 13,
+            Status::NoJournal => 15,
         }
     }
 
@@ -96,6 +106,8 @@ impl Status {
                 let name = refusal.name();
                 format!(in alloc; "Refused {name}")
             }
+            Status::NoSuchTick { first, last } => format!(in alloc; "NoSuchTick {first} {last}"),
+            Status::NoJournal => String::from_str(alloc, "NoJournal"),
         }
     }
 }

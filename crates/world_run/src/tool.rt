@@ -1,16 +1,22 @@
 // Commands that keep nothing.
 ghost use Rattle.std.specs.Prelude.{◌≡◌, ◌≢◌, ◌⊎◌, ℕ, ◌≤◌, List, map, string_bytes, Some, IfOk};
 ghost use Rattle.std.specs.Io.KnownBytes.{Appends};
+ghost use Rattle.object_store.specs.Stored.{Stored};
+ghost use Rattle.record_follows.specs.Courses.{IsWorldAt};
+ghost use Rattle.tick_journal.specs.declared.tick_record.TickRecord.{TickRecord};
 ghost use Rattle.world_io.specs.Causes.{Rose};
 ghost use Rattle.world_io.specs.Told.{AppendsPrefix};
+ghost use Rattle.world_journal.specs.Journals.{IsJournal};
 ghost use Rattle.world_run.specs.Checks.{Checks, answer_line, ReadsAnswer, IsAnswer, IsBeforeLine, IsOfCheck, IsOfReading};
 ghost use Rattle.world_run.specs.Runs.{IsPastWords};
 ghost use Rattle.world_run.specs.Made.{EndsWriting, IsMade};
-ghost use Rattle.command_words.specs.Words.{AreCheck, AreGen, IsGen};
+ghost use Rattle.world_run.specs.Shown.{EndsShowing, IsOfTool};
+ghost use Rattle.command_words.specs.Words.{AreCheck, AreGen, AreShow, AsksFor, IsGen};
 ghost use Rattle.command_words.specs.declared.command.GenPart.{GenPart as Part};
 ghost use Rattle.world_run.specs.declared.status.Status.{Status as StatusView};
 
 use crate::made::make_part;
+use crate::shown::show_tick;
 use crate::status::Status;
 use command_words::{Command, WordsFault, read_words};
 use player_run::{Refusal, admit};
@@ -18,38 +24,46 @@ use std::alloc::{AllocError, Global};
 use upload_stream::most_module_bytes;
 use world_io::{Disk, ReadStop, Sink, Source, read_all, write_all};
 
-/// Runs a command that keeps nothing: `check MODULE` or `gen SEED ROOMS PART`.
+/// Runs a command that keeps nothing: `check MODULE`, `gen SEED ROOMS PART` or `show JOURNAL TICK`.
 ///
 /// For a check the module is read to its end, or to one byte past 1 MiB. What is printed is one line:
 /// `accepted` where the bytes spell a valid module without floats, within the limits, that links to the
 /// host calls, and else `refused` and why. For a gen nothing is read, and the part is written as it is.
-/// The disk is left as it is.
+/// For a show the journal on the disk is read, and the text of the tick's world is written, and a line
+/// feed. The disk is left as it is.
 pub fn tool_main<S: Source, O: Sink, D: Disk>(
     alloc: Global,
     words: &[String],
     input: &mut S,
     out: &mut O,
-    _disk: &mut D,
+    disk: &mut D,
 ) -> Status
     // With the words of a check each answer is the one that the bytes call for, and its line was printed.
     ensures checked { AreCheck (map string_bytes words.now) → IsAnswer result
         → ReadsAnswer (S.left input.old) (S.left input.new) result
         × Appends (O.written out.old) (O.written out.new) (answer_line result) }
-    ensures only { IsOfCheck result }
+    ensures check_only { AreCheck (map string_bytes words.now) → IsOfCheck result }
+    ensures only { IsOfTool result }
 
     // With the words of a gen the part that they ask for was written.
     ensures made { (seed rooms : ℕ) (part : Part) → IsGen (map string_bytes words.now) seed rooms part
         → EndsWriting (IsMade seed rooms part) (O.written out.old) (O.written out.new) result }
 
-    // The words are refused exactly where they are none of a check and none of a gen.
+    // With the words of a show the text of the tick that they ask for was written, or there is none.
+    ensures shown { (tick : ℕ) → AsksFor (map string_bytes words.now) tick
+        → EndsShowing tick (D.seen disk.old) (D.faults disk.old) (D.faults disk.new)
+        (O.written out.old) (O.written out.new) result }
+
+    // The words are refused exactly where they are none of a check, of a gen or of a show.
     ensures usage { result ≡ Status.Usage → (AreCheck (map string_bytes words.now) → ⊥)
-        × (AreGen (map string_bytes words.now) → ⊥) }
+        × (AreGen (map string_bytes words.now) → ⊥) × (AreShow (map string_bytes words.now) → ⊥) }
     ensures words { IsPastWords result → AreCheck (map string_bytes words.now)
-        ⊎ AreGen (map string_bytes words.now) }
+        ⊎ (AreGen (map string_bytes words.now) ⊎ AreShow (map string_bytes words.now)) }
 
     // A fault comes only where that object's count rose.
     ensures read_fault { result ≡ Status.ReadFault → Rose (S.faults input.old) (S.faults input.new) }
     ensures write_fault { result ≡ Status.WriteFault → Rose (O.faults out.old) (O.faults out.new) }
+    ensures disk_fault { result ≡ Status.DiskFault → Rose (D.faults disk.old) (D.faults disk.new) }
 
     // With the words of a check and no fault the bytes are answered, or memory is wanted.
     ensures complete { (bytes : List ℕ) → AreCheck (map string_bytes words.now)
@@ -63,29 +77,44 @@ pub fn tool_main<S: Source, O: Sink, D: Disk>(
         → (Rose (O.faults out.old) (O.faults out.new) → ⊥)
         → (result ≡ Status.Memory) ⊎ (result ≡ Status.Done) }
 
+    // With the words of a show, a journal that has the tick, and no fault, all is done, or memory is wanted.
+    ensures shown_complete { (tick : ℕ) (bytes : List ℕ) (base world : Stored) (entries : List TickRecord)
+        → AsksFor (map string_bytes words.now) tick
+        → D.seen disk.old ≡ Some bytes → IsJournal base entries bytes → IsWorldAt base entries tick world
+        → (Rose (D.faults disk.old) (D.faults disk.new) → ⊥)
+        → (Rose (O.faults out.old) (O.faults out.new) → ⊥)
+        → (result ≡ Status.Memory) ⊎ (result ≡ Status.Done) }
+
     // What is left in the sink and on the disk.
     ensures untouched { IsBeforeLine result → O.written out.new ≡ O.written out.old }
     ensures write_stopped { AreCheck (map string_bytes words.now) → result ≡ Status.WriteFault
         → (answer : StatusView) × IsAnswer answer
         × ReadsAnswer (S.left input.old) (S.left input.new) answer
         × AppendsPrefix (O.written out.old) (O.written out.new) (answer_line answer) }
-    ensures disk { (D.seen _disk.new ≡ D.seen _disk.old) × (D.faults _disk.new ≡ D.faults _disk.old) }
+    ensures disk { (D.seen disk.new ≡ D.seen disk.old) × (D.moments disk.new ≡ D.moments disk.old) }
+    ensures disk_unused { (AreShow (map string_bytes words.now) → ⊥)
+        → D.faults disk.new ≡ D.faults disk.old }
 
-    // Words that are none of a check read nothing.
+    // Only words of a check read the source.
     ensures unread { result ≡ Status.Usage → S.left input.new ≡ S.left input.old }
     ensures made_unread { AreGen (map string_bytes words.now)
+        → (S.left input.new ≡ S.left input.old) × (S.faults input.new ≡ S.faults input.old) }
+    ensures shown_unread { AreShow (map string_bytes words.now)
         → (S.left input.new ≡ S.left input.old) × (S.faults input.new ≡ S.faults input.old) }
 
     // No failure is passed over: a count stays but where its fault is answered.
     ensures read_steady { result ≢ Status.ReadFault → S.faults input.new ≡ S.faults input.old }
     ensures write_steady { result ≢ Status.WriteFault → O.faults out.new ≡ O.faults out.old }
+    ensures disk_steady { result ≢ Status.DiskFault → D.faults disk.new ≡ D.faults disk.old }
 
     // The counts never fall.
     ensures input_later { S.faults input.old ≤ S.faults input.new }
     ensures out_later { O.faults out.old ≤ O.faults out.new }
+    ensures disk_later { D.faults disk.old ≤ D.faults disk.new }
 {
     match read_words(alloc, words) {
         Ok(Command::Check { .. }) => check_module(alloc, input, out),
+        Ok(Command::Show { tick, .. }) => show_tick(alloc, tick, out, disk),
         Ok(Command::Gen { seed, rooms, part }) => make_part(alloc, seed, rooms, part, out),
         Ok(_) => Status::Usage,
         Err(WordsFault::Usage) => Status::Usage,

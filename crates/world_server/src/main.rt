@@ -2,7 +2,7 @@
 #![tactic(auto)]
 
 ghost use Rattle.std.specs.Prelude.{◌≡◌, ◌⊎◌, map, string_bytes};
-ghost use Rattle.command_words.specs.Words.{AreCheck, AreGen, AreRun};
+ghost use Rattle.command_words.specs.Words.{AreCheck, AreGen, AreRun, AreShow};
 ghost use Rattle.world_run.specs.Runs.{IsPastWords};
 
 mod pages;
@@ -12,7 +12,9 @@ use pages::page_of;
 use std::env;
 use std::io::ErrorKind;
 use std::process::ExitCode;
-use world_io::{FileDisk, FileSource, MemoryDisk, Source, SteadySource, StreamSink, write_all};
+use world_io::{
+    Disk, FileDisk, FileSource, MemoryDisk, Source, SteadySource, StreamSink, write_all,
+};
 use world_run::{Status, run_alone, tool_main};
 
 fn main(rt: HostRuntime) -> ExitCode {
@@ -74,9 +76,11 @@ fn print(rt: &HostRuntime, page: &str) -> Status {
 // Runs the command that the words say.
 fn run(rt: &HostRuntime, words: &[String]) -> Status
     ensures usage { result ≡ Status.Usage → (AreRun (map string_bytes words.now) → ⊥)
-        × (AreCheck (map string_bytes words.now) → ⊥) × (AreGen (map string_bytes words.now) → ⊥) }
+        × (AreCheck (map string_bytes words.now) → ⊥) × (AreGen (map string_bytes words.now) → ⊥)
+        × (AreShow (map string_bytes words.now) → ⊥) }
     ensures words { IsPastWords result → AreRun (map string_bytes words.now)
-        ⊎ (AreCheck (map string_bytes words.now) ⊎ AreGen (map string_bytes words.now)) }
+        ⊎ (AreCheck (map string_bytes words.now) ⊎ (AreGen (map string_bytes words.now)
+        ⊎ AreShow (map string_bytes words.now))) }
 {
     match read_words(rt.alloc(), words) {
         Ok(
@@ -94,13 +98,15 @@ fn run(rt: &HostRuntime, words: &[String]) -> Status
             journal.as_str(),
         ),
         Ok(Command::Check { module }) => {
-            use_tool(rt, words, &mut FileSource::open(rt, module.as_str()))
+            let mut module = FileSource::open(rt, module.as_str());
+            use_tool(rt, words, &mut module, &mut no_disk(rt))
         }
-        Ok(Command::Gen { .. }) => {
-            use_tool(rt, words, &mut SteadySource::new(Vec::new(rt.alloc())))
+        Ok(Command::Gen { .. }) => use_tool(rt, words, &mut no_source(rt), &mut no_disk(rt)),
+        Ok(Command::Show { journal, tick: _ }) => {
+            let mut journal = FileDisk::open(rt, journal.as_str());
+            use_tool(rt, words, &mut no_source(rt), &mut journal)
         }
-        // The words of a replay, of the showing of a tick and of a run in memory: so far the
-        // program does none of these.
+        // The words of a replay and of a run in memory: so far the program does none of these.
         Ok(_) => Status::Usage,
         Err(fault) => refused_words(fault),
     }
@@ -128,21 +134,36 @@ fn run_files(
     )
 }
 
-// Checks the module of a source, or makes a part of a world, with no disk. A file that cannot be opened
-// fails at its first call.
-fn use_tool<S: Source>(rt: &HostRuntime, words: &[String], input: &mut S) -> Status
+// Checks the module of a source, makes a part of a world, or shows a tick of the journal on a disk. A file
+// that cannot be opened fails at its first call.
+fn use_tool<S: Source, D: Disk>(
+    rt: &HostRuntime,
+    words: &[String],
+    input: &mut S,
+    disk: &mut D,
+) -> Status
     ensures usage { result ≡ Status.Usage → (AreCheck (map string_bytes words.now) → ⊥)
-        × (AreGen (map string_bytes words.now) → ⊥) }
+        × (AreGen (map string_bytes words.now) → ⊥) × (AreShow (map string_bytes words.now) → ⊥) }
     ensures words { IsPastWords result → AreCheck (map string_bytes words.now)
-        ⊎ AreGen (map string_bytes words.now) }
+        ⊎ (AreGen (map string_bytes words.now) ⊎ AreShow (map string_bytes words.now)) }
 {
     tool_main(
         rt.alloc(),
         words,
         input,
         &mut StreamSink::over(rt.stdout()),
-        &mut MemoryDisk::new(Vec::new(rt.alloc()), Vec::new(rt.alloc()), None),
+        disk,
     )
+}
+
+// A source for a command that reads none: it has no byte.
+fn no_source(rt: &HostRuntime) -> SteadySource {
+    SteadySource::new(Vec::new(rt.alloc()))
+}
+
+// A disk for a command that uses none: it has no byte.
+fn no_disk(rt: &HostRuntime) -> MemoryDisk {
+    MemoryDisk::new(Vec::new(rt.alloc()), Vec::new(rt.alloc()), None)
 }
 
 // Prints the fault line to standard error, or nothing where there is no memory for it.

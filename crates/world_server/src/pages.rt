@@ -10,6 +10,7 @@ const HELP: &str =
     \x20 run WORLD UPLOADS JOURNAL --ticks N  runs N ticks and prints the lines of each\n\
     \x20 check MODULE                         says whether players may upload a module\n\
     \x20 gen SEED ROOMS PART                  prints a world that is made of a number, or its players' modules\n\
+    \x20 show JOURNAL TICK                    prints the world of a tick of a journal\n\
     \n\
     CHOICE --help says what the words of a choice mean. --version prints the version.\n\
     \n\
@@ -27,7 +28,8 @@ const RUN_HELP: &str = "world_server run WORLD UPLOADS JOURNAL --ticks N\n\
     \x20 WORLD      the path of a world file, of at most 64 MiB\n\
     \x20 UPLOADS    the path of a stream of modules that players upload, of at most 256 MiB; where nobody uploads,\n\
     \x20            an empty file\n\
-    \x20 JOURNAL    the path of the journal, which is made: there is no such file yet, or an empty one\n\
+    \x20 JOURNAL    the path of the journal: where none stands it is begun, and else the run goes on from its last\n\
+    \x20            tick; it has to begin with this world\n\
     \x20 --ticks N  how many ticks, in digits: 0 to 1000000\n\
     \n\
     An example, in the top folder of the repository:\n\
@@ -61,6 +63,18 @@ const GEN_HELP: &str = "world_server gen SEED ROOMS PART\n\
     \n\
     docs/hosting.md says what stands in such a world, and docs/formats.md what the bytes are.\n";
 
+const SHOW_HELP: &str = "world_server show JOURNAL TICK\n\
+    \n\
+    Prints the world of a tick of a journal, as a world file, which `run` takes. The journal is not changed.\n\
+    \n\
+    \x20 JOURNAL  the path of a journal that a run made\n\
+    \x20 TICK     which tick, in digits: that of the world that the journal begins with, or of one after it\n\
+    \n\
+    An example, in the top folder of the repository, behind the one of `world_server run --help`:\n\
+    \x20 world_server show small.journal 2 > later.json\n\
+    \n\
+    docs/hosting.md says how it ends where there is no such tick, and docs/formats.md what the text is.\n";
+
 /// The text that the words ask for: `--help` or `--version`, alone or behind a choice.
 pub(crate) fn page_of(words: &[String]) -> Option<&'static str> {
     match words {
@@ -80,6 +94,7 @@ fn page_of_choice(choice: &str, word: &str) -> Option<&'static str> {
         "run" => RUN_HELP,
         "check" => CHECK_HELP,
         "gen" => GEN_HELP,
+        "show" => SHOW_HELP,
         _ => return None,
     };
     match word {

@@ -44,14 +44,17 @@ fn a_run_takes_its_files_and_makes_the_journal(rt: HostRuntime) -> Result<(), Fa
     ];
     let words = words_of(alloc, &words)?;
     assert_eq!(rt; run(&rt, &words), Status::Done);
-    // A frame of 2,648 bytes for the world, and one of 141 for the tick.
+    // A base of 2,648 bytes and a tick of 141, each behind its length and an open gate; then the closed gate.
     let journal = fs::read(&rt, "run.journal")?;
-    assert_eq!(rt; journal.len(), 8 + 2_648 + 8 + 141);
-    assert!(rt; journal.starts_with(b"\x58\x0A\0\0\0\0\0\0SWSJ\x01\0\0\0"));
+    assert_eq!(rt; journal.len(), 9 + 2_648 + 9 + 141 + 1);
+    assert!(rt; journal.starts_with(b"\x01\x58\x0A\0\0\0\0\0\0SWSJ\x01\0\0\0"));
 
-    // A second run finds the journal of the first, and leaves it.
-    assert_eq!(rt; run(&rt, &words), Status::NotAJournal(0));
-    assert!(rt; fs::read(&rt, "run.journal")?.as_slice() == journal.as_slice());
+    // A second run goes on with the journal of the first.
+    assert_eq!(rt; run(&rt, &words), Status::Done);
+    assert_eq!(rt;
+        fs::read(&rt, "run.journal")?.len(),
+        9 + 2_648 + 2 * (9 + 141) + 1
+    );
     for path in ["run_world.json", "run_uploads.bin", "run.journal"] {
         fs::remove_file(&rt, path)?;
     }
@@ -63,9 +66,10 @@ fn each_path_is_the_one_of_its_word(rt: HostRuntime) -> Result<(), Fail> {
     let alloc = rt.alloc();
     fs::write(&rt, "words_world", world_text(alloc)?.as_str())?;
     fs::write(&rt, "words_text", b"x")?;
+    fs::write(&rt, "words_other", b"hello")?;
     fs::write(&rt, "words_module", b"\0asm\x01\0\0\0")?;
     fs::write(&rt, "words_empty", b"")?;
-    let cases: [(&[&str], Status); 12] = [
+    let cases: [(&[&str], Status); 15] = [
         (
             &[
                 "run",
@@ -93,7 +97,7 @@ fn each_path_is_the_one_of_its_word(rt: HostRuntime) -> Result<(), Fail> {
                 "run",
                 "words_world",
                 "words_empty",
-                "words_text",
+                "words_other",
                 "--ticks",
                 "0",
             ],
@@ -129,7 +133,10 @@ fn each_path_is_the_one_of_its_word(rt: HostRuntime) -> Result<(), Fail> {
         (&["check", "no_file"], Status::ReadFault),
         (&["gen", "7", "0", "world"], Status::Usage),
         (&["replay", "words_empty"], Status::Usage),
-        (&["show", "words_empty", "0"], Status::Usage),
+        (&["show", "words_empty", "0"], Status::NoJournal),
+        (&["show", "words_world", "0"], Status::NotAJournal(0)),
+        (&["show", "no_file", "0"], Status::DiskFault),
+        (&["show", "words_empty", "-1"], Status::Usage),
         (&["demo", "7", "1", "1"], Status::Usage),
     ];
     for (words, status) in cases {
@@ -137,7 +144,14 @@ fn each_path_is_the_one_of_its_word(rt: HostRuntime) -> Result<(), Fail> {
     }
     assert_eq!(rt; fs::read(&rt, "words_empty")?.len(), 0);
     assert_eq!(rt; fs::read(&rt, "words_text")?.len(), 1);
-    for path in ["words_world", "words_text", "words_module", "words_empty"] {
+    assert_eq!(rt; fs::read(&rt, "words_other")?.len(), 5);
+    for path in [
+        "words_world",
+        "words_text",
+        "words_other",
+        "words_module",
+        "words_empty",
+    ] {
         fs::remove_file(&rt, path)?;
     }
     Ok(())

@@ -1,5 +1,5 @@
 use Rattle.std.proofs.Common.{◌≡◌, ◌∙◌, refl, sym}
-use Rattle.command_words.specs.Commands.{a_check, a_gen, a_run}
+use Rattle.command_words.specs.Commands.{a_check, a_gen, a_run, a_show}
 use Rattle.command_words.specs.declared.command.WordsFault.{WordsFault}
 use Rattle.command_words.specs.declared.command.WordsFault.TheVariants as faults
 use Rattle.world_run.specs.declared.status.Status.{Status}
@@ -17,4 +17,4 @@ pub returns-clause-usage : goal.returns-clause-usage
 returns-clause-usage c = λ is.
     let none = c.in-Err.ensures.usage
     (is_usage c.in-Err.fault c.refused_words.result c.refused_words.ensures.memory is) in
-    (none a_run, none a_check, none a_gen)
+    (none a_run, none a_check, none a_gen, none a_show)
