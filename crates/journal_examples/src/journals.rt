@@ -70,7 +70,7 @@ pub fn added(alloc: Global, bytes: &[u8], entry: &TickRecord) -> Result<Vec<u8>,
     }
 }
 
-/// The bytes of a journal of records of these ticks, the first with the uploads.
+/// The bytes of a journal of records of these ticks, that of the first tick with the uploads.
 pub fn journal_of(alloc: Global, ticks: &[u64]) -> Result<Vec<u8>, Fail> {
     let mut disk = disk_of(alloc, &[], None)?;
     let base = world_of(alloc, FIRST, PARTS)?;
@@ -78,10 +78,13 @@ pub fn journal_of(alloc: Global, ticks: &[u64]) -> Result<Vec<u8>, Fail> {
         return Err("not made".into());
     }
     let mut bytes = Vec::from_slice(alloc, disk.bytes())?;
-    let mut uploads = UPLOADS.as_slice();
     for tick in ticks {
-        bytes = added(alloc, &bytes, &record_of(alloc, *tick, uploads)?)?;
-        uploads = &[];
+        let entry = if *tick == FIRST + 1 {
+            record_of(alloc, *tick, &UPLOADS)?
+        } else {
+            record_of(alloc, *tick, &[])?
+        };
+        bytes = added(alloc, &bytes, &entry)?;
     }
     Ok(bytes)
 }

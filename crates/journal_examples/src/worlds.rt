@@ -86,17 +86,17 @@ fn terrain(alloc: Global) -> Result<Terrain, AllocError> {
 fn add_room(
     alloc: Global,
     world: &mut World,
-    index: u32,
+    index: u8,
     next: u32,
     energy: u64,
 ) -> Result<(), AllocError> {
     let pile = pile(u64::from(index) * (1 << 32) + 1, 10, energy, 0);
-    let table = RoomTable::of(alloc, index, next, vec![in alloc; pile]?)?;
+    let table = RoomTable::of(alloc, u32::from(index), next, vec![in alloc; pile]?)?;
     let name = RoomName {
-        column: index as i32,
+        column: i32::from(index),
         row: 0,
     };
-    if world.rooms() == index {
+    if world.rooms() == u32::from(index) {
         world.push_room(name, terrain(alloc)?, table)?;
     }
     Ok(())

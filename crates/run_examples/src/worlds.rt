@@ -1,8 +1,8 @@
 // The texts of worlds.
 use std::alloc::{AllocError, Global};
 
-/// Plain ground with walls at the corners.
-pub fn grounds(alloc: Global) -> Result<String, AllocError> {
+// Plain ground with walls at the corners.
+fn grounds(alloc: Global) -> Result<String, AllocError> {
     let mut terrain = String::new(alloc);
     for at in 0..2500_usize {
         let corner = at == 0 || at == 49 || at == 2450 || at == 2499;
