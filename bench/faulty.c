@@ -26,39 +26,53 @@ static ssize_t answered(ssize_t answer) {
     return answer;
 }
 
-/* The journal, once something was written into it, and where it ends. */
+/* The journal, once something was written into it, where it ends, the last gate in it that was written by itself, and how many frames were. */
 static int journal = -1;
-static off_t end;
+static off_t end, gate;
 static int frames;
 
-/* What waits until a line is printed. */
+/* What waits until a line is printed: pieces, one behind the other. */
+enum { PIECES = 16 };
 static char held[HELD];
-static size_t held_length;
-static off_t held_at;
+static size_t held_length, piece_lengths[PIECES];
+static off_t piece_places[PIECES];
+static int pieces;
 static int sync_waits;
 
 static ssize_t write_now(const void *bytes, size_t length, off_t at) {
     return syscall(SYS_pwrite64, journal, bytes, length, at);
 }
 
+static void write_held(void) {
+    const char *from = held;
+    for (int piece = 0; piece < pieces; piece++) {
+        write_now(from, piece_lengths[piece], piece_places[piece]);
+        from += piece_lengths[piece];
+    }
+    held_length = 0;
+    pieces = 0;
+}
+
 ssize_t pwrite(int file, const void *bytes, size_t length, off_t at) {
     journal = file;
-    end = at + (off_t)length;
-    if (is_fault("line before frame") && length <= HELD) {
-        memcpy(held, bytes, length);
-        held_length = length;
-        held_at = at;
+    end = at + (off_t)length > end ? at + (off_t)length : end;
+    gate = length == 1 ? at : gate;
+    if (is_fault("line before frame") && held_length + length <= HELD && pieces < PIECES) {
+        memcpy(held + held_length, bytes, length);
+        held_length += length;
+        piece_lengths[pieces] = length;
+        piece_places[pieces++] = at;
         return (ssize_t)length;
     }
     if (is_fault("long frame cut") && length > 16 * MIB) {
         write_now(bytes, 16 * MIB, at);
         return (ssize_t)length;
     }
-    frames++;
-    if (is_fault("third frame not written") && frames == 3) {
+    frames += length > 1;
+    if (is_fault("third frame not written") && frames == 3 && length > 1) {
         return (ssize_t)length;
     }
-    int is_halved = is_fault("first frame in two pieces") && frames == 1;
+    int is_halved = is_fault("first frame in two pieces") && frames == 1 && length > 1;
     ssize_t done = answered(write_now(bytes, is_halved ? length / 2 : length, at));
     return done < 0 && is_fault("failed write passed over") ? (ssize_t)length : done;
 }
@@ -84,16 +98,16 @@ ssize_t write(int file, const void *bytes, size_t length) {
         return (ssize_t)length;
     }
     ssize_t done = syscall(SYS_write, file, bytes, length);
-    if (file == OUTPUT && held_length > 0) {
-        write_now(held, held_length, held_at);
-        held_length = 0;
+    if (file == OUTPUT && pieces > 0) {
+        write_held();
     }
     if (file == OUTPUT && sync_waits) {
         syscall(SYS_fsync, journal);
         sync_waits = 0;
     }
     if (file == OUTPUT && done < 0 && is_fault("frame lost with its line")) {
-        syscall(SYS_ftruncate, journal, end > 149 ? end - 149 : 0);
+        write_now("", 1, gate);
+        syscall(SYS_ftruncate, journal, gate + 1);
     }
     return file == OUTPUT && done < 0 && is_fault("failed line passed over") ? (ssize_t)length : done;
 }
@@ -122,6 +136,27 @@ ssize_t read(int file, void *bytes, size_t length) {
     }
     ssize_t done = answered(syscall(SYS_read, file, bytes, length));
     return done < 0 && is_fault("failed read is the end") ? 0 : done;
+}
+
+/* The front of the journal is read by one call, and given in pieces. */
+static ssize_t read_front(int file, void *bytes, size_t length, off_t at) {
+    static char *front;
+    static ssize_t count;
+    if (front == NULL) {
+        front = __libc_malloc(MIB);
+        count = syscall(SYS_pread64, file, front, MIB, 0);
+    }
+    ssize_t left = at < count ? count - at : 0, given = left < (ssize_t)length ? left : (ssize_t)length;
+    memcpy(bytes, front + at, (size_t)given);
+    return given;
+}
+
+ssize_t pread(int file, void *bytes, size_t length, off_t at) {
+    if (is_fault("journal read at once")) {
+        return read_front(file, bytes, length, at);
+    }
+    ssize_t done = answered(syscall(SYS_pread64, file, bytes, length, at));
+    return done < 0 && is_fault("failed read of the journal is the end") ? 0 : done;
 }
 
 /* What becomes of a request that finds no memory. */

@@ -23,11 +23,12 @@ NO_WRITES, NO_SYNCS = r"write,\S+ of the journal are made", r"fsync,\S+ of the j
 RUNS, ENOUGH, SAID = r"a run within", r"memory ran out before the run", r"the fault line of status 11"
 WORLD, STREAM, MODULES, UNTIL = r"a world file of 64 MiB", r"a stream of 256 MiB", r"a check within", r"memory ran out in a check"
 PASSED_OVER, AS_USUAL = r"a pipe .* SIGPIPE passed over", r"a pipe .* SIGPIPE as usual"
+KEPT, BY_FRAME = r"read \d+ of \d+ of the journal fails", r"the journal is read frame by frame"
 FRAME, LINES, OUTPUT = r"a frame of 40 MiB", r"a million entries", r"write \d+ to standard output fails"
 INTERRUPTED, PIECES, READS = r"\S+ of \S+ is interrupted", r"is read in pieces", r"read \d+ of \d+ of \S+ fails"
 TRACED, ORDER, OWN, SYNCED = r"a run that is traced", r"each frame is synced before", r"each frame has lines", r"each frame is synced$"
 KINDS = (WRITES, SYNCS, NO_WRITES, NO_SYNCS, RUNS, ENOUGH, SAID, WORLD, STREAM, MODULES, UNTIL, PASSED_OVER, AS_USUAL)
-KINDS += (FRAME, LINES, OUTPUT, INTERRUPTED, PIECES, READS, TRACED, ORDER, OWN, SYNCED)
+KINDS += (KEPT, BY_FRAME, FRAME, LINES, OUTPUT, INTERRUPTED, PIECES, READS, TRACED, ORDER, OWN, SYNCED)
 
 FAULTS = {
     "no fault": (),
@@ -44,6 +45,8 @@ FAULTS = {
     "SIGPIPE as usual": (AS_USUAL,),
     "failed read is the end": (READS,),
     "read at once": (PIECES,),
+    "failed read of the journal is the end": (KEPT,),
+    "journal read at once": (BY_FRAME,),
     "long frame cut": (FRAME,),
     "long lines cut": (LINES,),
     "no fault line": (SAID, WORLD, STREAM, READS, OUTPUT),

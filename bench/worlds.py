@@ -157,32 +157,45 @@ def run_bytes(run):
     return struct.pack("<IBBQ", run.player, OUTCOMES.index(run.outcome), run.trap, run.used) + listed(entries)
 
 
-def tick_content(step):
-    """The content of a tick, with every account and every room."""
-    after = step.world
-    return (
-        b"T"
-        + struct.pack("<Q", after["tick"])
-        + listed([upload_bytes(*upload) for upload in step.uploads])
-        + listed([run_bytes(run) for run in step.runs])
-        + listed([account_bytes(account) for account in after["players"]])
-        + listed([room_bytes(index, place) for index, place in enumerate(after["rooms"])])
-    )
+def forms_of(it):
+    """The forms of the accounts of a world, and those of its rooms."""
+    return [account_bytes(account) for account in it["players"]], [room_bytes(index, place) for index, place in enumerate(it["rooms"])]
+
+
+def changed(before, after):
+    """The forms that are not as before, behind their number."""
+    return listed([form for earlier, form in zip(before, after, strict=True) if form != earlier])
+
+
+def tick_content(before, step):
+    """The content of a tick: of the accounts and rooms those whose form isn't that of the full world before."""
+    accounts, rooms = map(changed, forms_of(before), forms_of(step.world))
+    numbers = struct.pack("<Q", step.world["tick"])
+    uploads, runs = listed([upload_bytes(*upload) for upload in step.uploads]), listed([run_bytes(run) for run in step.runs])
+    return b"T" + numbers + uploads + runs + accounts + rooms
+
+
+OPEN, CLOSED = b"\1", b"\0"
 
 
 def frame(content):
     return struct.pack("<Q", len(content)) + content
 
 
+def gated(contents):
+    """The journal of these contents: an open gate before each frame, and a closed one at the end."""
+    return b"".join(OPEN + frame(content) for content in contents) + CLOSED
+
+
 def contents_of(journal):
-    """The contents of the whole frames of a journal."""
+    """The contents of a journal up to its closed gate, or, where it is damaged, up to the first frame that doesn't lie in it with the gate behind it."""
     at, found = 0, []
-    while at + 8 <= len(journal):
-        (length,) = struct.unpack_from("<Q", journal, at)
-        if at + 8 + length > len(journal):
+    while at + 10 <= len(journal) and journal[at]:
+        (length,) = struct.unpack_from("<Q", journal, at + 1)
+        if at + 9 + length >= len(journal):
             break
-        found.append(journal[at + 8 : at + 8 + length])
-        at += 8 + length
+        found.append(journal[at + 9 : at + 9 + length])
+        at += 9 + length
     return found
 
 
@@ -204,40 +217,62 @@ class Fields:
     def list(self, read):
         return [read() for _ in range(self.take("I")[0])]
 
+    def upload(self):
+        player, result, length = self.take("IBI")
+        return player, RESULTS[result], self.bytes(length)
+
+    def entry(self):
+        action, actor, target, amount, parts = self.take("BQQQB")
+        return action, actor, target, amount, self.bytes(parts)
+
+    def run(self):
+        player, outcome, trap, used = self.take("IBBQ")
+        return player, OUTCOMES[outcome], trap, used, self.list(self.entry)
+
+    def account(self):
+        player, limit, bucket, points, length = self.take("IIIQI")
+        return player, limit, bucket, points, self.bytes(length)
+
+    def one(self):
+        numbers = self.take("QBBBIIQIIQIIB")
+        return (*numbers[:-1], self.bytes(numbers[-1]))
+
+    def room(self):
+        index, following = self.take("II")
+        return index, following, self.list(self.one)
+
+    def base_room(self):
+        self.bytes(2508)
+        return self.room()
+
+
+def read_base(content):
+    """The tick, rooms and accounts of a base."""
+    fields = Fields(content)
+    _, _, tick = fields.take("4sIQ")
+    return {"tick": tick, "rooms": fields.list(fields.base_room), "accounts": fields.list(fields.account)}
+
 
 def read_tick(content):
-    """The tick, uploads, runs, accounts and rooms of a tick's content."""
+    """The tick, uploads and runs of a tick's content, and the accounts and rooms that changed."""
     fields = Fields(content)
-
-    def upload():
-        player, result, length = fields.take("IBI")
-        return player, RESULTS[result], fields.bytes(length)
-
-    def entry():
-        action, actor, target, amount, parts = fields.take("BQQQB")
-        return action, actor, target, amount, fields.bytes(parts)
-
-    def run():
-        player, outcome, trap, used = fields.take("IBBQ")
-        return player, OUTCOMES[outcome], trap, used, fields.list(entry)
-
-    def account():
-        player, limit, bucket, points, length = fields.take("IIIQI")
-        return player, limit, bucket, points, fields.bytes(length)
-
-    def one():
-        numbers = fields.take("QBBBIIQIIQIIB")
-        return (*numbers[:-1], fields.bytes(numbers[-1]))
-
-    def place():
-        index, following = fields.take("II")
-        return index, following, fields.list(one)
-
     _, tick = fields.take("BQ")
-    parts = {"tick": tick, "uploads": fields.list(upload), "runs": fields.list(run), "accounts": fields.list(account)}
-    parts["rooms"] = fields.list(place)
+    parts = {"tick": tick, "uploads": fields.list(fields.upload), "runs": fields.list(fields.run), "accounts": fields.list(fields.account)}
+    parts["rooms"] = fields.list(fields.room)
     parts["left"] = content[fields.at :]
     return parts
+
+
+def ticks_in(journal):
+    """The ticks of a journal, each with all accounts and all rooms of the world after it."""
+    base, *contents = contents_of(journal)
+    base = read_base(base)
+    accounts, rooms = ({one[0]: one for one in base[part]} for part in ("accounts", "rooms"))
+    for content in contents:
+        parts = read_tick(content)
+        accounts |= {one[0]: one for one in parts["accounts"]}
+        rooms |= {one[0]: one for one in parts["rooms"]}
+        yield {**parts, "accounts": [accounts[player] for player in sorted(accounts)], "rooms": [rooms[index] for index in sorted(rooms)]}
 
 
 # ---- players
@@ -348,7 +383,8 @@ def played(first, ticks, uploads=()):
 
 
 def journal_of(first, steps):
-    return frame(base_content(first)) + b"".join(frame(tick_content(step)) for step in steps)
+    worlds = [full(first), *(step.world for step in steps)]
+    return gated([base_content(first), *map(tick_content, worlds, steps)])
 
 
 # ---- lines

@@ -29,7 +29,14 @@ RUNS = {
     "counted_record::CountedRecord::reserve": "desk.py",
     "exit_crossing::all_crossers": "creeps.py",
     "exit_crossing::crossers": "creeps.py",
+    "frame_log::Log::append Ok": "journals.py",
+    "frame_log::Log::append DiskFault": "failures.py",
+    "frame_log::Log::create": "journals.py",
+    "frame_log::Log::create DiskFault": "failures.py",
+    "frame_log::read_frame": "journals.py",
+    "frame_log::read_frame DiskFault": "failures.py",
     "host_calls::Desk::new": "desk.py",
+    "hosted_tick::Hosted::restored": "journals.py",
     "hosted_tick::Hosted::tick": "desk.py",
     "intent_book::Intents::push": "moves.py",
     "intent_book::Recorded::reserve": "desk.py",
@@ -45,18 +52,23 @@ RUNS = {
     "object_store::World::push_room": "program.py",
     "player_run::admit": "program.py",
     "player_run::run_player_among": "desk.py",
+    "record_follows::advance": "journals.py",
+    "recorded_tick::record_tick": "journals.py",
     "room_step::Crossers::push": "rooms.py",
     "room_step::all_intents": "rooms.py",
     "room_step::next_world": "rooms.py",
     "room_step::step_taken": "rooms.py",
     "room_terrain::Terrain::of": "program.py",
     "rule_check::first_broken": "world_files.py",
+    "rule_check::keeps_object_rules": "journals.py",
     "ruled_tick::copied": "rooms.py",
     "ruled_tick::tick_table": "rooms.py",
     "ruled_tick::widen": "rooms.py",
     "sight_census::Census::of": "colonies.py",
-    "tick_journal::tick_content": "program.py",
+    "tick_journal::read_base_form": "journals.py",
+    "tick_journal::read_tick": "journals.py",
     "tick_journal::write_base": "program.py",
+    "tick_journal::write_tick": "journals.py",
     "upload_stream::read_uploads": "program.py",
     "visible_view::View::among": "desk.py",
     "wasm_link::link": "program.py",
@@ -72,10 +84,19 @@ RUNS = {
     "wasm_store::Pages::new": "desk.py",
     "wasm_validate::validate": "modules.py",
     "world_bytes::put_length": "program.py",
+    "world_bytes::read_account": "journals.py",
+    "world_bytes::read_intent": "journals.py",
+    "world_bytes::read_room": "journals.py",
     "world_bytes::write_account": "program.py",
     "world_bytes::write_intent": "desk.py",
     "world_bytes::write_room": "program.py",
     "world_io::read_all": "program.py",
+    "world_journal::Journal::append Ok": "journals.py",
+    "world_journal::Journal::append DiskFault": "failures.py",
+    "world_journal::Journal::create Ok": "journals.py",
+    "world_journal::Journal::create DiskFault": "failures.py",
+    "world_journal::Journal::recover": "journals.py",
+    "world_journal::Journal::recover DiskFault": "failures.py",
     "world_roster::Roster::of": "rooms.py",
     "world_text::Text::of": "world_files.py",
     "world_text::Text::push": "world_files.py",
@@ -95,7 +116,7 @@ THROUGH = {
 }
 
 # How a script names an answer, where it is not by its own name.
-NAMES = {"Bad": "Uploads"}
+NAMES = {"Bad": "Uploads", "Empty": "is_empty"}
 
 # Names of methods that are those of std's types too.
 COMMON = {"copy", "new", "of", "push", "reserve"}
@@ -105,6 +126,7 @@ OF_TESTS = {"machine_examples", "module_round_trip", "run_examples"}
 # The answers that a clause says never come.
 NEVER = {
     "frame_log::Log::create": {"Closed"},
+    "world_journal::Journal::create": {"Closed"},
     "module_round_trip::written_and_read": {"Malformed", "TooLarge"},
     "player_run::admit": {"UnknownPlayer", "WrongToken"},
 }

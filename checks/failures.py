@@ -21,7 +21,7 @@ sys.path.insert(0, os.path.join(TOP, "bench"))
 from checked_program import PROGRAM, Checks, content_of, shown, write_files  # noqa: E402
 from game import SECOND, thing  # noqa: E402
 from modules import module  # noqa: E402
-from worlds import MIB, SMALL, Refused, Upload, bytes_of, journal_of, output_of, played, room, start_line, stream_of, world  # noqa: E402
+from worlds import MIB, SMALL, Refused, Upload, bytes_of, contents_of, journal_of, output_of, played, room, start_line, stream_of, world  # noqa: E402
 
 checks = Checks(__file__)
 check, note = checks.check, checks.note
@@ -242,16 +242,16 @@ def at_path(folder, path):
     return "-P", os.path.join(os.path.realpath(folder), path)
 
 
-def calls_of(words, folder, path, kinds):
-    """How many calls of these kinds a run makes of a file."""
-    forget_journal(folder)
+def calls_of(words, folder, path, kinds, kept=b""):
+    """How many calls of these kinds a run makes of a file, where this journal stands."""
+    write_files(folder, {FILES[2]: kept})
     _, calls = traced(words, folder, *at_path(folder, path), "-e", f"trace={kinds}")
     return sum(re.search(r"\b(" + kinds.replace(",", "|") + r")\(", call) is not None for call in calls)
 
 
-def failing(words, folder, path, kinds, number, error):
-    """How a run ends in which this call of a file fails."""
-    forget_journal(folder)
+def failing(words, folder, path, kinds, number, error, kept=b""):
+    """How a run ends in which this call of a file fails, where this journal stands."""
+    write_files(folder, {FILES[2]: kept})
     return traced(words, folder, *at_path(folder, path), "-e", f"trace={kinds}", "-e", f"inject={kinds}:error={error}:when={number}")[0]
 
 
@@ -273,21 +273,45 @@ def check_sources(folder):
 
 
 def check_disk(folder):
-    """Each write and each sync of the journal fails in its turn: what was printed are the lines of the frames before it, which the journal has."""
+    """Each write and each sync of the journal fails in its turn: what was printed are the lines of the frames before it, which the journal stands for,
+    or for these and the one that was being written; and the next run goes on from there."""
     write_files(folder, {"world.json": bytes_of(SMALL), "uploads.bin": b""})
     steps = played(SMALL, TICKS)
+    whole = contents_of(journal_of(SMALL, steps))
     for kinds, error in ((WRITES, "ENOSPC"), (SYNCS, "EIO")):
         most = calls_of(words_of(TICKS), folder, FILES[2], kinds)
-        note(f"{kinds} of the journal are made, as many for each frame", [] if most and most % (TICKS + 1) == 0 else [f"{most} calls"])
+        # (the closed gate that it begins with, and of each frame itself and its gate)
+        note(f"{kinds} of the journal are made, as many for each frame", [] if most == 1 + 2 * (TICKS + 1) else [f"{most} calls"])
         for number in range(1, most + 1):
             status, out, err, kept = failing(words_of(TICKS), folder, FILES[2], kinds, number, error)
-            frames = (number - 1) * (TICKS + 1) // most
-            lines, content = (output_of(SMALL, steps[: frames - 1]), journal_of(SMALL, steps[: frames - 1])) if frames else (b"", b"")
+            frames = max(0, number - 2) // 2
+            lines = output_of(SMALL, steps[: frames - 1]) if frames else b""
             faults = [] if (status, err) == (7, FAULTS[7]) else [f"exit status {status}, standard error {shown(err)}"]
             faults += [] if out == lines else [f"standard output {shown(out)}, wanted {shown(lines)}"]
-            # (no more is promised of the journal)
-            faults += [] if kept.startswith(content) else [f"the journal of {len(kept)} bytes has not the {frames} frames before"]
+            left = len(contents_of(kept))
+            is_left = left in (frames, frames + 1) and contents_of(kept) == whole[:left]
+            faults += [] if is_left else [f"the journal of {len(kept)} bytes is that of {left} frames, and not of the {frames} before or one more"]
+            faults += went_on_faults(folder, steps, TICKS + 1 - max(1, left))
             note(f"call {number} of {most} of {kinds} fails", faults)
+
+
+def went_on_faults(folder, steps, ticks):
+    """What is wrong where the next run makes the ticks that are left."""
+    status, _, err, kept = ended([PROGRAM, *words_of(ticks)], folder)
+    is_done = (status, err, kept) == (0, b"", journal_of(SMALL, steps))
+    return [] if is_done else [f"a run of {ticks} ticks behind it: exit status {status}, standard error {shown(err)}, a journal of {len(kept)} bytes"]
+
+
+def check_kept(folder):
+    """Each read of a journal that stands there fails in its turn: nothing is printed, and it stays as it was."""
+    write_files(folder, {"world.json": bytes_of(SMALL), "uploads.bin": b""})
+    kept = journal_of(SMALL, played(SMALL, TICKS)) + b"left"
+    most = calls_of(words_of(1), folder, FILES[2], READS, kept)
+    note("the journal is read frame by frame", [] if most > TICKS else [f"{most} reads"])
+    for number in range(1, most + 1):
+        found = failing(words_of(1), folder, FILES[2], READS, number, "EIO", kept)
+        wanted = (7, b"", FAULTS[7], kept)
+        note(f"read {number} of {most} of the journal fails", [] if found == wanted else [f"{shown(found)}, wanted {shown(wanted)}"])
 
 
 def check_output(folder):
@@ -319,7 +343,8 @@ def check_interrupted(folder):
 
 
 def order_faults(calls):
-    """What is wrong of the order of these calls: lines are printed once all that was written into the journal is synced, and something was."""
+    """What is wrong of the order of these calls: lines are printed once all that was written into the journal is synced, and something was; and each
+    write into it is synced before the next."""
     faults, written, dirty, prints, syncs = [], False, False, 0, 0
     for call in calls:
         found = re.match(r"(?:\d+ +)?(\w+)\((\d+)<([^>]*)>.* = (-?\d+)", call)
@@ -328,6 +353,7 @@ def order_faults(calls):
         kind, number, path = found[1], int(found[2]), found[3]
         if os.path.basename(path) == FILES[2]:
             is_sync = kind in SYNCS.split(",")
+            faults += ["the journal is written twice without a sync"] if dirty and not is_sync else []
             written, dirty, syncs = written or not is_sync, not is_sync, syncs + is_sync
         elif number == 1:
             faults += ["lines are printed of a frame that is not synced"] if dirty else []
@@ -344,9 +370,10 @@ def check_syncs(folder):
     wanted = (0, output_of(SMALL, steps), b"", journal_of(SMALL, steps))
     note("a run that is traced", [] if found == wanted else [f"{shown(found)}, wanted {shown(wanted)}"])
     faults, prints, syncs = order_faults(calls)
-    note("each frame is synced before its lines are printed", faults)
+    note("each frame is synced before its gate is opened, and this before its lines are printed", faults)
     note("each frame has lines of its own", [] if prints == TICKS + 1 else [f"lines of {prints} frames, wanted {TICKS + 1}"])
-    note("each frame is synced", [] if syncs >= TICKS + 1 else [f"{syncs} syncs, wanted {TICKS + 1} at least"])
+    wanted = 1 + 2 * (TICKS + 1)
+    note("each frame is synced", [] if syncs >= wanted else [f"{syncs} syncs, wanted {wanted} at least"])
 
 
 def check_calls():
@@ -354,7 +381,7 @@ def check_calls():
     if reason:
         print(f"{checks.path}: no call was made to fail, and the order of writes and syncs was not looked at, since {reason}")
         return
-    for of in (check_sources, check_disk, check_output, check_interrupted, check_syncs):
+    for of in (check_sources, check_disk, check_kept, check_output, check_interrupted, check_syncs):
         with tempfile.TemporaryDirectory() as folder:
             of(folder)
 

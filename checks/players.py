@@ -28,7 +28,7 @@ from compared_runs import ACTION_NAMES, journal_faults, world_faults  # noqa: E4
 from game import ACTIONS, BUILDINGS, DIRECTIONS, FULL, NOT_ENOUGH, STORES, capacity, distance, hits_max, live, place_of, thing  # noqa: E402
 from movement import beyond, obstructed, pace  # noqa: E402
 from scripts import Desk, gives_sight  # noqa: E402
-from worlds import Run, Step, allowance, contents_of, full, grounds, journal_of, objects_of, output_of, read_tick, ticked  # noqa: E402
+from worlds import Run, Step, allowance, full, grounds, journal_of, objects_of, output_of, ticked, ticks_in  # noqa: E402
 
 PLAYERS = os.path.join(TOP, "players")
 WORLD = os.path.join(TOP, "worlds/one_player.json")
@@ -977,8 +977,8 @@ def steps_in(file, modules, journal):
     """The steps of a run, with what the journal says that the players wanted and kept in their memory texts: what becomes of it is worked out
     here."""
     world, steps = full(file), []
-    for content in contents_of(journal)[1:]:
-        tick, runs = read_tick(content), []
+    for tick in ticks_in(journal):
+        runs = []
         texts = {it[0]: it[4] for it in tick["accounts"]}
         for player, _, _, used, listed in tick["runs"]:
             entries = {(ACTION_NAMES[action], actor): (target, amount) for action, actor, target, amount, _ in listed}

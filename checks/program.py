@@ -22,7 +22,7 @@ sys.path.insert(0, os.path.join(TOP, "bench"))
 from checked_program import Checks, run, shown  # noqa: E402
 from modules import HOST_CALLS, I32, OPENING, func_type, host_import, leb, listed, section  # noqa: E402
 from game import SECOND  # noqa: E402
-from worlds import MIB, SMALL, Step, base_content, bytes_of, grounds, journal_of, output_of, played, room, start_line, step_lines, text_of, thing, tick_content, upload_entry, world  # noqa: E402
+from worlds import CLOSED, MIB, OPEN, SMALL, Step, base_content, bytes_of, frame, full, grounds, journal_of, output_of, played, room, start_line, step_lines, text_of, thing, tick_content, upload_entry, world  # noqa: E402
 
 FULL = "/dev/full"
 MOST_NEXT = 2**32 - 2**20
@@ -106,8 +106,9 @@ def strangers(count):
 
 def check_forms():
     """Lengths and bytes that are worked out by hand."""
-    base, tick = base_content(SMALL), tick_content(played(SMALL, 1)[0])
+    base, tick = base_content(SMALL), tick_content(full(SMALL), played(SMALL, 1)[0])
     wanted = [(len(base), 2648), (len(tick), 141), (base[2611:2613], b"\xe9\x03"), (base[:8], b"SWSJ\1\0\0\0"), (tick[:9], b"T\1" + bytes(7))]
+    wanted += [(len(journal(SMALL, 0)), 2658), (len(journal(SMALL, 1)), 2808), (journal(SMALL, 0), OPEN + frame(base) + CLOSED)]
     note("the forms of the journal's contents", [f"{got} and not {want}" for got, want in wanted if got != want])
     said = b"start tick 0 rooms 1 objects 2 players 0\ntick 1 objects 2 intents 0 energy 2499\n"
     note("the lines of the small world", [] if lines(SMALL, 1) == said else [f"{lines(SMALL, 1)}"])
@@ -144,13 +145,41 @@ def check_refusals():
     ]
     for uploads, at in streams:
         check(f"uploads that are bad at {at}", RUN, inputs(uploads=uploads), 4, err=refused(4, f"Uploads {at}"), after=made)
-    for kept in (b"h", b"hello", journal(SMALL, 1)):
+    for kept, at in ((b"hello", 0), (journal(SMALL, 1)[:-1], 2657), (OPEN + CLOSED, 0)):
         files = inputs(**{"journal.bin": kept})
-        check(f"a journal of {len(kept)} bytes", RUN, files, 8, err=refused(8, "NotAJournal 0"))
+        check(f"a journal of {len(kept)} bytes", RUN, files, 8, err=refused(8, f"NotAJournal {at}"))
         check(f"a world file that is refused, and a journal of {len(kept)} bytes", RUN, {**files, "world.json": b""}, 3, err=refused(3, "World NotJson"))
     check("the world file before the uploads", RUN, inputs(b"", b"x"), 3, err=refused(3, "World NotJson"), after=made)
     check("the uploads before the journal", RUN, inputs(uploads=b"x", **{"journal.bin": b"kept"}), 4, err=refused(4, "Uploads 0"))
     check("good uploads, and a journal", RUN, inputs(uploads=entry, **{"journal.bin": b"kept"}), 8, err=refused(8, "NotAJournal 0"))
+
+
+# The small world with a pile of one more, in ten rooms, and with a player.
+OTHERS_OF_SMALL = (
+    (world(room("E0S0", 3, thing("source", 1, 10, 10, timer=1), thing("pile", 2, 20, 20, energy=1002))), "2611 233 234"),
+    (world(*SMALL["rooms"], tick=1), "8 0 1"),
+    (world(*SMALL["rooms"], *[room(f"E{n}S0", 1) for n in range(1, 10)]), "16 1 10"),
+    (world(*SMALL["rooms"], players=[{"player": 1, "limit": 0}]), "2644 0 1"),
+)
+
+
+def check_kept():
+    """Journals that a run finds: it goes on with that of its world, and with one alone."""
+    steps = played(SMALL, 5)
+    for name, count, left in (("that ends in its gate", 2, b""), ("with bytes behind its gate", 2, b"what is left of a frame"), ("of no tick", 0, b"\1")):
+        lines_of_rest = start_line(steps[count - 1].world if count else SMALL) + "".join(map(step_lines, steps[count:]))
+        files = inputs(**{"journal.bin": journal(SMALL, count) + left})
+        check(f"a journal {name}", ticks(5 - count), files, 0, lines_of_rest.encode(), after={"journal.bin": journal(SMALL, 5)})
+        said = lines_of_rest.splitlines(keepends=True)[0].encode()
+        check(f"a journal {name}, and no tick", ticks(0), files, 0, said, after={"journal.bin": journal(SMALL, count)})
+    for kept in (b"", b"h", CLOSED, CLOSED + b"hello"):
+        check(f"the empty journal {kept}", RUN, inputs(**{"journal.bin": kept}), 0, lines(SMALL, 1), after={"journal.bin": journal(SMALL, 1)})
+    for other, said in OTHERS_OF_SMALL:
+        at, kept, given = said.split()
+        files = inputs(bytes_of(other), **{"journal.bin": journal(SMALL, 2)})
+        check(f"a journal of another world, at {at}", RUN, files, 9, err=refused(9, f"OtherWorld {said}"))
+        files = inputs(**{"journal.bin": journal(other, 2) + b"left"})
+        check(f"another world's journal, at {at}", RUN, files, 9, err=refused(9, f"OtherWorld {at} {given} {kept}"))
 
 
 def check_serials():
@@ -268,6 +297,51 @@ def check_faults():
     check("a journal that is full", [*RUN[:3], FULL, *RUN[4:]], inputs(), 7, err=fault)
 
 
+# ---- the worlds of ticks
+
+SHOW = ["show", "journal.bin"]
+
+
+def gated(first, steps):
+    """The journal of a world and of ticks: an open gate before each frame, and a closed one at the end."""
+    contents = [base_content(first), *map(tick_content, steps)]
+    return b"".join(b"\1" + frame(content) for content in contents) + b"\0"
+
+
+def check_shows():
+    for name, first in (("the small world", SMALL), ("two rooms", WIDE), ("all kinds", HELD)):
+        steps = played(first, 3)
+        kept = {"journal.bin": gated(first, steps)}
+        tick = first["tick"]
+        for number, it in enumerate([first, *(step.world for step in steps)], tick):
+            check(f"tick {number} of {name}", [*SHOW, f"0{number}"], kept, 0, out=text_of(it) + b"\n")
+        outside = refused(13, f"NoSuchTick {tick} {tick + 3}")
+        for number in (tick + 4, 2**64 - 1, *([tick - 1, 0] if tick else [])):
+            check(f"tick {number} of {name}", [*SHOW, str(number)], kept, 13, err=outside)
+    whole = gated(SMALL, played(SMALL, 2))
+    check("what stands behind the closed gate", [*SHOW, "2"], {"journal.bin": whole + b"\1tail"}, 0, out=text_of(played(SMALL, 2)[1].world) + b"\n")
+    for kept in (b"", b"\0", b"\1", b"x", b"\0" + whole):
+        check(f"the show of a journal in which nothing was recorded, of {len(kept)} bytes", [*SHOW, "0"], {"journal.bin": kept}, 15, err=refused(15, "NoJournal"))
+    start, second = (len(gated(SMALL, played(SMALL, count))) - 1 for count in (0, 1))
+    faulty = [(b"hello", 0), (b"\1" + frame(b"hello") + b"\0", 0), (whole[:-1], second), (whole[: second + 20], second), (whole[: start + 5], start)]
+    faulty += [(whole[:at] + b"\1" + whole[at:], at) for at in (start, second)]
+    faulty += [(whole[:start] + whole[second:], start), (journal(SMALL, 1), 0)]
+    for kept, at in faulty:
+        check(f"the show of a journal of {len(kept)} bytes that is faulty at {at}", [*SHOW, "0"], {"journal.bin": kept}, 8, err=refused(8, f"NotAJournal {at}"))
+    fault = refused(7, "DiskFault")
+    check("the show of no file", [*SHOW, "0"], {}, 7, err=fault)
+    check("the show of a folder", [*SHOW, "0"], {"journal.bin": None}, 7, err=fault)
+    with open(FULL, "wb") as sink:
+        check("a show, to a full standard output", [*SHOW, "1"], {"journal.bin": whole}, 6, err=refused(6, "WriteFault"), stdout=sink)
+    dashed = {"-j": whole}
+    for words in (["show", "--", "-j", "0"], ["show", "--", "-j", "0000"]):
+        check(f"the words {words}", words, dashed, 0, out=text_of(SMALL) + b"\n")
+    lists = [["show"], SHOW, [*SHOW, "0", "0"], [*SHOW, "0", "--ticks", "1"], ["show", "0"], ["show", "-j", "0"]]
+    lists += [[*SHOW, number] for number in ("", "-1", "+1", str(2**64), "0x1", "1.0", "one")]
+    for words in lists:
+        check(f"the words {words}", words, {"journal.bin": whole}, 2, err=refused(2, "Usage"))
+
+
 def check_words():
     path, paths = "module.wasm", RUN[1:4]
     orders = [
@@ -343,14 +417,16 @@ def check_words():
 def check_pages():
     """What the program says of itself. Its texts are compared in part: docs/hosting.md has their first and last lines."""
     pages = {
-        ("--help",): [b"run WORLD UPLOADS JOURNAL --ticks N", b"check MODULE", b"gen SEED ROOMS PART", b"docs/hosting.md", b"docs/players.md"],
+        ("--help",): [b"run WORLD UPLOADS JOURNAL --ticks N", b"check MODULE", b"gen SEED ROOMS PART", b"show JOURNAL TICK", b"docs/hosting.md", b"docs/players.md"],
         ("run", "--help"): [b"WORLD", b"UPLOADS", b"JOURNAL", b"--ticks N", b"docs/hosting.md"],
         ("check", "--help"): [b"MODULE", b"docs/players.md"],
         ("gen", "--help"): [b"SEED", b"ROOMS", b"PART", b"`world`", b"`uploads`", b"docs/hosting.md", b"docs/formats.md"],
+        ("show", "--help"): [b"JOURNAL", b"TICK", b"docs/hosting.md", b"docs/formats.md"],
         ("--version",): [b"world_server 1\n"],
         ("run", "--version"): [b"world_server 1\n"],
         ("check", "--version"): [b"world_server 1\n"],
         ("gen", "--version"): [b"world_server 1\n"],
+        ("show", "--version"): [b"world_server 1\n"],
     }
     for words, parts in pages.items():
         with tempfile.TemporaryDirectory() as folder:
@@ -543,7 +619,7 @@ MAKER = "players/upload_stream.py "
 SHOWER = "players/show_room.py "
 
 # How many examples each document has: one that is lost, or that is no longer found, is a fault as one too many is.
-EXAMPLES = {"README.md": 1, "docs/hosting.md": 12, "docs/players.md": 23}
+EXAMPLES = {"README.md": 1, "docs/hosting.md": 20, "docs/players.md": 23}
 
 # What the other blocks of these documents begin with, and where they are run, if anywhere.
 OF_PLAYERS, OF_GATE, NOWHERE = "checks/players.py", ".ci/run", "a form, or a command that takes a prover or a compiler for Rust"
@@ -554,6 +630,8 @@ OTHERS = {
         "world_server run --ticks N -- WORLD ": NOWHERE,
         "world_server check MODULE": NOWHERE,
         "world_server gen SEED ROOMS PART": NOWHERE,
+        "world_server show JOURNAL TICK": NOWHERE,
+        "flock game.journal.lock ": NOWHERE,
     },
     "docs/players.md": {
         "players/build.sh players/dropper.c": OF_PLAYERS,
@@ -603,10 +681,8 @@ def printed_faults(found, printed):
 
 
 def call_faults(call, printed, folder):
-    """What is wrong of an example that calls the program. Behind the word > stands the file that it prints to."""
-    for left in os.listdir(folder):
-        if left.endswith(".journal"):
-            os.remove(os.path.join(folder, left))
+    """What is wrong of an example that calls the program, on what those before it in its document left. Behind the word > stands the file that it
+    prints to."""
     words, _, path = call[len(CALL) :].partition(" > ")
     with open(os.path.join(folder, path), "wb") if path else contextlib.nullcontext() as sink:
         status, out, err = run(words.split(), folder, sink)
@@ -631,7 +707,7 @@ def maker_faults(call, printed, folder):
 
 
 def shower_faults(call, printed, folder):
-    """What is wrong of an example that shows what the journal of the one before it has."""
+    """What is wrong of an example that shows what the journal of one before it has."""
     done = subprocess.run([sys.executable, *call.split()], cwd=folder, stdin=subprocess.DEVNULL, stdout=subprocess.PIPE, stderr=subprocess.STDOUT, timeout=60)
     return printed_faults(done.stdout, printed) + ([] if done.returncode == 0 else [f"exit status {done.returncode}"])
 
@@ -661,9 +737,11 @@ def main():
     check_forms()
     check_runs()
     check_refusals()
+    check_kept()
     check_serials()
     check_world_faults()
     check_faults()
+    check_shows()
     check_words()
     check_pages()
     check_modules()

@@ -27,7 +27,7 @@ from movement import beyond, ground_at, tile_of  # noqa: E402
 from players import name_of  # noqa: E402
 from scripts import MOST_ENTRIES, Table  # noqa: E402
 from worked_rooms import EAST, NORTH, SOUTH, WEST, Case, Turn, check_cases, check_turns, controller, creep, room_of, with_ids  # noqa: E402
-from worlds import Upload, account_of, acted, bytes_of, contents_of, full, objects_of, read_tick, room, stream_of, ticked, world  # noqa: E402
+from worlds import Upload, account_of, acted, bytes_of, full, objects_of, room, stream_of, ticked, ticks_in, world  # noqa: E402
 
 checks = Checks(__file__, "--model" not in sys.argv[1:])
 # (behind that, so that a program that is missing is told of this file)
@@ -348,9 +348,9 @@ def ticks_of(name, first, uploads, ticks):
     with tempfile.TemporaryDirectory(dir=place) as folder:
         write_files(folder, {"world": bytes_of(first), "uploads": stream_of(uploads), "journal": b""})
         status, _, err = run(["run", "world", "uploads", "journal", "--ticks", str(ticks)], folder)
-        found = contents_of(content_of(os.path.join(folder, "journal")))[1:]
+        found = list(ticks_in(content_of(os.path.join(folder, "journal"))))
     checks.note(name, [] if (status, err, len(found)) == (0, b"", ticks) else [f"status {status}, standard error {err[-400:]!r}, {len(found)} ticks"])
-    return [read_tick(content) for content in found]
+    return found
 
 
 def first_entries(run, ids):

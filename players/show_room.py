@@ -48,12 +48,12 @@ class Reader:
 
 
 def frames(journal):
-    """The contents of a journal, one after the other."""
+    """The contents of a journal up to its closed gate, one after the other."""
     at = 0
-    while at < len(journal):
-        (length,) = struct.unpack_from("<Q", journal, at)
-        yield Reader(journal[at + 8 : at + 8 + length])
-        at += 8 + length
+    while journal[at]:
+        (length,) = struct.unpack_from("<Q", journal, at + 1)
+        yield Reader(journal[at + 9 : at + 9 + length])
+        at += 9 + length
 
 
 def read_base(reader):
@@ -69,7 +69,7 @@ def read_base(reader):
 
 
 def read_tick(reader):
-    """The tick and the rooms of a tick's content."""
+    """The tick and the rooms of a tick's content, which are those that changed."""
     reader.bytes(1)
     tick = reader.take("Q")
     for _ in range(reader.take("I")):

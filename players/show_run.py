@@ -12,7 +12,7 @@ import struct
 import sys
 
 sys.path.insert(0, os.path.join(os.path.dirname(os.path.dirname(os.path.abspath(__file__))), "bench"))
-from worlds import contents_of, read_tick  # noqa: E402
+from worlds import ticks_in  # noqa: E402
 
 TRAPS = {
     1: "an unreachable instruction",
@@ -38,24 +38,23 @@ def main():
     path, player, wanted = sys.argv[1], int(sys.argv[2]), int(sys.argv[3])
     try:
         with open(path, "rb") as it:
-            _, *contents = contents_of(it.read())
-        ticks = [parts for parts in map(read_tick, contents) if parts["tick"] <= wanted]
+            found = next((parts for parts in ticks_in(it.read()) if parts["tick"] == wanted), None)
     except OSError as error:
         sys.exit(f"show_run.py: {error.strerror}: {path}")
     except (ValueError, IndexError, struct.error):
         sys.exit(f"show_run.py: {path} is no journal")
-    if not ticks or ticks[-1]["tick"] != wanted:
+    if found is None:
         sys.exit(f"show_run.py: {path} has no tick {wanted}")
-    run = next((run for run in ticks[-1]["runs"] if run[0] == player), None)
+    run = next((run for run in found["runs"] if run[0] == player), None)
     if run is None:
         print(f"player {player} has no run in tick {wanted}")
     else:
         _, outcome, trap, _, entries = run
         at = f" at {TRAPS[trap]}" if trap else ""
         print(f"player {player} {outcome}{at}, {len(entries)} intents")
-    text = next((account[4] for parts in reversed(ticks) for account in parts["accounts"] if account[0] == player), None)
+    text = next((account[4] for account in found["accounts"] if account[0] == player), None)
     if text is None:
-        print("the memory text is that of the world before the run")
+        print("the world has no such player")
     elif text:
         print(f"the memory text, {len(text)} bytes:")
         print(shown(text).removesuffix("\n"))
