@@ -47,7 +47,6 @@ def check_words():
         ["gen", "7", "1", ""],
         ["gen", "7", "1", "world", "--ticks", "1"],
         ["Gen", "7", "1", "world"],
-        ["show", "journal", "0"],
         ["demo", "7", "1", "1"],
     ]
     lists += [["gen", seed, "1", "world"] for seed in (str(LAST_SEED + 1), "-1", "+1", "", "0x1", "1.0", "one")]

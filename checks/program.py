@@ -179,7 +179,8 @@ def check_kept():
         files = inputs(bytes_of(other), **{"journal.bin": journal(SMALL, 2)})
         check(f"a journal of another world, at {at}", RUN, files, 9, err=refused(9, f"OtherWorld {said}"))
         files = inputs(**{"journal.bin": journal(other, 2) + b"left"})
-        check(f"another world's journal, at {at}", RUN, files, 9, err=refused(9, f"OtherWorld {at} {given} {kept}"))
+        cut = {"journal.bin": journal(other, 2)}
+        check(f"another world's journal, at {at}", RUN, files, 9, err=refused(9, f"OtherWorld {at} {given} {kept}"), after=cut)
 
 
 def check_serials():
@@ -302,30 +303,24 @@ def check_faults():
 SHOW = ["show", "journal.bin"]
 
 
-def gated(first, steps):
-    """The journal of a world and of ticks: an open gate before each frame, and a closed one at the end."""
-    contents = [base_content(first), *map(tick_content, steps)]
-    return b"".join(b"\1" + frame(content) for content in contents) + b"\0"
-
-
 def check_shows():
     for name, first in (("the small world", SMALL), ("two rooms", WIDE), ("all kinds", HELD)):
         steps = played(first, 3)
-        kept = {"journal.bin": gated(first, steps)}
+        kept = {"journal.bin": journal_of(first, steps)}
         tick = first["tick"]
         for number, it in enumerate([first, *(step.world for step in steps)], tick):
             check(f"tick {number} of {name}", [*SHOW, f"0{number}"], kept, 0, out=text_of(it) + b"\n")
         outside = refused(13, f"NoSuchTick {tick} {tick + 3}")
         for number in (tick + 4, 2**64 - 1, *([tick - 1, 0] if tick else [])):
             check(f"tick {number} of {name}", [*SHOW, str(number)], kept, 13, err=outside)
-    whole = gated(SMALL, played(SMALL, 2))
+    whole = journal(SMALL, 2)
     check("what stands behind the closed gate", [*SHOW, "2"], {"journal.bin": whole + b"\1tail"}, 0, out=text_of(played(SMALL, 2)[1].world) + b"\n")
     for kept in (b"", b"\0", b"\1", b"x", b"\0" + whole):
         check(f"the show of a journal in which nothing was recorded, of {len(kept)} bytes", [*SHOW, "0"], {"journal.bin": kept}, 15, err=refused(15, "NoJournal"))
-    start, second = (len(gated(SMALL, played(SMALL, count))) - 1 for count in (0, 1))
+    start, second = (len(journal(SMALL, count)) - 1 for count in (0, 1))
     faulty = [(b"hello", 0), (b"\1" + frame(b"hello") + b"\0", 0), (whole[:-1], second), (whole[: second + 20], second), (whole[: start + 5], start)]
     faulty += [(whole[:at] + b"\1" + whole[at:], at) for at in (start, second)]
-    faulty += [(whole[:start] + whole[second:], start), (journal(SMALL, 1), 0)]
+    faulty.append((whole[:start] + whole[second:], start))
     for kept, at in faulty:
         check(f"the show of a journal of {len(kept)} bytes that is faulty at {at}", [*SHOW, "0"], {"journal.bin": kept}, 8, err=refused(8, f"NotAJournal {at}"))
     fault = refused(7, "DiskFault")
