@@ -142,13 +142,17 @@ fn a_failing_later_call_leaves_the_ticks_before(rt: HostRuntime) -> Result<(), F
     assert_eq!(rt; ended.status, Status::WriteFault);
     assert_eq!(rt; ended.printed.as_slice(), START);
     assert_eq!(rt; ended.journal.as_slice(), whole.journal.as_slice());
-    // The calls of the disk are its length, then a write and a sync for each world.
+    // The calls of the disk are its length twice; a write and a sync of the closed gate, of the world's frame and of
+    // its gate; and in each tick a write and a sync of the frame and of its gate.
     for (call, printed) in [
         (1_u64, 0_usize),
         (2, 0),
-        (3, START.len()),
-        (4, START.len()),
-        (5, TICK_1.len()),
+        (5, 0),
+        (7, 0),
+        (8, START.len()),
+        (11, START.len()),
+        (12, TICK_1.len()),
+        (15, TICK_1.len()),
     ] {
         let calls = Inputs {
             calls: vec![in alloc; call]?,
@@ -247,7 +251,8 @@ fn each_frame_is_synced(rt: HostRuntime) -> Result<(), Fail> {
     let words = words(alloc, "2")?;
     let status = run_alone(alloc, &words, &mut world, &mut uploads, &mut out, &mut disk);
     assert_eq!(rt; status, Status::Done);
-    assert_eq!(rt; disk.syncs, 3);
+    // Three for the world, the closed gate among them, and two for each tick.
+    assert_eq!(rt; disk.syncs, 7);
     assert!(rt; !disk.late);
     assert!(rt; !disk.waits);
     Ok(())
