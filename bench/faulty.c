@@ -77,7 +77,16 @@ ssize_t pwrite(int file, const void *bytes, size_t length, off_t at) {
     return done < 0 && is_fault("failed write passed over") ? (ssize_t)length : done;
 }
 
+/* (by this call alone the folder of the journal is synced) */
 int fsync(int file) {
+    if (is_fault("no sync of the folder")) {
+        return 0;
+    }
+    int done = (int)answered(syscall(SYS_fsync, file));
+    return is_fault("failed sync of the folder passed over") ? 0 : done;
+}
+
+int fdatasync(int file) {
     if (is_fault("no sync")) {
         return 0;
     }
@@ -85,7 +94,7 @@ int fsync(int file) {
         sync_waits = 1;
         return 0;
     }
-    int done = (int)answered(syscall(SYS_fsync, file));
+    int done = (int)answered(syscall(SYS_fdatasync, file));
     return is_fault("failed sync passed over") ? 0 : done;
 }
 
@@ -102,7 +111,7 @@ ssize_t write(int file, const void *bytes, size_t length) {
         write_held();
     }
     if (file == OUTPUT && sync_waits) {
-        syscall(SYS_fsync, journal);
+        syscall(SYS_fdatasync, journal);
         sync_waits = 0;
     }
     if (file == OUTPUT && done < 0 && is_fault("frame lost with its line")) {

@@ -26,13 +26,16 @@ PASSED_OVER, AS_USUAL = r"a pipe .* SIGPIPE passed over", r"a pipe .* SIGPIPE as
 KEPT, BY_FRAME = r"read \d+ of \d+ of the journal fails", r"the journal is read frame by frame"
 FRAME, LINES, OUTPUT = r"a frame of 40 MiB", r"a million entries", r"write \d+ to standard output fails"
 INTERRUPTED, PIECES, READS = r"\S+ of \S+ is interrupted", r"is read in pieces", r"read \d+ of \d+ of \S+ fails"
+FOLDER, NO_FOLDER = r"the sync of the journal's folder fails", r"the journal's folder is synced"
 TRACED, ORDER, OWN, SYNCED = r"a run that is traced", r"each frame is synced before", r"each frame has lines", r"each frame is synced$"
 KINDS = (WRITES, SYNCS, NO_WRITES, NO_SYNCS, RUNS, ENOUGH, SAID, WORLD, STREAM, MODULES, UNTIL, PASSED_OVER, AS_USUAL)
-KINDS += (KEPT, BY_FRAME, FRAME, LINES, OUTPUT, INTERRUPTED, PIECES, READS, TRACED, ORDER, OWN, SYNCED)
+KINDS += (FOLDER, NO_FOLDER, KEPT, BY_FRAME, FRAME, LINES, OUTPUT, INTERRUPTED, PIECES, READS, TRACED, ORDER, OWN, SYNCED)
 
 FAULTS = {
     "no fault": (),
     "no sync": (NO_SYNCS, ORDER, SYNCED),
+    "no sync of the folder": (NO_FOLDER,),
+    "failed sync of the folder passed over": (FOLDER,),
     "sync behind line": (ORDER,),
     "line before frame": (OWN,),
     "first frame in two pieces": (NO_WRITES,),

@@ -13,6 +13,7 @@ use crate::stream::write_some;
 use std::fs::{File, OpenOptions};
 use std::io::{ErrorKind, Read};
 use std::os::unix::fs::FileExt;
+use std::path::Path;
 use std::rt::Files;
 
 /// A source over a file. Where the file could not be opened, each call fails.
@@ -120,19 +121,44 @@ impl FileDisk {
         }
     }
 
-    /// Opens a file for reading and writing, and makes an empty one where there is none.
+    /// Opens a file for reading and writing, and makes an empty one where there is none. A crash then leaves the
+    /// file's name; where the system fails to see to that, each call fails.
     pub fn open_or_make<R: Files<File = File>>(files: &R, path: &str) -> Self
         ensures { result.faults.count ≡ 0 }
     {
-        let file = OpenOptions::new()
+        let mut file = OpenOptions::new()
             .read(true)
             .write(true)
             .create(true)
-            .open(files, path);
+            .open(files, path)
+            .ok();
+        if !is_name_kept(files, path) {
+            file = None;
+        }
         FileDisk {
-            file: file.ok(),
+            file,
             faults: FaultCount::ZERO,
         }
+    }
+}
+
+// Syncs the folder of a file, so that a crash leaves the file's name. A folder that may not be read, and one of a
+// file system that syncs none, is left as it is.
+fn is_name_kept<R: Files<File = File>>(files: &R, path: &str) -> bool {
+    let Some(folder) = Path::new(path).parent() else {
+        return true;
+    };
+    let folder = if folder.as_str().is_empty() {
+        "."
+    } else {
+        folder.as_str()
+    };
+    let Ok(folder) = File::open(files, folder) else {
+        return true;
+    };
+    match folder.sync_all() {
+        Ok(()) => true,
+        Err(error) => error.kind() == ErrorKind::InvalidInput,
     }
 }
 
@@ -210,7 +236,7 @@ impl Disk for FileDisk {
         ensures closed { IsNone self.old.file → IsErr result }
         ensures stays { self.new.file ≡ self.old.file }
     {
-        match self.file.as_ref().and_then(|file| file.sync_all().ok()) {
+        match self.file.as_ref().and_then(|file| file.sync_data().ok()) {
             Some(()) => Ok(()),
             None => Err(self.faults.raise()),
         }
