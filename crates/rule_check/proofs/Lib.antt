@@ -6,3 +6,4 @@ pub mod Ticks
 pub mod Kept
 pub mod Breaks
 pub mod OnTiles
+pub mod RoomRules

@@ -13,7 +13,8 @@ use Rattle.object_store.specs.declared.object.Object.{Object}
 use Rattle.object_store.specs.Tables.{IsOnTile}
 use Rattle.rule_check.specs.declared.shared.Taken.{Taken}
 use Rattle.rule_check.specs.inner.Taken.{taken_with, clash_with, any_on, taken_on, nothing}
-use Rattle.rule_check.specs.inner.Checks.{IsLeast, IsBlocked}
+use Rattle.rule_check.specs.inner.Checks.{IsLeast}
+use Rattle.rule_check.specs.Kept.{IsBlocked}
 use Rattle.rule_check.proofs.Minima.{NoneBelow, all_at, ids_up}
 
 -- An earlier object shares the tile of this one, which stands at this place, and their kinds may not be together.

@@ -116,8 +116,8 @@ fn are_on_tiles(rooms: &[Room]) -> bool
     true
 }
 
-// Whether each object of this room stands on a tile.
-fn is_on_tiles(table: &RoomTable) -> bool
+/// Whether each object of this room stands on a tile.
+pub fn is_on_tiles(table: &RoomTable) -> bool
     ensures { MatchBool result (AllByRecursion IsOnTile table.now.objects)
         (AllByRecursion IsOnTile table.now.objects → ⊥) }
 {
@@ -129,8 +129,8 @@ fn is_on_tiles(table: &RoomTable) -> bool
     true
 }
 
-// The objects of a room, one behind the other.
-fn list_of(alloc: Global, table: &RoomTable) -> Result<Vec<Object>, AllocError>
+/// The objects of a room, one behind the other.
+pub fn list_of(alloc: Global, table: &RoomTable) -> Result<Vec<Object>, AllocError>
     ensures { IfOk result (λ objects. objects.items ≡ table.now.objects) }
 {
     let mut objects = Vec::with_capacity(alloc, table.len() as usize)?;

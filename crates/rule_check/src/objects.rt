@@ -32,8 +32,8 @@ pub fn least_object<R: ObjectRule>(rule: &R, rooms: &[RoomView]) -> Option<u64>
     least
 }
 
-// The id of the first object of the room that breaks the rule.
-fn first_object<R: ObjectRule>(rule: &R, room: &RoomView) -> Option<u64>
+/// The id of the first object of the room that breaks the rule.
+pub fn first_object<R: ObjectRule>(rule: &R, room: &RoomView) -> Option<u64>
     requires { IsOrdered room.now }
     ensures { IsLeast (AnyObject (R.broken rule.now room.now) room.now.objects.now) result }
 {

@@ -2,7 +2,8 @@
 ghost use Rattle.std.specs.Prelude.{◌≡◌, ◌<◌, ℕ, length, slice_index_or, IfOk, EachIndex};
 ghost use Rattle.std.specs.List.{AllByRecursion};
 ghost use Rattle.room_terrain.specs.Tiles.{tile};
-ghost use Rattle.rule_check.specs.inner.Checks.{IsLeast, AnyOf, IsBlocked};
+ghost use Rattle.rule_check.specs.inner.Checks.{IsLeast, AnyOf};
+ghost use Rattle.rule_check.specs.Kept.{IsBlocked};
 ghost use Rattle.rule_check.specs.inner.Taken.{nothing, taken_with, clash_with};
 ghost use Rattle.rule_check.specs.Views.{IsOrdered};
 ghost use Rattle.rule_check.specs.declared.shared.Taken.{Taken};
@@ -25,6 +26,16 @@ pub fn least_blocked(alloc: Global, rooms: &[RoomView]) -> Result<Option<u64>, A
         least = lesser(least, first_blocked(&mut tiles, room));
     }
     Ok(least)
+}
+
+/// The id of the first object of the room that shares a tile with an earlier one, where their kinds
+/// may not be together.
+pub fn blocked_in(alloc: Global, room: &RoomView) -> Result<Option<u64>, AllocError>
+    requires { IsOrdered room.now }
+    ensures { IfOk result (λ found. IsLeast (IsBlocked room.now.objects.now) found) }
+{
+    let mut tiles = vec![in alloc; NOTHING; 2500]?;
+    Ok(first_blocked(&mut tiles, room))
 }
 
 // The id of the first object of the room that shares a tile with an earlier one, where their kinds

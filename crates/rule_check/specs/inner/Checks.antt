@@ -2,7 +2,7 @@
 use Rattle.std.specs.Prelude.{◌≡◌, ◌≢◌, ℕ, ◌<◌, ◌≤◌, ◌/◌, ◌%◌, ◌^◌, ◌⊎◌, true, false, List, Option, Some, None, length, map, slice_get, min, sum_by}
 use Rattle.std.specs.List.{flat_map, filter}
 use Rattle.game_tables.specs.declared.kind.Kind.{Kind}
-use Rattle.game_tables.specs.Kinds.{is_site_kind, build_total, is_controller, is_site, may_have_owner, clash}
+use Rattle.game_tables.specs.Kinds.{is_site_kind, build_total, is_controller, is_site, may_have_owner}
 use Rattle.game_tables.specs.Limits.{most_rooms, most_objects, most_players}
 use Rattle.game_tables.specs.Numbers.{kind_number}
 use Rattle.room_terrain.specs.declared.name.RoomName.{RoomName}
@@ -112,22 +112,6 @@ abbrev pub IsBuilt : ℕ → ℕ → Type 0
 IsBuilt number progress =
     (kind : Kind) × (is_site_kind kind 1 ≡ true) × (number ≡ kind_number kind)
     × IsProgress (build_total kind) progress
-
--- ---- two objects of a room
-
--- The object of this id shares a tile with an earlier one, and their kinds may not be together.
-pub record IsBlocked (objects : List Object) (n : ℕ) : Type 0 where
-  pub earlier : ℕ
-  pub later : ℕ
-  pub one : Object
-  pub other : Object
-  pub before : earlier < later
-  pub place : slice_get objects earlier ≡ Some one
-  pub there : slice_get objects later ≡ Some other
-  pub id : other.id ≡ n
-  pub column : one.x ≡ other.x
-  pub row : one.y ≡ other.y
-  pub clashes : clash one.kind other.kind ≡ true
 
 -- ---- the order of the rules
 

@@ -4,7 +4,8 @@ use Rattle.game_tables.specs.Limits.{most_sites}
 use Rattle.std.proofs.lemmas.Result.{IfOk-weaker}
 use Rattle.world_rules.specs.declared.rule.Rule.TheVariants as rules
 use Rattle.world_rules.specs.Rules.{Broken}
-use Rattle.rule_check.specs.inner.Checks.{IsLeast, AnyOf, IsBlocked, owners_in}
+use Rattle.rule_check.specs.inner.Checks.{IsLeast, AnyOf, owners_in}
+use Rattle.rule_check.specs.Kept.{IsBlocked}
 use Rattle.rule_check.proofs.Placing.{the_world}
 use Rattle.rule_check.proofs.Breaks.{each_once, least_name, least_corner, least_serial, least_id, least_tile, least_shared_tile, least_owner, least_controllers, least_range, least_player, least_sites}
 use Rattle.rule_check.proofs.first.least_broken.Goals as goal

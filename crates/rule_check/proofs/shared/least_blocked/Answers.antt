@@ -1,4 +1,4 @@
-use Rattle.rule_check.specs.inner.Checks.{IsBlocked}
+use Rattle.rule_check.specs.Kept.{IsBlocked}
 use Rattle.rule_check.proofs.Minima.{least_more, least_end, read_at}
 use Rattle.rule_check.proofs.shared.least_blocked.Goals as goal
 

@@ -1,5 +1,6 @@
 use Rattle.std.proofs.Common.{◌≡◌, vec_len}
-use Rattle.rule_check.specs.inner.Checks.{IsLeast, IsBlocked}
+use Rattle.rule_check.specs.inner.Checks.{IsLeast}
+use Rattle.rule_check.specs.Kept.{IsBlocked}
 use Rattle.rule_check.proofs.Minima.{AnyBelow}
 use Rattle.rule_check.proofs.shared.least_blocked.Given as goal
 
