@@ -24,11 +24,11 @@ use Rattle.wasm_module.specs.declared.instr.FloatBytes.{FloatBytes}
 use Rattle.wasm_module.specs.declared.instr.FloatBytes.TheVariants.{Four, Eight}
 use Rattle.wasm_encode.specs.inner.Gains.{IsSpelled}
 use Rattle.wasm_encode.specs.inner.Parts.{SpellsBranches, branches_two, SpellsPart, part_absent, StartPart}
-use Rattle.wasm_encode.specs.Encodable.{IsU32, IsFloat, AreLimits, IsInstruction, AreInstructions, IsImported, IsExported, op_weight, ops_weight, IsEncodable}
+use Rattle.wasm_encode.specs.Encodable.{IsU32, IsFloat, AreLimits, IsInstruction, AreInstructions, IsImported, IsExported, op_weight, ops_weight, weight, IsEncodable}
 use Rattle.wasm_encode.proofs.Types.{open_tagged, closed_tagged, import_func_tagged, import_table_tagged, import_memory_tagged, import_global_tagged, export_func_tagged, export_table_tagged, export_memory_tagged, export_global_tagged}
 use Rattle.wasm_encode.proofs.Ops.{br_tagged, br_if_tagged, call_tagged, local_get_tagged, local_set_tagged, local_tee_tagged, global_get_tagged, global_set_tagged, br_table_tagged, call_indirect_tagged, i32_const_tagged, i64_const_tagged, block_tagged, loop_tagged, if_tagged}
 use Rattle.wasm_encode.proofs.Texts.{HasText, text_wider, u32_text, signed_text, mark_text, then_text, tagged_text, list_text, list_same, bytes_text, sized_text, part_text}
-use Rattle.wasm_encode.proofs.Whole.{whole_spelled}
+use Rattle.wasm_encode.proofs.Whole.{whole_text}
 
 -- Names, types and descriptions.
 name_text : (name : List ℕ) → IsUtf8 name → length name < 2 ^ 32 → HasText (List ℕ) SpellsName name (5 + length name)
@@ -197,22 +197,22 @@ segment_text : (entry : Data Ops) → IsU32 entry.0 × AreInstructions entry.1.0
 segment_text (memory, (offset, bytes)) (p, h) small =
     text_wider (then_text SpellsU32 (Then SpellsExpression SpellsBytes) memory (offset, bytes) 5 (ops_weight offset + 1 + (5 + length bytes)) (u32_text memory p) (then_text SpellsExpression SpellsBytes offset bytes (ops_weight offset + 1) (5 + length bytes) (held_text offset h (omega arith)) (bytes_text bytes (omega arith)))) (32 + (ops_weight offset + length bytes)) (omega arith)
 
-start_text : (start : Option ℕ) → ((func : ℕ) → start ≡ Some func → IsU32 func) → IsSpelled StartPart start
-start_text None h = ([], part_absent)
+start_text : (start : Option ℕ) → ((func : ℕ) → start ≡ Some func → IsU32 func) → HasText (Option ℕ) StartPart start 11
+start_text None h = record { text = []; spelled = part_absent; short = omega arith }
 start_text (Some func) h =
     let index = u32_text func (h func refl) in
     let inner : HasText (Option ℕ) SpellsStart (Some func) 5 = record { text = index.text; spelled = (func, index.spelled, refl); short = index.short } in
     part_text 8 SpellsStart None (Some func) 5 inner (omega arith)
 
 -- A section that holds a list.
-list_part : {V : Type 0} (number : ℕ) (Form : List ℕ → V → Type 0) (P : V → Type 0) (heavy : V → ℕ) → ((v : V) → 1 ≤ heavy v) → ((v : V) → P v → heavy v < 2 ^ 32 → HasText V Form v (heavy v)) → (vs : List V) → All P vs → 5 + sum_by heavy vs < 2 ^ 32 → IsSpelled (SpellsPart number (SpellsList Form) []) vs
+list_part : {V : Type 0} (number : ℕ) (Form : List ℕ → V → Type 0) (P : V → Type 0) (heavy : V → ℕ) → ((v : V) → 1 ≤ heavy v) → ((v : V) → P v → heavy v < 2 ^ 32 → HasText V Form v (heavy v)) → (vs : List V) → All P vs → 5 + sum_by heavy vs < 2 ^ 32 → HasText (List V) (SpellsPart number (SpellsList Form) []) vs (6 + (5 + sum_by heavy vs))
 list_part number Form P heavy some f vs all small = part_text number (SpellsList Form) [] vs (5 + sum_by heavy vs) (list_text Form P heavy some f vs all (omega arith)) small
 
--- The whole module.
-pub encodable_spelled : (m : Syntax Ops) → IsEncodable m → IsSpelled Spells m
-encodable_spelled m e =
+-- The whole module: the opening and eleven sections, each with its number, its size and its count.
+pub encodable_text : (m : Syntax Ops) → IsEncodable m → HasText (Syntax Ops) Spells m (97 + weight m)
+encodable_text m e =
     let small = e.small in
-    whole_spelled m
+    text_wider (whole_text m
     (list_part 1 SpellsFuncType (λ type. Unit {0}) (λ type. 32 + length type.params) (λ v. omega arith) (λ v p h. func_type_text v h) m.types (λ k d lt. tt) (omega arith))
     (list_part 2 SpellsImport (λ entry. IsUtf8 entry.module × IsUtf8 entry.name × IsImported entry.desc) import_weight (λ v. omega arith) import_text m.imports e.imports (omega arith))
     (list_part 3 SpellsU32 IsU32 (λ func. 5) (λ v. omega arith) (λ v p h. u32_text v p) m.funcs e.funcs (omega arith))
@@ -224,4 +224,7 @@ encodable_spelled m e =
     (list_part 9 (SpellsElement SpellsExpression) (λ element. IsU32 element.0 × AreInstructions element.1.0 × All IsU32 element.1.1) (λ element. 32 + (ops_weight element.1.0 + 5 * length element.1.1)) (λ v. omega arith) element_text m.elements e.elements (omega arith))
     (list_part 10 (SpellsCode SpellsExpression) (λ code. All (λ run. IsU32 run.count) code.0 × AreInstructions code.1) (λ code. 32 + (8 * length code.0 + ops_weight code.1)) (λ v. omega arith) code_text m.codes e.codes (omega arith))
     (list_part 11 (SpellsSegment SpellsExpression) (λ segment. IsU32 segment.0 × AreInstructions segment.1.0) (λ segment. 32 + (ops_weight segment.1.0 + length segment.1.1)) (λ v. omega arith) segment_text m.segments e.segments (omega arith))
-    e.functions
+    e.functions) (97 + weight m) (omega arith)
+
+pub encodable_spelled : (m : Syntax Ops) → IsEncodable m → IsSpelled Spells m
+encodable_spelled m e = let whole = encodable_text m e in (whole.text, whole.spelled)

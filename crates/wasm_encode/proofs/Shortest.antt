@@ -23,9 +23,6 @@ first_spelled First Second both (text, (front, back, s, t, e)) = (front, s)
 pub second_spelled : {V W : Type 0} (First : List ℕ → V → Type 0) (Second : List ℕ → W → Type 0) (both : V × W) → IsSpelled (Then First Second) both → IsSpelled Second both.1
 second_spelled First Second both (text, (front, back, s, t, e)) = (back, t)
 
-pub joined_spelled : {V W : Type 0} (First : List ℕ → V → Type 0) (Second : List ℕ → W → Type 0) (v : V) (w : W) → IsSpelled First v → IsSpelled Second w → IsSpelled (Then First Second) (v, w)
-joined_spelled First Second v w (front, s) (back, t) = (front ++ back, (front, back, s, t, refl))
-
 -- One byte that stands for nothing but itself.
 pub gains_mark : (mark : ℕ) (a b : List ℕ) → b ≡ a ++ mark ∷ [] → Gains (SpellsMark mark) tt a b
 gains_mark mark a b e = (mark ∷ [], (refl, λ other g. omega (arith, ap length g)), e)

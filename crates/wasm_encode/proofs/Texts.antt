@@ -10,7 +10,6 @@ use Rattle.byte_fields.specs.Leb.{unsigned_last, unsigned_more, SpellsSigned, si
 use Rattle.byte_fields.proofs.Signed.{IsWithin, half_more}
 use Rattle.byte_fields.proofs.WrittenSigned.{within_less}
 use Rattle.wasm_module.specs.Spelling.{SpellsU32, Then, SpellsMark, SpellsEach, each_none, each_next, SpellsList, SpellsBytes, SpellsSized}
-use Rattle.wasm_encode.specs.inner.Gains.{IsSpelled}
 use Rattle.wasm_encode.specs.inner.Parts.{SpellsPart, part_present}
 use Rattle.wasm_encode.specs.Encodable.{IsU32, IsSigned}
 use Rattle.wasm_encode.proofs.Numbers.{unsigned_less}
@@ -149,5 +148,7 @@ sized_text Spells v a s h =
     let bytes = bytes_text s.text (omega (arith, s.short, h)) in
     record { text = bytes.text; spelled = (s.text, s.spelled, bytes.spelled); short = omega (arith, s.short, bytes.short) }
 
-pub part_text : {V : Type 0} (number : ℕ) (Spells : List ℕ → V → Type 0) (empty v : V) (a : ℕ) → HasText V Spells v a → a < 2 ^ 32 → IsSpelled (SpellsPart number Spells empty) v
-part_text number Spells empty v a s h = let sized = sized_text Spells v a s h in (number ∷ sized.text, part_present sized.spelled)
+pub part_text : {V : Type 0} (number : ℕ) (Spells : List ℕ → V → Type 0) (empty v : V) (a : ℕ) → HasText V Spells v a → a < 2 ^ 32 → HasText V (SpellsPart number Spells empty) v (6 + a)
+part_text number Spells empty v a s h =
+    let sized = sized_text Spells v a s h in
+    record { text = number ∷ sized.text; spelled = part_present sized.spelled; short = omega (arith, sized.short) }

@@ -14,7 +14,8 @@ use Rattle.wasm_module.specs.declared.exports.Export.{Export}
 use Rattle.wasm_module.proofs.Opcodes.{SpellsNothing}
 use Rattle.wasm_encode.specs.inner.Gains.{IsSpelled, Gains}
 use Rattle.wasm_encode.specs.inner.Parts.{TypesPart, ImportsPart, FuncsPart, TablesPart, MemoriesPart, GlobalsPart, ExportsPart, StartPart, ElementsPart, CodesPart, SegmentsPart}
-use Rattle.wasm_encode.proofs.Shortest.{gains_then, first_spelled, second_spelled, joined_spelled}
+use Rattle.wasm_encode.proofs.Shortest.{gains_then, first_spelled, second_spelled}
+use Rattle.wasm_encode.proofs.Texts.{HasText, then_text}
 use Rattle.wasm_encode.proofs.Blocks.{gains_nothing}
 use Rattle.wasm_encode.proofs.Once.{IsOne, then_one, nothing_one}
 use Rattle.wasm_encode.proofs.OnceValues.{types_one, imports_one, funcs_one, tables_one, memories_one, globals_one, exports_one, start_one, elements_one, codes_one, segments_one}
@@ -367,8 +368,13 @@ gains_whole m a1 a2 a3 a4 a5 a6 a7 a8 a9 a10 a11 a12 spelled start s1 s2 s3 s4 s
     let P : List ℕ → Type 0 = λ z. SpellsShortest Spells z m in
     subst P (sym (all.2 ∙ ap (λ z. z ++ all.0) start)) (whole_shortest m all.0 all.1 spelled)
 
--- A module whose parts are spelled is spelled.
-pub whole_spelled : (m : Syntax Ops) → IsSpelled TypesPart m.types → IsSpelled ImportsPart m.imports → IsSpelled FuncsPart m.funcs → IsSpelled TablesPart m.tables → IsSpelled MemoriesPart m.memories → IsSpelled GlobalsPart m.globals → IsSpelled ExportsPart m.exports → IsSpelled StartPart m.start → IsSpelled ElementsPart m.elements → IsSpelled CodesPart m.codes → IsSpelled SegmentsPart m.segments → length m.funcs ≡ length m.codes → IsSpelled Spells m
-whole_spelled m s1 s2 s3 s4 s5 s6 s7 s8 s9 s10 s11 same =
-    let parts : IsSpelled Text1 (values1 m) = joined_spelled TypesPart Text2 m.types (values2 m) s1 (joined_spelled ImportsPart Text3 m.imports (values3 m) s2 (joined_spelled FuncsPart Text4 m.funcs (values4 m) s3 (joined_spelled TablesPart Text5 m.tables (values5 m) s4 (joined_spelled MemoriesPart Text6 m.memories (values6 m) s5 (joined_spelled GlobalsPart Text7 m.globals (values7 m) s6 (joined_spelled ExportsPart Text8 m.exports (values8 m) s7 (joined_spelled StartPart Text9 m.start (values9 m) s8 (joined_spelled ElementsPart Text10 m.elements (values10 m) s9 (joined_spelled CodesPart Text11 m.codes (values11 m) s10 (joined_spelled SegmentsPart Text12 m.segments (values12 m) s11 ([], refl))))))))))) in
-    (opening ++ parts.0, parts_spell m parts.0 parts.1 same)
+-- A module whose parts are spelled is spelled, in the opening and as many bytes as they take.
+pub whole_text : (m : Syntax Ops) {n1 n2 n3 n4 n5 n6 n7 n8 n9 n10 n11 : ℕ} → HasText (List FuncType) TypesPart m.types n1 → HasText (List Import) ImportsPart m.imports n2 → HasText (List ℕ) FuncsPart m.funcs n3 → HasText (List Bounds) TablesPart m.tables n4 → HasText (List Bounds) MemoriesPart m.memories n5 → HasText (List (Global Ops)) GlobalsPart m.globals n6 → HasText (List Export) ExportsPart m.exports n7 → HasText (Option ℕ) StartPart m.start n8 → HasText (List (Elements Ops)) ElementsPart m.elements n9 → HasText (List (Function Ops)) CodesPart m.codes n10 → HasText (List (Data Ops)) SegmentsPart m.segments n11 → length m.funcs ≡ length m.codes → HasText (Syntax Ops) Spells m (8 + (n1 + (n2 + (n3 + (n4 + (n5 + (n6 + (n7 + (n8 + (n9 + (n10 + (n11 + 0))))))))))))
+whole_text m {n1 = n1} {n2 = n2} {n3 = n3} {n4 = n4} {n5 = n5} {n6 = n6} {n7 = n7} {n8 = n8} {n9 = n9} {n10 = n10} {n11 = n11} s1 s2 s3 s4 s5 s6 s7 s8 s9 s10 s11 same =
+    let none : HasText Values12 Text12 (values12 m) 0 = record { text = []; spelled = refl; short = omega arith } in
+    let parts : HasText Values1 Text1 (values1 m) (n1 + (n2 + (n3 + (n4 + (n5 + (n6 + (n7 + (n8 + (n9 + (n10 + (n11 + 0))))))))))) = then_text TypesPart Text2 m.types (values2 m) n1 (n2 + (n3 + (n4 + (n5 + (n6 + (n7 + (n8 + (n9 + (n10 + (n11 + 0)))))))))) s1 (then_text ImportsPart Text3 m.imports (values3 m) n2 (n3 + (n4 + (n5 + (n6 + (n7 + (n8 + (n9 + (n10 + (n11 + 0))))))))) s2 (then_text FuncsPart Text4 m.funcs (values4 m) n3 (n4 + (n5 + (n6 + (n7 + (n8 + (n9 + (n10 + (n11 + 0)))))))) s3 (then_text TablesPart Text5 m.tables (values5 m) n4 (n5 + (n6 + (n7 + (n8 + (n9 + (n10 + (n11 + 0))))))) s4 (then_text MemoriesPart Text6 m.memories (values6 m) n5 (n6 + (n7 + (n8 + (n9 + (n10 + (n11 + 0)))))) s5 (then_text GlobalsPart Text7 m.globals (values7 m) n6 (n7 + (n8 + (n9 + (n10 + (n11 + 0))))) s6 (then_text ExportsPart Text8 m.exports (values8 m) n7 (n8 + (n9 + (n10 + (n11 + 0)))) s7 (then_text StartPart Text9 m.start (values9 m) n8 (n9 + (n10 + (n11 + 0))) s8 (then_text ElementsPart Text10 m.elements (values10 m) n9 (n10 + (n11 + 0)) s9 (then_text CodesPart Text11 m.codes (values11 m) n10 (n11 + 0) s10 (then_text SegmentsPart Text12 m.segments (values12 m) n11 0 s11 none)))))))))) in
+    record {
+      text = opening ++ parts.text;
+      spelled = parts_spell m parts.text parts.spelled same;
+      short = omega (arith, parts.short, length-append opening parts.text);
+    }

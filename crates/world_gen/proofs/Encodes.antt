@@ -276,7 +276,7 @@ is_small : weight player_module < 2 ^ 32
 unfolding player_module host_types host_calls loop_codes turns visit own_creep turn has_room delivers harvests drops steps direction sign on_code both_ids seek look spawn_sought source_sought again either when is_seen to_next in_room both_fields own of_kind field
 is_small = lit< tt
 
-encodable : IsEncodable player_module
+pub encodable : IsEncodable player_module
 unfolding player_module loop_codes
 encodable = record {
   functions = refl;
