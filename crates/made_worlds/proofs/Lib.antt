@@ -1,0 +1,15 @@
+pub mod Places
+pub mod Grounds
+pub mod Views
+pub mod Names
+pub mod Objects
+pub mod Ids
+pub mod Players
+pub mod Kept
+pub mod Writable
+pub mod Streams
+pub mod Typed
+pub mod Valid
+pub mod Linked
+pub mod Short
+pub mod Accepted
