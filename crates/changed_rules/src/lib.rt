@@ -1,0 +1,10 @@
+// The rules of objects, tested over what changed: by a census of a world's ids and sites.
+#![tactic(auto)]
+
+mod census;
+mod counted;
+mod places;
+mod room;
+mod tally;
+
+pub use census::Census;
