@@ -1,11 +1,12 @@
 // Records that follow a world, and records that don't, each for one cause.
 use crate::worlds::{IDLE, PARTS, account, pile, world_of};
+use changed_rules::Census;
 use intent_book::{Intents, RunOutcome};
 use object_store::{Bytes, RoomTable, World};
 use record_follows::{advance, after, follows};
 use std::alloc::{AllocError, Global};
 use std::test::Fail;
-use tick_journal::{Entries, RunEntry, TickRecord, UploadEntry};
+use tick_journal::{Entries, RunEntry, TickRecord, UploadEntry, read_base_form, write_base};
 
 // What is changed of a record that follows.
 #[derive(Clone, Copy)]
@@ -149,15 +150,21 @@ fn each_field_of_a_record_is_tested(rt: HostRuntime) -> Result<(), Fail> {
 #[test]
 fn a_record_that_follows_leads_to_the_world_after_it(rt: HostRuntime) -> Result<(), Fail> {
     let alloc = rt.alloc();
-    let mut world = world_of(alloc, 41, PARTS)?;
+    let base = write_base(alloc, &world_of(alloc, 41, PARTS)?)?;
+    let Ok(mut world) = read_base_form(alloc, &base) else {
+        return Err("not read".into());
+    };
+    let Some(mut census) = Census::of(alloc, &world)? else {
+        return Err("no census".into());
+    };
     let entry = record(alloc, RIGHT)?;
     assert_eq!(rt; seen(&world), (41, Some(5), Some(5), Some(5), Some(5)));
     if follows(alloc, &world, &entry)? {
         let next = after(alloc, &world, &entry)?;
         assert_eq!(rt; seen(&next), (42, Some(5), Some(1), Some(6), Some(5)));
     }
-    assert!(rt; advance(alloc, &mut world, &entry)?);
+    assert!(rt; advance(alloc, &mut census, &mut world, &entry)?);
     assert_eq!(rt; seen(&world), (42, Some(5), Some(1), Some(6), Some(5)));
-    assert!(rt; !advance(alloc, &mut world, &entry)?);
+    assert!(rt; !advance(alloc, &mut census, &mut world, &entry)?);
     Ok(())
 }

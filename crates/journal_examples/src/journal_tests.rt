@@ -3,8 +3,9 @@ use crate::journals::{FIRST, disk_of, journal_of, record_of};
 use crate::worlds::{PARTS, TRAPPED, world_of};
 use std::alloc::Global;
 use std::test::Fail;
+use world_io::MemoryDisk;
 use world_journal::{
-    AppendFault, AtFault, Journal, RecoverFault, records, span, tick_at, world_at,
+    AppendFault, AtFault, Journal, RecoverFault, Walk, records, span, tick_at, world_at,
 };
 
 #[test]
@@ -69,6 +70,31 @@ fn worlds_and_records_are_found(rt: HostRuntime) -> Result<(), Fail> {
     Ok(())
 }
 
+#[test]
+fn a_walk_comes_to_each_record(rt: HostRuntime) -> Result<(), Fail> {
+    let alloc = rt.alloc();
+    let bytes = journal_of(alloc, &[4])?;
+    let mut disk = disk_of(alloc, &bytes, None)?;
+    let Ok(mut walk) = Walk::begin(alloc, &mut disk) else {
+        return Err("no walk".into());
+    };
+    assert_eq!(rt; walk.world().tick(), FIRST);
+    match walk.next(alloc, &mut disk) {
+        Ok(Some(entry)) => assert_eq!(rt; (entry.tick, walk.world().tick()), (4, 4)),
+        _ => return Err("no record".into()),
+    }
+    assert!(rt; matches!(walk.next(alloc, &mut disk), Ok(None)));
+    Ok(())
+}
+
+// Why a walk comes to no first world, or to no first record.
+fn walk_fault(alloc: Global, disk: &mut MemoryDisk) -> Option<RecoverFault> {
+    match Walk::begin(alloc, disk) {
+        Ok(mut walk) => walk.next(alloc, disk).err(),
+        Err(fault) => Some(fault),
+    }
+}
+
 // Why no world, or no record, is found of a tick.
 fn refusals(
     alloc: Global,
@@ -104,7 +130,8 @@ fn faults_of(
     let mut disk = disk_of(alloc, bytes, stop)?;
     let recovered = Journal::recover(alloc, &mut disk).err();
     let fault = span(alloc, &mut disk).err();
-    let is_told = records(alloc, &mut disk).err() == fault
+    let is_told = walk_fault(alloc, &mut disk) == recovered
+        && records(alloc, &mut disk).err() == fault
         && world_at(alloc, &mut disk, FIRST).err() == fault
         && tick_at(alloc, &mut disk, FIRST + 1).err() == fault;
     if !is_told {

@@ -2,11 +2,14 @@
 ghost use Rattle.std.specs.Prelude.{◌≡◌, ◌<◌, IfOk, OnOk, MatchBool, length};
 ghost use Rattle.std.specs.List.{AllByRecursion};
 ghost use Rattle.object_store.specs.Stored.{HasAccount};
+ghost use Rattle.rule_check.specs.Kept.{KeepsObjectRules};
+ghost use Rattle.changed_rules.specs.Census.{IsCensus};
 ghost use Rattle.record_follows.specs.Follows.{Follows, after as world_after};
 
 use crate::NoMemory;
 use crate::fitting::may_follow;
 use crate::putting::{put_accounts, put_rooms};
+use changed_rules::Census;
 use object_store::World;
 use rule_check::keeps_object_rules;
 use std::alloc::Global;
@@ -18,7 +21,11 @@ pub fn follows(alloc: Global, before: &World, entry: &TickRecord) -> Result<bool
         (Follows before.now entry.now → ⊥)) }
 {
     let mut world = before.copy(alloc)?;
-    advance(alloc, &mut world, entry)
+    if !may_follow(alloc, before, entry)? {
+        return Ok(false);
+    }
+    put(alloc, &mut world, entry)?;
+    keeps_object_rules(alloc, &world)
 }
 
 /// The world after a record that follows this one.
@@ -31,20 +38,30 @@ pub fn after(alloc: Global, before: &World, entry: &TickRecord) -> Result<World,
     Ok(world)
 }
 
-/// Leads the world to the one after the record, where the record follows it, and says whether it does.
-/// Where it does not, and on want of memory, the world may be any.
+/// Leads the world with its census to the one after the record, where the record follows it, and says whether it
+/// does. Where it does not, and on want of memory, both may be any.
 ///
-/// It takes time and memory for what is recorded, for a list of the rooms, and for the test of the rules.
-pub fn advance(alloc: Global, world: &mut World, entry: &TickRecord) -> Result<bool, NoMemory>
+/// It takes time and memory for what is recorded, for the objects of these rooms before and after, and for a
+/// list of the rooms; where a record lowers the next serial of a room, for the whole world.
+pub fn advance(
+    alloc: Global,
+    census: &mut Census,
+    world: &mut World,
+    entry: &TickRecord,
+) -> Result<bool, NoMemory>
+    requires rules { KeepsObjectRules world.old }
+    requires census { IsCensus world.old census.old }
     ensures { IfOk result (λ yes. MatchBool yes
-        (Follows world.old entry.now × (world.new ≡ world_after world.old entry.now))
+        (Follows world.old entry.now × (world.new ≡ world_after world.old entry.now)
+        × IsCensus world.new census.new)
         (Follows world.old entry.now → ⊥)) }
 {
     if !may_follow(alloc, world, entry)? {
         return Ok(false);
     }
+    let kept = census.leave(alloc, world, entry.rooms.as_slice())?;
     put(alloc, world, entry)?;
-    keeps_object_rules(alloc, world)
+    census.enter(alloc, world, entry.rooms.as_slice(), kept)
 }
 
 // Puts what is recorded in the place of what was there.

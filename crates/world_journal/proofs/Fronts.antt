@@ -13,7 +13,7 @@ use Rattle.tick_journal.specs.TickForms.{SpellsTick}
 use Rattle.tick_journal.specs.declared.tick_record.TickRecord.{TickRecord}
 use Rattle.world_journal.specs.Faults.{BeginJournal, FailsAt}
 use Rattle.world_journal.specs.Journals.{IsJournal, KeepsRules}
-use Rattle.world_journal.specs.inner.Walking.{IsFront}
+use Rattle.world_journal.specs.Walking.{IsFront}
 use Rattle.world_journal.proofs.Contents.{contents_first, contents_last, contents_more}
 
 -- ---- at the front of the bytes

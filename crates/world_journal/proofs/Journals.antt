@@ -1,13 +1,21 @@
 -- The bytes of journals.
-use Rattle.std.proofs.Common.{◌≡◌, ℕ, inl, inr, List, subst}
+use Rattle.std.proofs.Common.{◌≡◌, ℕ, inl, inr, List, [], subst}
 use Rattle.frame_log.specs.Frames.{IsEmpty, Spells}
 use Rattle.frame_log.proofs.Fronts.{front_goes_on, front_some}
 use Rattle.frame_log.proofs.Once.{stand_once}
 use Rattle.object_store.specs.Stored.{Stored}
 use Rattle.tick_journal.specs.declared.tick_record.TickRecord.{TickRecord}
 use Rattle.world_journal.specs.Faults.{FailsAt}
-use Rattle.world_journal.specs.Journals.{AreContents, IsJournal}
+use Rattle.world_journal.specs.Journals.{AreContents, IsJournal, IsWholeJournal}
 use Rattle.world_journal.proofs.Contents.{contents_begin, contents_once}
+
+-- A journal with nothing behind its closed gate is one.
+pub whole_is_journal : (base : Stored) (entries : List TickRecord) (bytes : List ℕ) → IsWholeJournal base entries bytes → IsJournal base entries bytes
+whole_is_journal base entries bytes is = record {
+  contents = is.contents;
+  stand = record { front = is.front; spelled = is.spelled; rest = []; split = is.split };
+  are = is.are;
+}
 
 pub journal_once : (bytes : List ℕ) (base other : Stored) (entries others : List TickRecord) → IsJournal base entries bytes → IsJournal other others bytes → (base ≡ other) × (entries ≡ others)
 journal_once bytes base other entries others is also =

@@ -18,7 +18,8 @@ use Rattle.world_journal.specs.Journals.{IsCourse, IsJournal}
 use Rattle.world_journal.specs.declared.fault.AtFault.{AtFault}
 use Rattle.world_journal.specs.declared.fault.AtFault.TheVariants.{NoSuchTick}
 use Rattle.world_journal.specs.declared.walk.Walk.{Walk}
-use Rattle.world_journal.specs.inner.Walking.{HasStepped, HasWalked, IsFront, IsReading, IsRecordFound, IsWorldFound}
+use Rattle.world_journal.specs.Walking.{HasStepped, HasWalked, IsFront}
+use Rattle.world_journal.specs.inner.Found.{IsReading, IsRecordFound, IsWorldFound}
 use Rattle.world_journal.proofs.Fronts.{journal_there}
 
 -- ---- the end of a reading

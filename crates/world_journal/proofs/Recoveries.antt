@@ -12,7 +12,7 @@ use Rattle.world_journal.specs.declared.recovered.Recovered.{Recovered}
 use Rattle.world_journal.specs.declared.uploaded.Uploaded.{Uploaded}
 use Rattle.world_journal.specs.declared.walk.Walk.{Walk}
 use Rattle.world_journal.specs.inner.Uploads.{HasUploaded, uploads_in}
-use Rattle.world_journal.specs.inner.Walking.{HasEnded, HasWalked}
+use Rattle.world_journal.specs.Walking.{HasEnded, HasWalked}
 use Rattle.world_journal.proofs.Fronts.{closed_rest, journal_there}
 use Rattle.world_journal.proofs.Journals.{journal_once}
 use Rattle.world_journal.proofs.Modules.{modules_of_entries}

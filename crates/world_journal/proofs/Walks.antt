@@ -10,10 +10,11 @@ use Rattle.record_follows.proofs.Steps.{world_after_one}
 use Rattle.tick_journal.specs.BaseForms.{SpellsBase}
 use Rattle.tick_journal.specs.TickForms.{SpellsTick}
 use Rattle.tick_journal.specs.declared.tick_record.TickRecord.{TickRecord}
+use Rattle.world_journal.specs.Counted.{IsCounted}
 use Rattle.world_journal.specs.Faults.{FailsAt}
 use Rattle.world_journal.specs.Journals.{KeepsRules}
 use Rattle.world_journal.specs.declared.walk.Walk.{Walk}
-use Rattle.world_journal.specs.inner.Walking.{HasWalked, IsFront}
+use Rattle.world_journal.specs.Walking.{HasWalked, IsFront}
 use Rattle.world_journal.proofs.Contents.{read_of}
 use Rattle.world_journal.proofs.Courses.{course_more}
 use Rattle.world_journal.proofs.Fronts.{first_broken, first_fails, first_front, next_broken, next_fails, next_front}
@@ -39,8 +40,9 @@ module _ (seen now : Option (List ℕ)) (same : now ≡ seen) where
         at None finds = tt
         at (Some bytes) finds = first_fails bytes content.items _ finds (λ base spells keeps. none base (subst (λ (l : List ℕ). SpellsBase l base) (sym whole) spells) keeps)
 
-    pub begin_walked : (walk : Walk) → SpellsBase text walk.world → KeepsRules walk.world → walk.gate ≡ 9 + length content.items → HasWalked walk.world [] walk seen
-    begin_walked walk spells keeps gate = record {
+    pub begin_walked : (walk : Walk) → SpellsBase text walk.world → KeepsRules walk.world → IsCounted walk.world walk.census → walk.gate ≡ 9 + length content.items → HasWalked walk.world [] walk seen
+    begin_walked walk spells keeps counted gate = record {
+      counted = counted;
       course = record { form = spells.0; rules = keeps; forms = tt; follow = tt };
       world = refl;
       count = omega arith;
@@ -73,10 +75,11 @@ module _ (base : Stored) (entries : List TickRecord) (walk : Walk) (seen : Optio
         at (Some bytes) is finds = next_fails is content.items _ finds (λ entry spells follows.
             none entry (subst (λ (l : List ℕ). SpellsTick l entry) (sym whole) spells) (subst (λ (w : Stored). Follows w entry) (sym has.world) follows))
 
-    pub step_walked : (entry : TickRecord) (next : Walk) → SpellsTick text entry → Follows walk.world entry → next.world ≡ after walk.world entry → next.gate ≡ walk.gate + 9 + length content.items → HasWalked base (entries ++ entry ∷ []) next seen
-    step_walked entry next spells follows leads gate =
+    pub step_walked : (entry : TickRecord) (next : Walk) → SpellsTick text entry → Follows walk.world entry → next.world ≡ after walk.world entry → IsCounted next.world next.census → next.gate ≡ walk.gate + 9 + length content.items → HasWalked base (entries ++ entry ∷ []) next seen
+    step_walked entry next spells follows leads counted gate =
         let there_follows = subst (λ (w : Stored). Follows w entry) has.world follows in
         record {
+          counted = counted;
           course = course_more base entries entry has.course (read_of spells) there_follows;
           world = leads ∙ ap (λ (w : Stored). after w entry) has.world ∙ sym (world_after_one base entries entry);
           count = omega (arith, gate, has.count, length-append entries (entry ∷ []));

@@ -2,7 +2,7 @@
 -- it.
 use Rattle.std.specs.Prelude.{◌≡◌, ℕ, ◌⊎◌, List, [], ◌∷◌, ◌++◌, Option, Some, None, ⊤}
 use Rattle.std.specs.List.{AllByRecursion}
-use Rattle.frame_log.specs.Frames.{HasContents, IsEmpty, Stands}
+use Rattle.frame_log.specs.Frames.{HasContents, IsEmpty, Spells, Stands}
 use Rattle.object_store.specs.Stored.{Stored}
 use Rattle.record_follows.specs.Courses.{AreFollowing}
 use Rattle.record_follows.specs.Follows.{Follows}
@@ -55,6 +55,14 @@ pub record AreContents (base : Stored) (entries : List TickRecord) (contents : L
 pub record IsJournal (base : Stored) (entries : List TickRecord) (bytes : List ℕ) : Type 0 where
   pub contents : List (List ℕ)
   pub stand : Stands contents bytes
+  pub are : AreContents base entries contents
+
+-- The same, and nothing stands behind the closed gate.
+pub record IsWholeJournal (base : Stored) (entries : List TickRecord) (bytes : List ℕ) : Type 0 where
+  pub front : List ℕ
+  pub contents : List (List ℕ)
+  pub spelled : Spells front contents
+  pub split : bytes ≡ front ++ 0 ∷ []
   pub are : AreContents base entries contents
 
 -- ---- the disk between calls

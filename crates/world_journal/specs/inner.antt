@@ -1,5 +1,5 @@
 -- Definitions that private functions and proofs cite alone.
-pub mod Walking
+pub mod Found
 pub mod FaultsOf
 pub mod Counting
 pub mod Uploads

@@ -1,12 +1,13 @@
 // Ticks of a journal, read from its disk, which is left as it is.
-ghost use Rattle.std.specs.Prelude.{◌≡◌, ◌≢◌, ◌==◌, ℕ, ◌+◌, if◌then◌else◌, List, length, Contains, Some, IfOk, IfErr, IfSome};
+ghost use Rattle.std.specs.Prelude.{◌≡◌, ◌≢◌, ◌==◌, ℕ, ◌+◌, if◌then◌else◌, List, length, Contains, Some};
+ghost use Rattle.std.specs.Prelude.{IfOk, IfErr, IfSome};
 ghost use Rattle.object_store.specs.Stored.{Stored};
 ghost use Rattle.record_follows.specs.Courses.{IsWorldAt};
 ghost use Rattle.tick_journal.specs.declared.tick_record.TickRecord.{TickRecord as Recorded};
 ghost use Rattle.world_journal.specs.Answers.{IsFaultOf, OnlyReads};
 ghost use Rattle.world_journal.specs.Faults.{HasNoRecord, HasNoWorld};
 ghost use Rattle.world_journal.specs.Journals.{IsCourse, IsJournal};
-ghost use Rattle.world_journal.specs.declared.fault.AtFault.TheVariants.{DiskFault};
+ghost use Rattle.world_journal.specs.declared.fault.AtFault.TheVariants.{DiskFault, NoSuchTick};
 
 use crate::NoMemory;
 use crate::fault::AtFault;
@@ -26,6 +27,7 @@ pub fn span<D: Disk>(alloc: Global, disk: &mut D) -> Result<(u64, u64), AtFault>
         × (ticks.0 ≡ base.tick) × (ticks.1 ≡ base.tick + length entries)) }
     ensures fault { IfErr result (IsFaultOf (λ first last bytes. ⊥)
         (D.seen disk.old) (D.faults disk.old) (D.faults disk.new)) }
+    ensures of_no_tick { IfErr result (λ e. (first last : ℕ) → e ≢ NoSuchTick first last) }
     ensures steady { IfErr result (λ e. e ≢ DiskFault → D.faults disk.new ≡ D.faults disk.old) }
     ensures reads { OnlyReads (D.seen disk.old) (D.seen disk.new) (D.moments disk.old) (D.moments disk.new)
         (D.faults disk.old) (D.faults disk.new) result }
@@ -42,6 +44,7 @@ pub fn records<D: Disk>(alloc: Global, disk: &mut D) -> Result<(World, TickRecor
         × IfSome (D.seen disk.old) (IsJournal all.0 all.1)) }
     ensures fault { IfErr result (IsFaultOf (λ first last bytes. ⊥)
         (D.seen disk.old) (D.faults disk.old) (D.faults disk.new)) }
+    ensures of_no_tick { IfErr result (λ e. (first last : ℕ) → e ≢ NoSuchTick first last) }
     ensures steady { IfErr result (λ e. e ≢ DiskFault → D.faults disk.new ≡ D.faults disk.old) }
     ensures reads { OnlyReads (D.seen disk.old) (D.seen disk.new) (D.moments disk.old) (D.moments disk.new)
         (D.faults disk.old) (D.faults disk.new) result }

@@ -1,5 +1,6 @@
 // The journal of a disk.
-ghost use Rattle.std.specs.Prelude.{◌≡◌, ◌≢◌, ◌↔◌, ℕ, ◌+◌, ◌≤◌, true, false, [], ◌∷◌, ◌++◌, List, length, Err, IfOk, IfErr, OnOk};
+ghost use Rattle.std.specs.Prelude.{◌≡◌, ◌≢◌, ◌↔◌, ℕ, ◌+◌, ◌≤◌, true, false, [], ◌∷◌, ◌++◌, List, length};
+ghost use Rattle.std.specs.Prelude.{Err, IfOk, IfErr, OnOk};
 ghost use Rattle.world_io.specs.Causes.{Rose};
 ghost use Rattle.world_io.specs.Disk.{TellsAlike};
 ghost use Rattle.world_io.specs.Moments.{LeavesSince, Rests};
@@ -10,7 +11,8 @@ ghost use Rattle.tick_journal.specs.BaseForms.{world_as_read};
 ghost use Rattle.tick_journal.specs.Contents.{base_content, tick_content};
 ghost use Rattle.tick_journal.specs.TickForms.{tick_as_read};
 ghost use Rattle.tick_journal.specs.declared.tick_record.TickRecord.{TickRecord as Recorded};
-ghost use Rattle.world_journal.specs.Journals.{HasJournal, IsBeforeOrAfter, IsEmptyOrBase, MayBegin, MayFollow};
+ghost use Rattle.world_journal.specs.Journals.{HasJournal, IsBeforeOrAfter, IsEmptyOrBase, MayBegin};
+ghost use Rattle.world_journal.specs.Journals.{MayFollow};
 ghost use Rattle.world_journal.specs.declared.fault.AppendFault.TheVariants.{Closed, DiskFault, Memory};
 
 use crate::fault::AppendFault;

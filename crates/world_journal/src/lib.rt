@@ -16,3 +16,4 @@ pub use journal::Journal;
 pub use laws::bytes_stand_for_one_journal;
 pub use recovered::{Modules, Recovered, UploadCount, UploadCounts};
 pub use std::alloc::AllocError as NoMemory;
+pub use walk::Walk;

@@ -7,11 +7,13 @@ ghost use Rattle.tick_journal.specs.BaseForms.{SpellsBase};
 ghost use Rattle.tick_journal.specs.TickForms.{SpellsTick};
 ghost use Rattle.tick_journal.specs.declared.tick_record.TickRecord.{TickRecord as Recorded};
 ghost use Rattle.world_journal.specs.Answers.{IsRecoverFaultOf, OnlyReads};
+ghost use Rattle.world_journal.specs.Counted.{IsCounted};
 ghost use Rattle.world_journal.specs.Journals.{KeepsRules};
 ghost use Rattle.world_journal.specs.declared.fault.RecoverFault.TheVariants.{DiskFault};
 
 use crate::NoMemory;
 use crate::fault::RecoverFault;
+use changed_rules::Census;
 use frame_log::{Behind, read_frame};
 use object_store::World;
 use record_follows::advance;
@@ -24,20 +26,22 @@ use world_io::Disk;
 const HEAD: u64 = 9;
 
 /// Where the reading of a journal stands: the world so far, and the place of the gate that comes next, on a
-/// disk of so many bytes.
+/// disk of so many bytes. It holds no record, and the reading of the next one holds one frame. By a census of
+/// the world the rules are tested over what a record changed.
 #[derive(Drop)]
-pub(crate) struct Walk {
-    pub world: World,
-    pub gate: u64,
-    pub len: u64,
+pub struct Walk {
+    pub(crate) world: World,
+    census: Census,
+    pub(crate) gate: u64,
+    pub(crate) len: u64,
     ghost place: { gate < len },
     ghost limit: { len < 2 ^ 62 },
 }
 
-// The world that a content spells, where it spells one that keeps the rules.
-fn first_world(alloc: Global, content: &[u8]) -> Result<Option<World>, NoMemory>
-    ensures some { IfOk result
-        (λ found. IfSome found (λ world. SpellsBase content.now world × KeepsRules world)) }
+// The world that a content spells, where it spells one that keeps the rules, with its census.
+fn first_world(alloc: Global, content: &[u8]) -> Result<Option<(World, Census)>, NoMemory>
+    ensures some { IfOk result (λ found. IfSome found
+        (λ first. SpellsBase content.now first.0 × KeepsRules first.0 × IsCounted first.0 first.1)) }
     ensures none { IfOk result (λ found. IfNone found
         ((world : Stored) → SpellsBase content.now world → KeepsRules world → ⊥)) }
 {
@@ -46,22 +50,27 @@ fn first_world(alloc: Global, content: &[u8]) -> Result<Option<World>, NoMemory>
         Err(BytesFault::Malformed) => return Ok(None),
         Err(BytesFault::Memory) => return Err(NoMemory),
     };
-    if keeps_rules(alloc, &world)? {
-        Ok(Some(world))
-    } else {
-        Ok(None)
+    if !keeps_rules(alloc, &world)? {
+        return Ok(None);
+    }
+    match Census::of(alloc, &world)? {
+        Some(census) => Ok(Some((world, census))),
+        None => Ok(None),
     }
 }
 
-// The record that a content spells, where it spells one that follows the world, which is then led on. Else
-// the world may be any.
+// The record that a content spells, where it spells one that follows the world, which is then led on with its
+// census. Else both may be any.
 fn next_record(
     alloc: Global,
     world: &mut World,
+    census: &mut Census,
     content: &[u8],
 ) -> Result<Option<TickRecord>, NoMemory>
+    requires { IsCounted world.old census.old }
     ensures some { IfOk result (λ found. IfSome found (λ entry. SpellsTick content.now entry
-        × Follows world.old entry × (world.new ≡ world_next world.old entry))) }
+        × Follows world.old entry × (world.new ≡ world_next world.old entry)
+        × IsCounted world.new census.new)) }
     ensures none { IfOk result (λ found. IfNone found
         ((entry : Recorded) → SpellsTick content.now entry → Follows world.old entry → ⊥)) }
 {
@@ -70,7 +79,7 @@ fn next_record(
         Err(BytesFault::Malformed) => return Ok(None),
         Err(BytesFault::Memory) => return Err(NoMemory),
     };
-    if advance(alloc, world, &entry)? {
+    if advance(alloc, census, world, &entry)? {
         Ok(Some(entry))
     } else {
         Ok(None)
@@ -78,12 +87,20 @@ fn next_record(
 }
 
 impl Walk {
-    ghost use Rattle.world_journal.specs.inner.Walking.{HasStepped, HasWalked};
+    ghost use Rattle.world_journal.specs.Walking.{HasStepped, HasWalked};
+
+    /// The world that the records so far lead to.
+    pub fn world(&self) -> &World
+        ensures { result.now ≡ self.now.world }
+    {
+        &self.world
+    }
 
     /// Reads the world that a journal begins with.
-    pub(crate) fn begin<D: Disk>(alloc: Global, disk: &mut D) -> Result<Walk, RecoverFault>
+    pub fn begin<D: Disk>(alloc: Global, disk: &mut D) -> Result<Walk, RecoverFault>
         ensures begun { IfOk result (λ walk. HasWalked walk.world [] walk (D.seen disk.old)) }
         ensures length { IfOk result (λ walk. LengthIs (D.seen disk.old) walk.len) }
+        ensures counted { IfOk result (λ walk. IsCounted walk.world walk.census) }
         ensures fault { IfErr result
             (IsRecoverFaultOf (D.seen disk.old) (D.faults disk.old) (D.faults disk.new)) }
         ensures steady { IfErr result (λ e. e ≢ DiskFault → D.faults disk.new ≡ D.faults disk.old) }
@@ -99,20 +116,26 @@ impl Walk {
             Behind::Broken => return Err(RecoverFault::NotAJournal(0)),
             Behind::Frame(content) => content,
         };
-        let Some(world) = first_world(alloc, &content)? else {
+        let Some((world, census)) = first_world(alloc, &content)? else {
             return Err(RecoverFault::NotAJournal(0));
         };
         let gate = HEAD + content.len() as u64;
-        Ok(Walk { world, gate, len })
+        Ok(Walk {
+            world,
+            census,
+            gate,
+            len,
+        })
     }
 
     /// Reads the next record, and leads the world on. There is none at the closed gate.
-    pub(crate) fn next<D: Disk>(
+    pub fn next<D: Disk>(
         &mut self,
         alloc: Global,
         disk: &mut D,
     ) -> Result<Option<TickRecord>, RecoverFault>
-        requires { LengthIs (D.seen disk.old) self.old.len }
+        requires length { LengthIs (D.seen disk.old) self.old.len }
+        requires counted { IsCounted self.old.world self.old.census }
         ensures stepped { IfOk result (λ found. (base : Stored) (entries : List Recorded)
             → HasWalked base entries self.old (D.seen disk.old)
             → HasStepped base entries self.new (D.seen disk.old) found) }
@@ -121,6 +144,7 @@ impl Walk {
             → IsRecoverFaultOf (D.seen disk.old) (D.faults disk.old) (D.faults disk.new) e) }
         ensures moves { IfOk result (λ found. IfSome found (λ entry. self.old.gate < self.new.gate)) }
         ensures length { self.new.len ≡ self.old.len }
+        ensures counted { OnOk result (IsCounted self.new.world self.new.census) }
         ensures steady { IfErr result (λ e. e ≢ DiskFault → D.faults disk.new ≡ D.faults disk.old) }
         ensures reads { OnlyReads (D.seen disk.old) (D.seen disk.new)
             (D.moments disk.old) (D.moments disk.new) (D.faults disk.old) (D.faults disk.new) result }
@@ -130,7 +154,7 @@ impl Walk {
             Behind::Broken => return Err(RecoverFault::NotAJournal(self.gate)),
             Behind::Frame(content) => content,
         };
-        let Some(entry) = next_record(alloc, &mut self.world, &content)? else {
+        let Some(entry) = next_record(alloc, &mut self.world, &mut self.census, &content)? else {
             return Err(RecoverFault::NotAJournal(self.gate));
         };
         self.gate += HEAD + content.len() as u64;

@@ -1,5 +1,5 @@
 use Rattle.std.proofs.Common.{◌-◌}
-use Rattle.world_journal.specs.inner.Walking.{IsReading}
+use Rattle.world_journal.specs.inner.Found.{IsReading}
 use Rattle.world_journal.proofs.at.records.Given as goal
 
 abbrev pub invariant-each : goal.invariant-each

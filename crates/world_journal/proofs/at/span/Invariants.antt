@@ -1,6 +1,6 @@
 use Rattle.std.proofs.Common.{◌-◌, List}
 use Rattle.tick_journal.specs.declared.tick_record.TickRecord.{TickRecord}
-use Rattle.world_journal.specs.inner.Walking.{IsReading}
+use Rattle.world_journal.specs.inner.Found.{IsReading}
 use Rattle.world_journal.proofs.at.span.Given as goal
 
 abbrev pub invariant-each : goal.invariant-each

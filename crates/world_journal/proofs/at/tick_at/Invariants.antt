@@ -1,6 +1,6 @@
 use Rattle.std.proofs.Common.{◌-◌, List}
 use Rattle.tick_journal.specs.declared.tick_record.TickRecord.{TickRecord}
-use Rattle.world_journal.specs.inner.Walking.{IsReading, IsRecordFound}
+use Rattle.world_journal.specs.inner.Found.{IsReading, IsRecordFound}
 use Rattle.world_journal.proofs.at.tick_at.Given as goal
 
 abbrev pub invariant-each : goal.invariant-each

@@ -3,7 +3,7 @@ use Rattle.world_io.specs.Moments.{LeavesSince, Moment, Rests}
 use Rattle.tick_journal.specs.declared.entries.UploadEntry.{UploadEntry}
 use Rattle.world_journal.specs.Journals.{IsJournal, IsQuiet}
 use Rattle.world_journal.specs.inner.Uploads.{HasUploaded, uploads_in}
-use Rattle.world_journal.specs.inner.Walking.{HasEnded}
+use Rattle.world_journal.specs.Walking.{HasEnded}
 use Rattle.world_journal.proofs.Modules.{uploads_more}
 use Rattle.world_journal.proofs.Readings.{reading_end, reading_more, walked_now}
 use Rattle.world_journal.proofs.Recoveries.{cut_moments, quiet_closed, quiet_journal, recovered_from, unmoved}

@@ -2,7 +2,7 @@ use Rattle.std.proofs.Common.{◌-◌, List}
 use Rattle.object_store.specs.inner.Ordered.{Rises}
 use Rattle.tick_journal.specs.declared.tick_record.TickRecord.{TickRecord}
 use Rattle.world_journal.specs.inner.Uploads.{HasUploaded, uploads_in}
-use Rattle.world_journal.specs.inner.Walking.{IsReading}
+use Rattle.world_journal.specs.inner.Found.{IsReading}
 use Rattle.world_journal.proofs.journal.Journal.recover.Given as goal
 
 abbrev pub invariant-each : goal.invariant-each

@@ -15,4 +15,4 @@ pub returns-clause-begun : goal.returns-clause-begun
 returns-clause-begun g c =
     let told = rw c.in-Some.is at c.in_ok-world.ensures.some in
     begin_walked _ _ c.in_ok-len.ensures.same c.in_ok-read_frame.field-0 c.in-Frame.content c.in-Frame.is c.in_ok-read_frame.ensures.found c.deref.result.now c.deref.ensures.value
-    _ told.0 told.1 (omega (arith, c.len-2.ensures))
+    _ told.0 told.1 told.2 (omega (arith, c.len-2.ensures))

@@ -15,4 +15,4 @@ pub returns-clause-stepped : goal.returns-clause-stepped
 returns-clause-stepped g c = λ base entries has.
     let told = rw c.in-Some.is at c.in_ok-entry.ensures.some in
     step_walked base entries c.args.self.now _ has c.in_ok-read_frame.field-0 c.in-Frame.content c.in-Frame.is c.in_ok-read_frame.ensures.found c.deref.result.now c.deref.ensures.value
-    c.in-Some.entry _ told.0 told.1 told.2 (omega arith)
+    c.in-Some.entry _ told.0 told.1 told.2 told.3 (omega arith)

@@ -1,13 +1,12 @@
 -- A reading of a journal, gate by gate.
-use Rattle.std.specs.Prelude.{◌≡◌, ℕ, ◌+◌, ◌<◌, ◌≤◌, ◌⊎◌, List, [], ◌∷◌, ◌++◌, length, Contains, Option, Some, None, IfSome}
-use Rattle.world_io.specs.Disk.{LengthIs}
-use Rattle.world_io.specs.Moments.{Moment}
+use Rattle.std.specs.Prelude.{◌≡◌, ℕ, ◌≤◌, List, [], ◌∷◌, ◌++◌, length, Option, Some, None, IfSome}
 use Rattle.frame_log.specs.Frames.{Spells}
 use Rattle.frame_log.specs.Reading.{FindsAt}
 use Rattle.frame_log.specs.declared.read.Behind.TheVariants.{Closed}
 use Rattle.object_store.specs.Stored.{Stored}
-use Rattle.record_follows.specs.Courses.{IsWorldAt, world_after}
+use Rattle.record_follows.specs.Courses.{world_after}
 use Rattle.tick_journal.specs.declared.tick_record.TickRecord.{TickRecord}
+use Rattle.world_journal.specs.Counted.{IsCounted}
 use Rattle.world_journal.specs.Journals.{AreContents, IsCourse}
 use Rattle.world_journal.specs.declared.walk.Walk.{Walk}
 
@@ -22,13 +21,14 @@ pub record IsFront (base : Stored) (entries : List TickRecord) (gate : ℕ) (byt
   pub split : bytes ≡ front ++ rest
   pub are : AreContents base entries contents
 
--- A reading has come behind these records, and has the world that they lead to.
+-- A reading has come behind these records, and has the world that they lead to, with its census.
 pub record HasWalked (base : Stored) (entries : List TickRecord) (walk : Walk) (seen : Option (List ℕ))
     : Type 0 where
   pub course : IsCourse base entries
   pub world : walk.world ≡ world_after base entries
   pub count : length entries ≤ walk.gate
   pub front : IfSome seen (IsFront base entries walk.gate)
+  pub counted : IsCounted walk.world walk.census
 
 -- The same, and the gate that comes next is closed.
 pub record HasEnded (base : Stored) (entries : List TickRecord) (walk : Walk) (seen : Option (List ℕ))
@@ -40,22 +40,3 @@ pub record HasEnded (base : Stored) (entries : List TickRecord) (walk : Walk) (s
 abbrev pub HasStepped : Stored → List TickRecord → Walk → Option (List ℕ) → Option TickRecord → Type 0
 HasStepped base entries walk seen None = HasEnded base entries walk seen
 HasStepped base entries walk seen (Some entry) = HasWalked base (entries ++ entry ∷ []) walk seen
-
--- A reading has come behind these records, on a disk that is as it was before the reading.
-pub record IsReading (base : Stored) (entries : List TickRecord) (walk : Walk)
-    (seen seen_now : Option (List ℕ)) (moments moments_now : List Moment) (faults faults_now : ℕ) : Type 0 where
-  pub walked : HasWalked base entries walk seen
-  pub length : LengthIs seen walk.len
-  pub same : seen_now ≡ seen
-  pub crash : moments_now ≡ moments
-  pub steady : faults_now ≡ faults
-
--- What is found of a tick in the worlds from the first on: its world, or that it is none of theirs.
-abbrev pub IsWorldFound : Stored → List TickRecord → ℕ → Option Stored → Type 0
-IsWorldFound base entries tick None = (tick < base.tick) ⊎ (base.tick + length entries < tick)
-IsWorldFound base entries tick (Some world) = IsWorldAt base entries tick world
-
--- The same of its record.
-abbrev pub IsRecordFound : Stored → List TickRecord → ℕ → Option TickRecord → Type 0
-IsRecordFound base entries tick None = (tick < base.tick + 1) ⊎ (base.tick + length entries < tick)
-IsRecordFound base entries tick (Some entry) = Contains entries entry × (entry.tick ≡ tick)
