@@ -6,3 +6,4 @@ pub mod Plain
 pub mod Shown
 pub mod ShownRun
 pub mod ShownTools
+pub mod Tools

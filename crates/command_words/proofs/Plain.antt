@@ -1,6 +1,6 @@
 -- How a plain word is walked by a command of `clap`.
 use Rattle.std.proofs.Common.{◌≡◌, ◌∙◌, ◌<◌, ◌==◌, ℕ, Bool, false, List, [], ◌∷◌, Option, Some, None, ap, ap₂}
-use Rattle.std.proofs.Common.{subst, refl, arith, codes}
+use Rattle.std.proofs.Common.{subst, refl, arith}
 use Rattle.std.specs.Prelude.{fold, is_some, option_and_then, if◌then◌else◌}
 use Rattle.std.specs.Option.{option_map_or}
 use Rattle.std.specs.Str.{bytes_eq}
@@ -11,9 +11,9 @@ use Rattle.std.proofs.lemmas.Bool.Decides.{Decides-eqb}
 use Rattle.clap.specs.Lexer.{long_of, long_of_rest, short_of, short_of_rest, strip_byte}
 use Rattle.clap.specs.Kinds.{Kinds, or_else}
 use Rattle.clap.specs.Walk.{Held, Row, Rule, Step, Text, Waiting, Walk, after_step, arg_by_id, arg_by_index}
-use Rattle.clap.specs.Walk.{finished, first_of, idle, long_or_other, nothing_held, option, option_word}
+use Rattle.clap.specs.Walk.{finished, idle, long_or_other, option, option_word}
 use Rattle.clap.specs.Walk.{plain_word, settled, short_or_plain, subcommand_or_other, to_positional, trailing}
-use Rattle.clap.specs.Walk.{value, walk, walk_from, walked}
+use Rattle.clap.specs.Walk.{value, walked}
 use Rattle.clap.specs.Simple.{Shape, built, entered}
 use Rattle.clap.specs.Faults.{bundle_fault, check_fault, defaults_fault, entered_fault, flag_word_fault}
 use Rattle.clap.specs.Faults.{other_fault, settle_fault, step_fault, turn_fault, walk_fault}

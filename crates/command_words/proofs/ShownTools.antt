@@ -1,6 +1,6 @@
 -- The words of the other commands in the order in which they are shown are taken.
 use Rattle.std.proofs.Common.{◌≡◌, ◌∙◌, ℕ, List, [], ◌∷◌, ap, ap₂, refl, codes}
-use Rattle.clap.specs.Walk.{Row, Text, Walk, finished, first_of, idle, nothing_held, option, walk, walk_from, walked}
+use Rattle.clap.specs.Walk.{Text, Walk, finished, first_of, idle, nothing_held, walk, walk_from}
 use Rattle.clap.specs.Simple.{Shape, built}
 use Rattle.clap.specs.Faults.{defaults_fault, walk_fault}
 use Rattle.std.proofs.Common.{◌≤◌, arith, lit≤}
@@ -9,7 +9,7 @@ use Rattle.command_words.specs.declared.command.GenPart.{GenPart}
 use Rattle.command_words.specs.declared.command.GenPart.TheVariants.{World, Uploads}
 use Rattle.command_words.specs.Words.{IsCheck, IsDemo, IsGen, IsReplay, IsShow, faults_in, part_word, rows_in}
 use Rattle.command_words.specs.Shown.{IsPlain, ShowsCheck, ShowsDemo, ShowsGen, ShowsReplay, ShowsShow}
-use Rattle.command_words.proofs.Plain.{between, given, holding, idle_fault, idle_walked, level, more_fault, more_walked, no_more, number_plain, option_fault, option_walked}
+use Rattle.command_words.proofs.Plain.{between, given, holding, idle_fault, idle_walked, level, more_fault, more_walked, no_more, number_plain}
 
 -- ---- check
 

@@ -1,8 +1,9 @@
 -- What a command says, and which words say none.
-use Rattle.std.specs.Prelude.{◌≢◌, ℕ, List, string_bytes}
+use Rattle.std.specs.Prelude.{◌≢◌, List, string_bytes}
 use Rattle.clap.specs.Walk.{Text}
 use Rattle.command_words.specs.Choices.{Choice, run, check, replay, show, gen, demo}
-use Rattle.command_words.specs.Words.{AreCheck, AreGen, AreRun, AreShow, IsCheck, IsDemo, IsGen, IsReplay, IsRun, IsShow}
+use Rattle.command_words.specs.Words.{AreCheck, AreDemo, AreGen, AreReplay, AreRun, AreShow, IsCheck, IsDemo}
+use Rattle.command_words.specs.Words.{IsGen, IsReplay, IsRun, IsShow}
 use Rattle.command_words.specs.declared.command.Command.{Command}
 use Rattle.command_words.specs.declared.command.Command.TheVariants as commands
 
@@ -37,10 +38,10 @@ choice_of a_demo = demo
 abbrev pub AreOf : Kind → List Text → Type 0
 AreOf a_run words = AreRun words
 AreOf a_check words = AreCheck words
-AreOf a_replay words = (path : Text) × IsReplay words path
+AreOf a_replay words = AreReplay words
 AreOf a_show words = AreShow words
 AreOf a_gen words = AreGen words
-AreOf a_demo words = (seed : ℕ) × (rooms : ℕ) × (ticks : ℕ) × IsDemo words seed rooms ticks
+AreOf a_demo words = AreDemo words
 
 -- the choice of a command
 abbrev pub kind_of : Command → Kind

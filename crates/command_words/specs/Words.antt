@@ -1,5 +1,5 @@
 -- The words of a call, as `clap` reads them.
-use Rattle.std.specs.Prelude.{◌≡◌, ℕ, ◌≤◌, ◌<◌, ◌^◌, List, [], ◌∷◌, Some, codes}
+use Rattle.std.specs.Prelude.{◌≡◌, ℕ, ◌≤◌, ◌<◌, ◌^◌, ◌⊎◌, List, [], ◌∷◌, Some, codes}
 use Rattle.clap.specs.Walk.{Row, Text, first_of}
 use Rattle.clap.specs.Simple.{matches_of}
 use Rattle.clap.specs.Faults.{fault_of}
@@ -78,6 +78,10 @@ pub record IsReplay (words : List Text) (path : Text) : Type 0 where
   pub taken : IsTaken replay words
   pub path_is : Gives replay words (codes "JOURNAL") path
 
+-- The words are those of a replay.
+abbrev pub AreReplay : List Text → Type 0
+AreReplay words = (path : Text) × IsReplay words path
+
 -- ---- `show JOURNAL TICK`
 
 -- The words ask for the world of this tick of the journal at this path.
@@ -130,3 +134,13 @@ pub record IsDemo (words : List Text) (seed rooms ticks : ℕ) : Type 0 where
   pub rooms_limits : AreRooms rooms
   pub ticks_is : GivesNumber demo words (codes "TICKS") ticks
   pub limit : ticks ≤ 1000000
+
+-- The words are those of a demo.
+abbrev pub AreDemo : List Text → Type 0
+AreDemo words = (seed : ℕ) × (rooms : ℕ) × (ticks : ℕ) × IsDemo words seed rooms ticks
+
+-- ---- all commands that keep nothing
+
+-- The words are those of a check, of a gen, of a demo, of a show or of a replay.
+abbrev pub AreOfTool : List Text → Type 0
+AreOfTool words = AreCheck words ⊎ AreGen words ⊎ AreDemo words ⊎ AreShow words ⊎ AreReplay words
