@@ -3,7 +3,8 @@ use Rattle.std.proofs.Common.{◌≡◌, ℕ, suc, ◌==◌, Bool, true, false, 
 use Rattle.std.specs.Prelude.{if◌then◌else◌}
 use Rattle.std.proofs.lemmas.Bool.{cases_Bool, eqb-true}
 use Rattle.std.specs.Cmp.{nat_cmp_total, unsigned_tied}
-use Rattle.std.specs.FinMap.{get, get-insert, keys}
+use Rattle.std.specs.FinMap.{FinMap, get, get-insert, keys}
+use Rattle.std.specs.Ordering.{nat_cmp}
 use Rattle.std.specs.List.{filter_map}
 use Rattle.game_tables.specs.declared.action.Action.{Action}
 use Rattle.room_terrain.specs.declared.name.RoomName.{RoomName}
@@ -25,6 +26,9 @@ use Rattle.world_rules.proofs.Lifting.{frame_stored}
 -- the name and the grounds of a room
 abbrev pub Outline : Type 0
 Outline = RoomName × List Ground
+
+abbrev Frames : Type 0
+Frames = FinMap nat_cmp Frame
 
 abbrev framed : Frame → Outline
 framed frame = (frame.name, frame.grounds)
@@ -112,7 +116,11 @@ same_mapped f (x ∷ xs) (y ∷ ys) same =
     let rest = same_mapped f xs ys (λ k. same (suc k)) in
     λ i. first i ∷ rest i
 
--- The rooms after a tick have the names and grounds of those before.
+-- The rooms after a ruled tick have the names and grounds of those before.
+pub grounds_ruled : (before after : Stored) (list : List Intent) → (world_of after).rooms ≡ (ruled book crossed (world_of before) list).rooms → map ground_of before.rooms ≡ map ground_of after.rooms
+grounds_ruled before after list is = same_mapped ground_of before.rooms after.rooms (λ k.
+    sym (ground_at before k) ∙ sym (ruled_named (world_of before) list k) ∙ sym (ap (λ (rooms : Frames). option_map framed (get rooms k)) is) ∙ ground_at after k)
+
+-- So have those after a tick of a run.
 pub grounds_stay : (before after : Stored) (runs : List PlayerRun) → world_of after ≡ next_world (world_of before) runs → map ground_of before.rooms ≡ map ground_of after.rooms
-grounds_stay before after runs is = same_mapped ground_of before.rooms after.rooms (λ k.
-    sym (ground_at before k) ∙ sym (ruled_named (world_of before) (intents_of runs) k) ∙ sym (ap (λ (w : World). at_index w k) is) ∙ ground_at after k)
+grounds_stay before after runs is = grounds_ruled before after (intents_of runs) (ap (λ (w : World). w.rooms) is)

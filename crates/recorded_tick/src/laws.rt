@@ -16,8 +16,8 @@ ghost use Rattle.upload_stream.specs.Streams.{Upload};
 ghost use Rattle.world_journal.specs.Journals.{IsCourse, MayFollow};
 
 /// Says of a tick of what players' modules emit, from a world that can be hosted and in which nobody has too
-/// many sites: its record may stand behind the world before, and leads to the world after. It does nothing when
-/// it runs.
+/// many sites: its record may stand behind the world before, and leads to the world after. It does nothing
+/// when it runs.
 pub fn records_may_stand()
     ensures stands { (before after : Held) (uploads : List Upload) (judged : List UploadEntry)
         (runs : List PlayerRun) (entry : TickRecord)

@@ -8,7 +8,7 @@ use Rattle.tick_journal.specs.declared.tick_record.TickRecord.{TickRecord}
 use Rattle.tick_journal.proofs.BaseContents.{as_read_same}
 use Rattle.world_io.specs.Causes.{Rose}
 use Rattle.world_journal.specs.Faults.{FailsAt}
-use Rattle.world_journal.specs.Journals.{IsJournal}
+use Rattle.world_journal.specs.Journals.{IsJournal, IsWholeJournal}
 use Rattle.world_rules.specs.Sound.{IsSound}
 use Rattle.world_rules.specs.World.{World, world_of}
 use Rattle.world_form.specs.declared.fault.WorldFault.{WorldFault}
@@ -89,10 +89,10 @@ module _ (words : List (List ℕ)) (old new : Outside) where
         follow = subst (λ (s : State). Follow stream s (map shown steps)) start (follow_shown stream first steps follow);
       }
 
-      kept : IfSome new.disk (IsJournal (world_as_read world) (entries ++ held.recorded_of steps)) → Keeps words old new (world_of world) entries (map shown steps)
+      kept : IfSome new.disk (IsWholeJournal (world_as_read world) (entries ++ held.recorded_of steps)) → Keeps words old new (world_of world) entries (map shown steps)
       kept is =
-          subst (λ (b : Stored). IfSome new.disk (IsJournal b (entries ++ recorded_of (map shown steps)))) (sym base_is)
-          (subst (λ (l : List TickRecord). IfSome new.disk (IsJournal (world_as_read world) (entries ++ l))) (sym (records_shown steps)) is)
+          subst (λ (b : Stored). IfSome new.disk (IsWholeJournal b (entries ++ recorded_of (map shown steps)))) (sym base_is)
+          (subst (λ (l : List TickRecord). IfSome new.disk (IsWholeJournal (world_as_read world) (entries ++ l))) (sym (records_shown steps)) is)
 
       given : Appends old.written new.written (held.output first.world steps) → Appends old.written new.written (output (start_of words old new (world_of world) entries) (map shown steps))
       given is = subst (λ (s : State). Appends old.written new.written (output s.world (map shown steps))) start (output_left stream first steps follow old.written new.written is)
@@ -177,6 +177,7 @@ module _ (words : List (List ℕ)) (old new : Outside) where
   ]
   ends_as (statuses.Refused refusal) h = h.only
   ends_as (statuses.NoSuchTick first last) h = h.only
+  ends_as (statuses.Differs tick room at kept ruled) h = h.only
   ends_as statuses.NoJournal h = h.only
 
 pub stored_ends : (words : List (List ℕ)) (old new : Outside) (status : Status) → IsStored words old new status → Ends words old new status

@@ -2,7 +2,9 @@ pub mod LinesSums
 pub mod LinesTexts
 pub mod RunsLists
 pub mod Asked
+pub mod Demonstrates
 pub mod Shows
+pub mod Replays
 pub mod Checked
 pub mod WorldFaults
 pub mod Hosts

@@ -13,11 +13,11 @@ use Rattle.hosted_tick.specs.Hosting.{Held, IsHosted, state_of}
 use Rattle.record_follows.specs.Courses.{modules_after, world_after}
 use Rattle.record_follows.specs.Follows.{after}
 use Rattle.record_follows.proofs.Steps.{world_after_one}
-use Rattle.world_journal.specs.Journals.{HasJournal, IsJournal, MayFollow}
+use Rattle.world_journal.specs.Journals.{HasJournal, IsWholeJournal, MayFollow}
 use Rattle.world_journal.specs.declared.journal.Journal.{Journal}
 use Rattle.world_run.specs.declared.kept.Kept.{Kept}
 use Rattle.world_run.specs.inner.Held.{IsAt, IsKeptAt}
-use Rattle.world_run.proofs.RunsLists.{journal_of}
+use Rattle.world_run.proofs.RunsLists.{whole_of}
 
 -- A disk tells after a call where it told before.
 still_told : (Before After : Type 0) (seen after_seen : Option (List ℕ)) → TellsAlike seen after_seen → IfSome seen (λ bytes. Before) → (Before → After) → IfSome after_seen (λ bytes. After)
@@ -39,8 +39,8 @@ module _ (base : Stored) (entries : List TickRecord) (kept : Kept) (entry : Tick
     journal_more = still_told (HasJournal base entries kept.journal.log.gate seen moments) (HasJournal base longer gate after_seen later) seen after_seen alike start.journal (λ has. done has follows_there)
 
     -- The journal has the record.
-    pub records_one : IfSome after_seen (IsJournal base longer)
-    records_one = journal_of base longer gate after_seen later journal_more
+    pub records_one : IfSome after_seen (IsWholeJournal base longer)
+    records_one = whole_of base longer gate after_seen later journal_more
 
   -- The world after the tick stands at the journal's end.
   at_one : (hosted : Held) → after (world_as_read kept.hosted.world) (tick_as_read entry) ≡ world_as_read hosted.world

@@ -10,7 +10,8 @@ use Rattle.tick_journal.specs.declared.tick_record.TickRecord.{TickRecord}
 use Rattle.world_io.specs.Moments.{Moment}
 use Rattle.world_io.specs.Told.{AppendsPrefix}
 use Rattle.world_io.proofs.Known.{appends_more}
-use Rattle.world_journal.specs.Journals.{HasJournal, IsJournal}
+use Rattle.world_journal.specs.Journals.{HasJournal, IsJournal, IsWholeJournal}
+use Rattle.world_journal.proofs.Journals.{whole_is_journal}
 use Rattle.world_rules.proofs.Ticks.{next_world-tick}
 use Rattle.world_rules.specs.Sound.{HaveSerials}
 use Rattle.world_rules.specs.World.{world_of}
@@ -50,17 +51,23 @@ flat_more f steps step = ap (λ z. flat_map f steps ++ z) (sym (append-nil (f st
 same_bytes : (one other : List ℕ) → Some one ≡ Some other → one ≡ other
 same_bytes one other same = cc
 
--- What a disk has between calls is a journal.
-pub has_journal : (base : Stored) (entries : List TickRecord) (gate : ℕ) (bytes : List ℕ) (moments : List Moment) → HasJournal base entries gate (Some bytes) moments → IsJournal base entries bytes
-has_journal base entries gate bytes moments h = record {
+-- What a disk has between calls is a journal, and nothing more.
+has_whole : (base : Stored) (entries : List TickRecord) (gate : ℕ) (bytes : List ℕ) (moments : List Moment) → HasJournal base entries gate (Some bytes) moments → IsWholeJournal base entries bytes
+has_whole base entries gate bytes moments h = record {
+  front = h.has.front;
   contents = h.contents;
-  stand = record { front = h.has.front; spelled = h.has.spelled; rest = []; split = same_bytes bytes (h.has.front ++ 0 ∷ []) h.has.rests.read };
+  spelled = h.has.spelled;
+  split = same_bytes bytes (h.has.front ++ 0 ∷ []) h.has.rests.read;
   are = h.are;
 }
 
+pub whole_of : (base : Stored) (entries : List TickRecord) (gate : ℕ) (seen : Option (List ℕ)) (moments : List Moment) → IfSome seen (λ bytes. HasJournal base entries gate seen moments) → IfSome seen (IsWholeJournal base entries)
+whole_of base entries gate None moments h = tt
+whole_of base entries gate (Some bytes) moments h = has_whole base entries gate bytes moments h
+
 pub journal_of : (base : Stored) (entries : List TickRecord) (gate : ℕ) (seen : Option (List ℕ)) (moments : List Moment) → IfSome seen (λ bytes. HasJournal base entries gate seen moments) → IfSome seen (IsJournal base entries)
 journal_of base entries gate None moments h = tt
-journal_of base entries gate (Some bytes) moments h = has_journal base entries gate bytes moments h
+journal_of base entries gate (Some bytes) moments h = whole_is_journal base entries bytes (has_whole base entries gate bytes moments h)
 
 records_more : (entries : List TickRecord) (steps : List Step) (step : Step) → (entries ++ recorded_of steps) ++ step.recorded ∷ [] ≡ entries ++ recorded_of (steps ++ step ∷ [])
 records_more entries steps step =
@@ -111,7 +118,7 @@ module _ (seen_old : Option (List ℕ)) (moments_old : List Moment) (seen : Opti
   }
 
   pub along_part : (seen_new : Option (List ℕ)) → AppendsPrefix sink sink_new (step_lines step)
-      → ((base : Stored) (entries : List TickRecord) → IsKeptAt base entries last seen moments → IfSome seen_new (IsJournal base (entries ++ step.recorded ∷ [])))
+      → ((base : Stored) (entries : List TickRecord) → IsKeptAt base entries last seen moments → IfSome seen_new (IsWholeJournal base (entries ++ step.recorded ∷ [])))
       → (steps : List Step) × (length steps ≡ count + 1) × GrowsPart sink_old sink_new stream first.hosted steps × Continues first seen_old moments_old seen_new steps
   along_part seen_new line kept = (
     so_far.steps ++ step ∷ [],
@@ -123,7 +130,7 @@ module _ (seen_old : Option (List ℕ)) (moments_old : List Moment) (seen : Opti
       ordered = refl;
       lines = (line.0, appends_more sink_old sink sink_new (flat_map step_lines so_far.steps) (take line.0 (step_lines step)) so_far.grows.lines line.1);
     },
-    λ base entries start. subst (λ (l : List TickRecord). IfSome seen_new (IsJournal base l)) (records_more entries so_far.steps step) (kept base (entries ++ recorded_of so_far.steps) (so_far.keeps base entries start)),
+    λ base entries start. subst (λ (l : List TickRecord). IfSome seen_new (IsWholeJournal base l)) (records_more entries so_far.steps step) (kept base (entries ++ recorded_of so_far.steps) (so_far.keeps base entries start)),
   )
 
 -- The journal has the records of all steps.
@@ -132,7 +139,7 @@ pub continues : (seen_old : Option (List ℕ)) (moments_old : List Moment) (seen
     → Continues first seen_old moments_old seen steps
 continues seen_old moments_old seen moments first last steps keeps base entries start =
     let end = keeps base entries start in
-    journal_of base (entries ++ recorded_of steps) last.journal.log.gate seen moments end.journal
+    whole_of base (entries ++ recorded_of steps) last.journal.log.gate seen moments end.journal
 
 pub tick_rises : (stream : List Upload) (before : Held) (step : Step) → IsStep stream before step → step.after.world.tick ≡ before.world.tick + 1
 tick_rises stream before step is = ap (λ w. w.tick) is.made.ruled ∙ next_world-tick (world_of before.world) step.runs
@@ -180,6 +187,6 @@ leaves_start disk_old sink_old sink_new stream world entries kept seen moments s
   stood = stood;
   at_end = opened.at_end;
   follow = opened.at_end.hosted;
-  journal_is = subst (λ (l : List TickRecord). IfSome seen (IsJournal (world_as_read world) l)) (sym (append-nil entries)) (journal_of (world_as_read world) entries kept.journal.log.gate seen moments opened.journal);
+  journal_is = subst (λ (l : List TickRecord). IfSome seen (IsWholeJournal (world_as_read world) l)) (sym (append-nil entries)) (whole_of (world_as_read world) entries kept.journal.log.gate seen moments opened.journal);
   output_is = line;
 }

@@ -174,7 +174,7 @@ room_in stored index frame is = next_at stored index frame (slice_get stored.roo
 next_within : (stored : Stored) (index : ℕ) (room : Room) → HaveSerials stored.rooms → slice_get stored.rooms index ≡ Some room → room.table.next ≤ serials_bound
 next_within stored index room all is = subst (λ (r : Room). r.table.next ≤ serials_bound) (get_or_from_slice_get stored.rooms index room room is) (all index room (slice_get_within stored.rooms index room is))
 
-serials_shown : (stored : Stored) → HaveSerials stored.rooms → HasSerials (world_of stored)
+pub serials_shown : (stored : Stored) → HaveSerials stored.rooms → HasSerials (world_of stored)
 serials_shown stored all index frame is =
     let found = room_in stored index frame is in
     subst (λ (n : ℕ). n ≤ serials_bound) found.2 (next_within stored index found.0 all found.1)
@@ -235,14 +235,19 @@ many_shown steps = length-map steps shown
 pub file_listed : (world : Stored) → IsSound world → listed (world_of world) ≡ world_as_read world
 file_listed world s = listed_is world s
 
--- A file's bytes say one world, which the journal has.
+-- A file's bytes say one world,
+pub world_once : (bytes : List ℕ) (one other : World) → WorldForm bytes one → WorldForm bytes other → one ≡ other
+world_once bytes one other form also =
+    let filed : form.0 ≡ also.0 = one_world bytes form.0 also.0 form.1.0 also.1.0 in
+    form.2 ∙ (ap (λ (f : Filed). worlds.world_listed (filed_listing f)) filed ∙ sym also.2)
+
+-- which the journal has.
 pub file_read : (new : Option (List ℕ)) (bytes given : List ℕ) (found : World) (world : Stored) → IsSound world → GaveAll (Some bytes) new given → WorldForm bytes found → WorldForm given (world_of world) → listed found ≡ world_as_read world
 file_read new bytes given found world s gave form other =
     let there : WorldForm bytes (world_of world) = subst (λ (b : List ℕ). WorldForm b (world_of world)) (gave_whole new bytes given gave) other in
-    let filed : form.0 ≡ there.0 = one_world bytes form.0 there.0 form.1.0 there.1.0 in
-    ap listed (form.2 ∙ (ap (λ (f : Filed). worlds.world_listed (filed_listing f)) filed ∙ sym there.2)) ∙ file_listed world s
+    ap listed (world_once bytes found (world_of world) form there) ∙ file_listed world s
 
-read_world_of : (world : Stored) → world_of (world_as_read world) ≡ world_of world
+pub read_world_of : (world : Stored) → world_of (world_as_read world) ≡ world_of world
 read_world_of world = ap worlds.world_listed (listing_same world)
 
 pub start_is : (base : Stored) (entries : List TickRecord) (first : Held) → held.IsAt base entries first → state_of first ≡ resumed base entries

@@ -1,5 +1,6 @@
 -- How a run ends, by its status.
-use Rattle.std.specs.Prelude.{◌≡◌, ◌≢◌, ℕ, suc, ◌^◌, ◌≤◌, ◌⊎◌, List, [], ◌∷◌, ◌++◌, length, Option, Some, IfSome}
+use Rattle.std.specs.Prelude.{◌≡◌, ◌≢◌, ℕ, suc, ◌^◌, ◌≤◌, ◌⊎◌, List, [], ◌∷◌, ◌++◌, length, Option, Some}
+use Rattle.std.specs.Prelude.{IfSome}
 use Rattle.std.specs.Io.KnownBytes.{Appends}
 use Rattle.world_io.specs.Causes.{Rose}
 use Rattle.world_io.specs.Told.{AppendsPrefix}
@@ -8,11 +9,13 @@ use Rattle.world_form.specs.Files.{WorldForm}
 use Rattle.upload_stream.specs.Streams.{Upload, UploadList}
 use Rattle.tick_journal.specs.declared.tick_record.TickRecord.{TickRecord}
 use Rattle.world_journal.specs.Faults.{FailsAt}
-use Rattle.world_journal.specs.Journals.{IsJournal}
+use Rattle.world_journal.specs.Journals.{IsWholeJournal}
 use Rattle.world_run.specs.Lines.{start_line}
 use Rattle.world_run.specs.Listed.{listed}
 use Rattle.command_words.specs.Words.{AreRun, Asks, AsksAtLeast}
-use Rattle.world_run.specs.Runs.{Step, Follow, IsExhausted, last_of, output, recorded_of, resumed, step_lines, AppendsPart, ReadsWorld, ReadsFault, ReadsUploads, ReadsBad, HasOther, IsKept, Stood}
+use Rattle.world_run.specs.Runs.{Step, Follow, IsExhausted, last_of, output, recorded_of, resumed, step_lines}
+use Rattle.world_run.specs.Runs.{AppendsPart, ReadsWorld, ReadsFault, ReadsUploads, ReadsBad, HasOther}
+use Rattle.world_run.specs.Runs.{IsKept, Stood}
 use Rattle.world_run.specs.declared.status.Status.{Status}
 use Rattle.world_run.specs.declared.status.Status.TheVariants as statuses
 
@@ -53,8 +56,8 @@ module _ (words : List (List ℕ)) (old new : Outside) where
     pub disk : IsKept old.disk new.disk
     pub sink : new.written ≡ old.written
 
-  -- The inputs are a world and uploads; a journal of the world stood on the disk with these records, or none was
-  -- there; and these are ticks behind them.
+  -- The inputs are a world and uploads; a journal of the world stood on the disk with these records, or none
+  -- was there; and these are ticks behind them.
   pub record Makes (first : World) (stream : List Upload) (entries : List TickRecord)
       (steps : List Step) : Type 0 where
     pub world : ReadsWorld old.world new.world first
@@ -62,9 +65,9 @@ module _ (words : List (List ℕ)) (old new : Outside) where
     pub stood : Stood old.disk (listed first) entries
     pub follow : Follow stream (resumed (listed first) entries) steps
 
-  -- The disk has the journal of the world, with those records and the steps' behind them.
+  -- The disk has the journal of the world, with those records and the steps' behind them, and nothing more.
   abbrev pub Keeps : World → List TickRecord → List Step → Type 0
-  Keeps first entries steps = IfSome new.disk (IsJournal (listed first) (entries ++ recorded_of steps))
+  Keeps first entries steps = IfSome new.disk (IsWholeJournal (listed first) (entries ++ recorded_of steps))
 
   -- the world that the run starts from
   abbrev pub start_of : World → List TickRecord → World
@@ -86,8 +89,8 @@ module _ (words : List (List ℕ)) (old new : Outside) where
 
   -- Some ticks were made of a world, of uploads and of a journal, of which this is known.
   abbrev pub Some_made : (World → List Upload → List TickRecord → List Step → Type 0) → Type 0
-  Some_made Known = (first : World) × (stream : List Upload) × (entries : List TickRecord) × (steps : List Step)
-      × Known first stream entries steps
+  Some_made Known = (first : World) × (stream : List Upload) × (entries : List TickRecord)
+      × (steps : List Step) × Known first stream entries steps
 
   -- At least so many ticks were asked for.
   abbrev pub Asked : List Step → Type 0
@@ -120,7 +123,8 @@ module _ (words : List (List ℕ)) (old new : Outside) where
   -- The journal on the disk begins with another world than the file's.
   Ends (statuses.OtherWorld at kept given) =
       AreRun words × AcceptsUploads
-      × ((first : World) × ReadsWorld old.world new.world first × IfSome old.disk (HasOther at kept given first))
+      × ((first : World) × ReadsWorld old.world new.world first
+      × IfSome old.disk (HasOther at kept given first))
       × IsUnprinted
   -- The disk failed: nothing was printed, or the lines of some ticks. Nothing is said of its bytes.
   Ends statuses.DiskFault =
@@ -142,6 +146,7 @@ module _ (words : List (List ℕ)) (old new : Outside) where
       IsUnprinted ⊎ Some_made (λ first stream entries steps. Asked steps × Leaves first stream entries steps)
   Ends (statuses.Refused refusal) = ⊥
   Ends (statuses.NoSuchTick first last) = ⊥
+  Ends (statuses.Differs tick room at kept ruled) = ⊥
   Ends statuses.NoJournal = ⊥
 
   -- No failure is passed over: a count stays but where its fault is answered, and none falls.
@@ -182,7 +187,8 @@ module _ (words : List (List ℕ)) (old new : Outside) where
       (status ≡ statuses.Done) ⊎ (status ≡ statuses.Memory)
       ⊎ ((index : ℕ) × (status ≡ statuses.IdsExhausted index))
 
-  -- A run ends so: as its status says; with good inputs and no fault it is whole; and no failure is passed over.
+  -- A run ends so: as its status says; with good inputs and no fault it is whole; and no failure is passed
+  -- over.
   pub record Runs (status : Status) : Type 0 where
     pub ends : Ends status
     pub whole : IsGood → IsWhole status

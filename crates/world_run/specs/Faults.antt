@@ -85,6 +85,12 @@ abbrev pub other_world_text : ℕ → Option ℕ → Option ℕ → List ℕ
 other_world_text at kept given =
     codes "OtherWorld" ++ and_number at ++ codes " " ++ byte_text kept ++ codes " " ++ byte_text given
 
+-- where a world that was recorded and one that is ruled differ first, and the two bytes
+abbrev pub differs_text : ℕ → ℕ → ℕ → Option ℕ → Option ℕ → List ℕ
+differs_text tick room at kept ruled =
+    codes "Differs" ++ and_number tick ++ and_number room ++ and_number at ++ codes " " ++ byte_text kept
+    ++ codes " " ++ byte_text ruled
+
 -- a fault of a world file: its name, and its values each after a space
 abbrev pub world_fault_text : WorldFault → List ℕ
 world_fault_text faults.TooLong = codes "TooLong"
@@ -109,6 +115,7 @@ status_number (statuses.IdsExhausted index) = 10
 status_number statuses.Memory = 11
 status_number (statuses.Refused refusal) = 12
 status_number (statuses.NoSuchTick first last) = 13
+status_number (statuses.Differs tick room at kept ruled) = 14
 status_number statuses.NoJournal = 15
 
 abbrev pub status_text : Status → List ℕ
@@ -125,6 +132,7 @@ status_text (statuses.IdsExhausted index) = codes "IdsExhausted" ++ and_number i
 status_text statuses.Memory = codes "Memory"
 status_text (statuses.Refused refusal) = codes "Refused " ++ refusal_name refusal
 status_text (statuses.NoSuchTick first last) = codes "NoSuchTick" ++ and_number first ++ and_number last
+status_text (statuses.Differs tick room at kept ruled) = differs_text tick room at kept ruled
 status_text statuses.NoJournal = codes "NoJournal"
 
 -- the line `fault N TEXT` of a status

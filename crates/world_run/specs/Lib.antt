@@ -5,5 +5,7 @@ pub mod Runs
 pub mod Ends
 pub mod Checks
 pub mod Made
+pub mod Demo
 pub mod Shown
+pub mod Replayed
 pub mod inner

@@ -1,5 +1,6 @@
 -- The lines that a run prints.
-use Rattle.std.specs.Prelude.{ℕ, List, [], ◌++◌, ◌==◌, if◌then◌else◌, length, decimal, codes, option_map, unwrap_or}
+use Rattle.std.specs.Prelude.{ℕ, List, [], ◌++◌, ◌==◌, if◌then◌else◌, length, decimal, codes, option_map}
+use Rattle.std.specs.Prelude.{unwrap_or}
 use Rattle.std.specs.List.{flat_map, sum_by}
 use Rattle.object_store.specs.Stored.{Stored}
 use Rattle.intent_book.specs.Refusals.{refusal_name, refusal_of}

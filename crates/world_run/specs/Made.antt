@@ -20,8 +20,8 @@ use Rattle.world_run.specs.declared.status.Status.TheVariants as statuses
 abbrev pub IsPlayerText : List ℕ → Type 0
 IsPlayerText text = SpellsShortest Spells text player_module
 
--- The bytes are a stream in which each player of a world of so many rooms uploads such a text, for tick 0; and
--- that is so for whatever is such a text.
+-- The bytes are a stream in which each player of a world of so many rooms uploads such a text, for tick 0;
+-- and that is so for whatever is such a text.
 pub record AreUploads (rooms : ℕ) (bytes : List ℕ) : Type 0 where
   pub found : (text : List ℕ) × IsPlayerText text × UploadList bytes (uploads text rooms)
   pub only : (text : List ℕ) → IsPlayerText text → UploadList bytes (uploads text rooms)

@@ -1,5 +1,6 @@
 -- What a run makes of its inputs: the worlds of its ticks, their records, and the lines.
-use Rattle.std.specs.Prelude.{◌≡◌, ◌≢◌, ℕ, ◌+◌, ◌^◌, ◌<◌, ◌≤◌, ◌⊎◌, List, [], ◌∷◌, ◌++◌, length, map, take, slice_get, Option, Some, None, IfSome, ⊤}
+use Rattle.std.specs.Prelude.{◌≡◌, ◌≢◌, ℕ, ◌+◌, ◌^◌, ◌<◌, ◌≤◌, ◌⊎◌, List, [], ◌∷◌, ◌++◌, length, map, take}
+use Rattle.std.specs.Prelude.{slice_get, Option, Some, None, IfSome, ⊤}
 use Rattle.std.specs.List.{flat_map}
 use Rattle.std.specs.Io.KnownBytes.{Appends}
 use Rattle.std.specs.FinMap.{empty, get}
@@ -61,7 +62,8 @@ pub record IsExhausted (world : World) (index : ℕ) : Type 0 where
 -- changed.
 pub record IsStep (stream : List Upload) (before : State) (step : Step) : Type 0 where
   pub made : Next before (uploads_at before.world.tick stream) step.uploads step.runs step.after
-  pub recorded : IsRecordOf (listed before.world) (listed step.after.world) step.uploads step.runs step.recorded
+  pub recorded : IsRecordOf (listed before.world) (listed step.after.world) step.uploads step.runs
+      step.recorded
 
 -- Each step is the tick after the world before it, in which no room has used up its serials.
 abbrev pub Follow : List Upload → State → List Step → Type 0
@@ -110,14 +112,14 @@ ReadsBad old new at =
 
 -- ---- what is on the disk
 
--- Where the disk told its bytes, nothing was ever committed on it, and there is no record; or a journal of this
--- world stood there with these records.
+-- Where the disk told its bytes, nothing was ever committed on it, and there is no record; or a journal of
+-- this world stood there with these records.
 abbrev pub Stood : Option (List ℕ) → Stored → List TickRecord → Type 0
 Stood None base entries = ⊤
 Stood (Some bytes) base entries = (IsEmpty bytes × (entries ≡ [])) ⊎ IsJournal base entries bytes
 
--- The disk is as it was, where it tells; or a journal stood there and stands there still, and what followed it may
--- be cut off.
+-- The disk is as it was, where it tells; or a journal stood there and stands there still, and what followed
+-- it may be cut off.
 abbrev pub IsKept : Option (List ℕ) → Option (List ℕ) → Type 0
 IsKept old new = (new ≡ old) ⊎ ((base : Stored) × (entries : List TickRecord)
     × IfSome old (IsJournal base entries) × IfSome new (IsJournal base entries))
@@ -129,7 +131,8 @@ pub record DifferAt (at : ℕ) (kept given : Option ℕ) (one other : List ℕ) 
   pub given_is : slice_get other at ≡ given
   pub differ : kept ≢ given
 
--- A journal of another world stands on the disk: its base content differs from the file's, first at the place.
+-- A journal of another world stands on the disk: its base content differs from the file's, first at the
+-- place.
 pub record HasOther (at : ℕ) (kept given : Option ℕ) (world : World) (bytes : List ℕ) : Type 0 where
   pub base : Stored
   pub entries : List TickRecord

@@ -13,8 +13,8 @@ use Rattle.world_journal.specs.Journals.{IsCourse, IsJournal}
 use Rattle.world_run.specs.declared.status.Status.{Status}
 use Rattle.world_run.specs.declared.status.Status.TheVariants as statuses
 
--- Where the disk tells its bytes, they are a journal, and these bytes are the text of its world of the tick and
--- a line feed.
+-- Where the disk tells its bytes, they are a journal, and these bytes are the text of its world of the tick
+-- and a line feed.
 pub record IsShown (disk : Option (List ℕ)) (tick : ℕ) (bytes : List ℕ) : Type 0 where
   pub base : Stored
   pub entries : List TickRecord
@@ -34,9 +34,11 @@ IsOfTool statuses.ReadFault = Unit {0}
 IsOfTool statuses.WriteFault = Unit {0}
 IsOfTool statuses.DiskFault = Unit {0}
 IsOfTool (statuses.NotAJournal at) = Unit {0}
+IsOfTool (statuses.IdsExhausted index) = Unit {0}
 IsOfTool statuses.Memory = Unit {0}
 IsOfTool (statuses.Refused refusal) = Unit {0}
 IsOfTool (statuses.NoSuchTick first last) = Unit {0}
+IsOfTool (statuses.Differs tick room at kept ruled) = Unit {0}
 IsOfTool statuses.NoJournal = Unit {0}
 IsOfTool status = ⊥
 

@@ -1,12 +1,14 @@
 // The reading of a run's inputs, in their order: the words, the world file, the upload stream.
-ghost use Rattle.std.specs.Prelude.{◌≡◌, ◌≢◌, ◌⊎◌, ℕ, ◌+◌, ◌^◌, ◌≤◌, List, length, map, string_bytes, Some, IfOk, IfErr, OnOk};
+ghost use Rattle.std.specs.Prelude.{◌≡◌, ◌≢◌, ◌⊎◌, ℕ, ◌+◌, ◌^◌, ◌≤◌, List, length, map, string_bytes, Some};
+ghost use Rattle.std.specs.Prelude.{IfOk, IfErr, OnOk};
 ghost use Rattle.world_io.specs.Causes.{Rose};
 ghost use Rattle.world_io.specs.Told.{GaveAll, Gave};
 ghost use Rattle.world_rules.specs.World.{World as GameWorld, world_of};
 ghost use Rattle.world_form.specs.Files.{WorldForm};
 ghost use Rattle.world_form.specs.declared.fault.WorldFault.{WorldFault};
 ghost use Rattle.world_run.specs.inner.Held.{HaveTiles, MayStart};
-ghost use Rattle.world_run.specs.inner.Stages.{status_of_fault, IsOfWords, IsOfWorld, IsOfUploads, IsOfInputs, IsPastWorld};
+ghost use Rattle.world_run.specs.inner.Stages.{status_of_fault, IsOfWords, IsOfWorld, IsOfUploads};
+ghost use Rattle.world_run.specs.inner.Stages.{IsOfInputs, IsPastWorld};
 ghost use Rattle.command_words.specs.Words.{AreRun, Asks};
 ghost use Rattle.world_run.specs.Runs.{ReadsWorld, ReadsFault, IsPastWords};
 
@@ -104,9 +106,9 @@ fn asked_ticks(alloc: Global, words: &[String]) -> Result<u64, Status>
     }
 }
 
-// The world of a file.
+/// The world of a file.
 #[tactic(auto, using(crate::proofs::WorldFaults::of_faults))]
-fn load_world<W: Source>(alloc: Global, source: &mut W) -> Result<World, Status>
+pub(crate) fn load_world<W: Source>(alloc: Global, source: &mut W) -> Result<World, Status>
     ensures found { IfOk result
         (λ world. ReadsWorld (W.left source.old) (W.left source.new) (world_of world)) }
     ensures starts { IfOk result MayStart }

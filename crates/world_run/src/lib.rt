@@ -1,11 +1,13 @@
 // The commands of the program, from the bytes of their inputs to the bytes that they write.
 #![tactic(auto)]
 
+mod demo;
 mod inputs;
 mod kept;
 mod lines;
 mod made;
 mod opening;
+mod replayed;
 mod run;
 mod shown;
 mod status;

@@ -2,7 +2,11 @@
 ghost use Rattle.std.specs.Prelude.{◌≡◌, ◌<◌, ◌^◌, ◌++◌, length, string_bytes, IfOk, OnOk};
 ghost use Rattle.std.specs.List.{flat_map, sum_by};
 ghost use Rattle.world_rules.specs.Tick.{intents_of};
-ghost use Rattle.world_run.specs.Lines.{start_line as start_line_of, upload_line as upload_line_of, result_text as result_text_of, run_line as run_line_of, outcome_text as outcome_text_of, tick_line as tick_line_of, object_count as object_count_of, total_energy as total_energy_of, tick_lines};
+ghost use Rattle.world_run.specs.Lines.{start_line as start_line_of, upload_line as upload_line_of};
+ghost use Rattle.world_run.specs.Lines.{result_text as result_text_of, run_line as run_line_of};
+ghost use Rattle.world_run.specs.Lines.{outcome_text as outcome_text_of, tick_line as tick_line_of};
+ghost use Rattle.world_run.specs.Lines.{object_count as object_count_of, total_energy as total_energy_of};
+ghost use Rattle.world_run.specs.Lines.{tick_lines};
 
 use hosted_tick::Ticked;
 use intent_book::{PlayerRun, Refusal, RunOutcome};

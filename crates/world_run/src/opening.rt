@@ -1,5 +1,6 @@
 // The opening of a journal: one that stands is gone on with, and else one is begun.
-ghost use Rattle.std.specs.Prelude.{◌≡◌, ◌≢◌, ◌⊎◌, ℕ, ◌≤◌, ◌<◌, ◌^◌, List, [], slice_get, Option, Some, IfOk, IfErr, IfSome, IfNone, OnOk};
+ghost use Rattle.std.specs.Prelude.{◌≡◌, ◌≢◌, ◌⊎◌, ℕ, ◌≤◌, ◌<◌, ◌^◌, List, [], slice_get, Option, Some, IfOk};
+ghost use Rattle.std.specs.Prelude.{IfErr, IfSome, IfNone, OnOk};
 ghost use Rattle.frame_log.specs.Frames.{IsEmptyDisk};
 ghost use Rattle.object_store.specs.Stored.{Stored};
 ghost use Rattle.tick_journal.specs.BaseForms.{HasBaseForm, world_as_read};
@@ -32,8 +33,8 @@ pub(crate) struct Opening {
     pub line: Vec<u8>,
 }
 
-/// Opens the journal of a disk for the world of a file: it is begun on a disk on which nothing was committed, and
-/// else gone on with, where it begins with this world.
+/// Opens the journal of a disk for the world of a file: it is begun on a disk on which nothing was committed,
+/// and else gone on with, where it begins with this world.
 pub(crate) fn open_journal<D: Disk>(
     alloc: Global,
     world: World,
@@ -195,15 +196,15 @@ fn same_base(alloc: Global, base: &World, world: &World) -> Result<(), Status>
     }
 }
 
-// The byte at a place, where there is one.
-fn byte_at(bytes: &[u8], place: usize) -> Option<u8>
+/// The byte at a place, where there is one.
+pub(crate) fn byte_at(bytes: &[u8], place: usize) -> Option<u8>
     ensures { result ≡ slice_get bytes.now place }
 {
     bytes.get(place).copied()
 }
 
-// The first place at which contents differ, or at which one of them ends.
-fn first_difference(one: &[u8], other: &[u8]) -> Option<usize>
+/// The first place at which bytes differ, or at which one of them ends.
+pub(crate) fn first_difference(one: &[u8], other: &[u8]) -> Option<usize>
     ensures some { IfSome result
         (λ at. DifferAt at (slice_get one.now at) (slice_get other.now at) one.now other.now) }
     ensures none { IfNone result (one.now ≡ other.now) }

@@ -1,5 +1,6 @@
 // A run of ticks, from the bytes of its inputs to the bytes that it writes.
-ghost use Rattle.std.specs.Prelude.{◌≡◌, ◌≢◌, ◌⊎◌, ℕ, suc, ◌^◌, ◌≤◌, List, length, map, string_bytes, Option, Some, IfSome};
+ghost use Rattle.std.specs.Prelude.{◌≡◌, ◌≢◌, ◌⊎◌, ℕ, suc, ◌^◌, ◌≤◌, List, length, map, string_bytes, Option};
+ghost use Rattle.std.specs.Prelude.{Some, IfSome};
 ghost use Rattle.object_store.specs.Stored.{Stored};
 ghost use Rattle.world_io.specs.Causes.{Rose};
 ghost use Rattle.world_rules.specs.Sound.{IsSound};
@@ -14,7 +15,8 @@ ghost use Rattle.world_journal.specs.Journals.{IsJournal, IsQuiet};
 ghost use Rattle.world_run.specs.inner.Held.{Step, IsExhausted, Leaves, LeavesPart, Prints, last_of};
 ghost use Rattle.command_words.specs.Words.{AreRun, Asks, AsksAtLeast};
 ghost use Rattle.world_run.specs.Listed.{listed};
-ghost use Rattle.world_run.specs.Runs.{ReadsWorld, ReadsFault, ReadsUploads, ReadsBad, DifferAt, IsKept, IsPastWords, Stood};
+ghost use Rattle.world_run.specs.Runs.{ReadsWorld, ReadsFault, ReadsUploads, ReadsBad, DifferAt, IsKept};
+ghost use Rattle.world_run.specs.Runs.{IsPastWords, Stood};
 ghost use Rattle.world_run.specs.inner.Stages.{IsOfRun, IsPastWorld, IsPastUploads, IsBeforeJournal};
 ghost use Rattle.world_run.specs.Ends.{Runs};
 
@@ -27,11 +29,11 @@ use world_io::{Disk, Sink, Source};
 
 /// Runs N ticks on the world of a file, for the words `run WORLD UPLOADS JOURNAL --ticks N`.
 ///
-/// The whole world file is read first, then the whole upload stream; then the journal on the disk, which has to
-/// begin with the world of the file, and which the run goes on with; where there is none it is begun. The sink
-/// gets the opening line. In each tick the uploads of its number are judged, each player with a module runs it on
-/// what he sees of the world, and what the runs want is ruled. The tick is recorded before its lines are
-/// printed.
+/// The whole world file is read first, then the whole upload stream; then the journal on the disk, which has
+/// to begin with the world of the file, and which the run goes on with; where there is none it is begun. The
+/// sink gets the opening line. In each tick the uploads of its number are judged, each player with a module
+/// runs it on what he sees of the world, and what the runs want is ruled. The tick is recorded before its
+/// lines are printed.
 pub fn run_alone<W: Source, U: Source, O: Sink, D: Disk>(
     alloc: Global,
     words: &[String],
@@ -76,8 +78,8 @@ fn run_stored<W: Source, U: Source, O: Sink, D: Disk>(
     disk: &mut D,
 ) -> Status
     requires { IsQuiet (D.seen disk.old) (D.moments disk.old) }
-    // All was done: the journal has the file's world, the records that it had, and one for each tick, with what
-    // each player's module emits of what he sees, and the lines were printed.
+    // All was done: the journal has the file's world, the records that it had, and one for each tick, with
+    // what each player's module emits of what he sees, and the lines were printed.
     ensures done { result ≡ Status.Done → (first : Stored) × (stream : List UploadOfStream)
         × (steps : List Step)
         × Asks (map string_bytes words.now) (length steps)

@@ -1,6 +1,8 @@
 // How a run ends.
 ghost use Rattle.std.specs.Prelude.{◌≡◌, string_bytes, IfOk};
-ghost use Rattle.world_run.specs.Faults.{byte_text as text_of_byte, field_name, kind_name, other_world_text, rule_name, world_fault_text, status_number, status_text, fault_text};
+ghost use Rattle.world_run.specs.Faults.{byte_text as text_of_byte, differs_text, field_name, kind_name};
+ghost use Rattle.world_run.specs.Faults.{other_world_text, rule_name, world_fault_text, status_number};
+ghost use Rattle.world_run.specs.Faults.{status_text, fault_text};
 
 use game_tables::Kind;
 use player_run::Refusal;
@@ -27,8 +29,8 @@ pub enum Status {
     DiskFault,
     /// 8: the journal is refused, at this place.
     NotAJournal(u64),
-    /// 9: the journal begins with another world than that of the file. Their base contents differ first at this
-    /// place, where they have these bytes; a content that ends there has none.
+    /// 9: the journal begins with another world than that of the file. Their base contents differ first at
+    /// this place, where they have these bytes; a content that ends there has none.
     OtherWorld {
         at: u64,
         kept: Option<u8>,
@@ -45,6 +47,15 @@ pub enum Status {
     NoSuchTick {
         first: u64,
         last: u64,
+    },
+    /// 14: the record of this tick is not what the rules make of the world before it. The byte forms of this
+    /// room differ first at this place, where they have these bytes; a form that ends there has none.
+    Differs {
+        tick: u64,
+        room: u32,
+        at: u64,
+        kept: Option<u8>,
+        ruled: Option<u8>,
     },
     /// 15: there is no journal: nothing was ever recorded on the disk.
     NoJournal,
@@ -69,6 +80,7 @@ impl Status {
             Status::Memory => 11,
             Status::Refused(_) => 12,
             Status::NoSuchTick { .. } => 13,
+            Status::Differs { .. } => 14,
             Status::NoJournal => 15,
         }
     }
@@ -107,6 +119,13 @@ impl Status {
                 format!(in alloc; "Refused {name}")
             }
             Status::NoSuchTick { first, last } => format!(in alloc; "NoSuchTick {first} {last}"),
+            Status::Differs {
+                tick,
+                room,
+                at,
+                kept,
+                ruled,
+            } => differs(alloc, tick, room, at, kept, ruled),
             Status::NoJournal => String::from_str(alloc, "NoJournal"),
         }
     }
@@ -124,6 +143,23 @@ fn other_world(
     let one = byte_text(alloc, kept)?;
     let other = byte_text(alloc, given)?;
     let text = format!(in alloc; "OtherWorld {at} {one} {other}")?;
+    Ok(text)
+}
+
+// That a record is not what the rules make: where, and the two bytes.
+fn differs(
+    alloc: Global,
+    tick: u64,
+    room: u32,
+    at: u64,
+    kept: Option<u8>,
+    ruled: Option<u8>,
+) -> Result<String, AllocError>
+    ensures { IfOk result (λ text. string_bytes text ≡ differs_text tick room at kept ruled) }
+{
+    let one = byte_text(alloc, kept)?;
+    let other = byte_text(alloc, ruled)?;
+    let text = format!(in alloc; "Differs {tick} {room} {at} {one} {other}")?;
     Ok(text)
 }
 

@@ -1,5 +1,6 @@
 // The ticks of a run, each recorded before its lines are printed.
-ghost use Rattle.std.specs.Prelude.{◌≡◌, ◌≢◌, ◌⊎◌, ℕ, ◌+◌, ◌-◌, ◌^◌, ◌<◌, ◌≤◌, false, List, [], ◌∷◌, ◌++◌, length, map, Option, Some, IfOk, IfErr, IfSome, IfNone, OnOk, suc};
+ghost use Rattle.std.specs.Prelude.{◌≡◌, ◌≢◌, ◌⊎◌, ℕ, ◌+◌, ◌-◌, ◌^◌, ◌<◌, ◌≤◌, false, List, [], ◌∷◌, ◌++◌};
+ghost use Rattle.std.specs.Prelude.{length, map, Option, Some, IfOk, IfErr, IfSome, IfNone, OnOk, suc};
 ghost use Rattle.std.specs.List.Sorted.{IsNonDecreasingBy};
 ghost use Rattle.std.specs.Io.KnownBytes.{Appends};
 ghost use Rattle.frame_log.specs.Frames.{IsLog};
@@ -18,12 +19,14 @@ ghost use Rattle.tick_journal.specs.Contents.{base_content};
 ghost use Rattle.tick_journal.specs.TickForms.{tick_as_read};
 ghost use Rattle.tick_journal.specs.declared.tick_record.TickRecord.{TickRecord as Recorded};
 ghost use Rattle.world_journal.specs.Faults.{FailsAt};
-ghost use Rattle.world_journal.specs.Journals.{HasJournal, IsJournal, IsQuiet, MayFollow};
+ghost use Rattle.world_journal.specs.Journals.{HasJournal, IsJournal, IsQuiet, IsWholeJournal, MayFollow};
 ghost use Rattle.record_follows.specs.Follows.{after};
 ghost use Rattle.world_run.specs.Lines.{tick_lines};
 ghost use Rattle.world_run.specs.Runs.{DifferAt, IsKept, Stood};
-ghost use Rattle.world_run.specs.inner.Held.{Step, step_lines, IsAt, IsExhausted, IsKeptAt, IsStep, Leaves, LeavesPart, MayStart, Prints, last_of};
-ghost use Rattle.world_run.specs.inner.Stages.{Continues, IsOfRecord, IsOfTick, IsOfTicks, IsOfJournal, Grows, GrowsPart};
+ghost use Rattle.world_run.specs.inner.Held.{Step, step_lines, IsAt, IsExhausted, IsKeptAt, IsStep, Leaves};
+ghost use Rattle.world_run.specs.inner.Held.{LeavesPart, MayStart, Prints, last_of};
+ghost use Rattle.world_run.specs.inner.Stages.{Continues, IsOfRecord, IsOfTick, IsOfTicks, IsOfJournal};
+ghost use Rattle.world_run.specs.inner.Stages.{Grows, GrowsPart};
 
 use crate::kept::Kept;
 use crate::lines::step_lines as lines_of;
@@ -154,8 +157,8 @@ fn run_ticks<O: Sink, D: Disk>(
     Status::Done
 }
 
-// The index of the first room that has used up its serials.
-fn exhausted_room(world: &World) -> Option<u32>
+/// The index of the first room that has used up its serials.
+pub(crate) fn exhausted_room(world: &World) -> Option<u32>
     ensures some { IfSome result (IsExhausted world.now) }
     ensures none { IfNone result (HaveSerials world.now.rooms) }
 {
@@ -207,7 +210,7 @@ fn one_tick<O: Sink, D: Disk>(
         × AppendsPrefix (O.written out.old) (O.written out.new) (step_lines step)
         × ((base : Stored) (entries : List Recorded)
         → IsKeptAt base entries kept (D.seen disk.old) (D.moments disk.old)
-        → IfSome (D.seen disk.new) (IsJournal base (entries ++ step.recorded ∷ [])))) }
+        → IfSome (D.seen disk.new) (IsWholeJournal base (entries ++ step.recorded ∷ [])))) }
     ensures write_fault { IfErr result (λ status. status ≡ Status.WriteFault
         → Rose (O.faults out.old) (O.faults out.new)) }
     ensures steady { OnOk result ((O.faults out.new ≡ O.faults out.old)

@@ -7,15 +7,21 @@ ghost use Rattle.tick_journal.specs.declared.tick_record.TickRecord.{TickRecord}
 ghost use Rattle.world_io.specs.Causes.{Rose};
 ghost use Rattle.world_io.specs.Told.{AppendsPrefix};
 ghost use Rattle.world_journal.specs.Journals.{IsJournal};
-ghost use Rattle.world_run.specs.Checks.{Checks, answer_line, ReadsAnswer, IsAnswer, IsBeforeLine, IsOfCheck, IsOfReading};
+ghost use Rattle.world_run.specs.Checks.{Checks, answer_line, ReadsAnswer, IsAnswer, IsBeforeLine, IsOfCheck};
+ghost use Rattle.world_run.specs.Checks.{IsOfReading};
 ghost use Rattle.world_run.specs.Runs.{IsPastWords};
+ghost use Rattle.world_run.specs.Demo.{EndsDemonstrating};
 ghost use Rattle.world_run.specs.Made.{EndsWriting, IsMade};
 ghost use Rattle.world_run.specs.Shown.{EndsShowing, IsOfTool};
-ghost use Rattle.command_words.specs.Words.{AreCheck, AreGen, AreShow, AsksFor, IsGen};
+ghost use Rattle.world_run.specs.Replayed.{AllRuled, EndsReplaying};
+ghost use Rattle.command_words.specs.Words.{AreCheck, AreDemo, AreGen, AreOfTool, AreReplay, AreShow};
+ghost use Rattle.command_words.specs.Words.{AsksFor, IsDemo, IsGen};
 ghost use Rattle.command_words.specs.declared.command.GenPart.{GenPart as Part};
 ghost use Rattle.world_run.specs.declared.status.Status.{Status as StatusView};
 
+use crate::demo::run_in_memory;
 use crate::made::make_part;
+use crate::replayed::replay_journal;
 use crate::shown::show_tick;
 use crate::status::Status;
 use command_words::{Command, WordsFault, read_words};
@@ -24,13 +30,17 @@ use std::alloc::{AllocError, Global};
 use upload_stream::most_module_bytes;
 use world_io::{Disk, ReadStop, Sink, Source, read_all, write_all};
 
-/// Runs a command that keeps nothing: `check MODULE`, `gen SEED ROOMS PART` or `show JOURNAL TICK`.
+/// Runs a command that keeps nothing: `check MODULE`, `gen SEED ROOMS PART`, `demo SEED ROOMS TICKS`,
+/// `show JOURNAL TICK` or `replay JOURNAL`.
 ///
 /// For a check the module is read to its end, or to one byte past 1 MiB. What is printed is one line:
-/// `accepted` where the bytes spell a valid module without floats, within the limits, that links to the
-/// host calls, and else `refused` and why. For a gen nothing is read, and the part is written as it is.
-/// For a show the journal on the disk is read, and the text of the tick's world is written, and a line
-/// feed. The disk is left as it is.
+/// `accepted` where the bytes spell a valid module without floats, within the limits, that links to the host
+/// calls, and else `refused` and why. For a gen nothing is read, and the part is written as it is. For a demo
+/// nothing is read: both parts are made, and so many ticks are run on them in memory; the last line of the
+/// run is written, and `journal` and the length of its journal. For a show the journal on the disk is read,
+/// and the text of the tick's world is written, and a line feed. For a replay the journal on the disk is
+/// read, each of its records is ruled again from the world before it, and one line says how many there are.
+/// The disk is left as it is.
 pub fn tool_main<S: Source, O: Sink, D: Disk>(
     alloc: Global,
     words: &[String],
@@ -54,11 +64,19 @@ pub fn tool_main<S: Source, O: Sink, D: Disk>(
         → EndsShowing tick (D.seen disk.old) (D.faults disk.old) (D.faults disk.new)
         (O.written out.old) (O.written out.new) result }
 
-    // The words are refused exactly where they are none of a check, of a gen or of a show.
-    ensures usage { result ≡ Status.Usage → (AreCheck (map string_bytes words.now) → ⊥)
-        × (AreGen (map string_bytes words.now) → ⊥) × (AreShow (map string_bytes words.now) → ⊥) }
-    ensures words { IsPastWords result → AreCheck (map string_bytes words.now)
-        ⊎ (AreGen (map string_bytes words.now) ⊎ AreShow (map string_bytes words.now)) }
+    // With the words of a replay all records of the journal are ruled, and their number was written, or not
+    // all are.
+    ensures replayed { AreReplay (map string_bytes words.now)
+        → EndsReplaying (D.seen disk.old) (D.faults disk.old) (D.faults disk.new)
+        (O.written out.old) (O.written out.new) result }
+
+    // With the words of a demo the ticks that they ask for were made, and what is shown of them was written.
+    ensures demonstrated { (seed rooms ticks : ℕ) → IsDemo (map string_bytes words.now) seed rooms ticks
+        → EndsDemonstrating seed rooms ticks (O.written out.old) (O.written out.new) result }
+
+    // The words are refused exactly where they are those of no such command.
+    ensures usage { result ≡ Status.Usage → AreOfTool (map string_bytes words.now) → ⊥ }
+    ensures words { IsPastWords result → AreOfTool (map string_bytes words.now) }
 
     // A fault comes only where that object's count rose.
     ensures read_fault { result ≡ Status.ReadFault → Rose (S.faults input.old) (S.faults input.new) }
@@ -77,10 +95,25 @@ pub fn tool_main<S: Source, O: Sink, D: Disk>(
         → (Rose (O.faults out.old) (O.faults out.new) → ⊥)
         → (result ≡ Status.Memory) ⊎ (result ≡ Status.Done) }
 
+    // With the words of a demo and no fault all is done, or serials are used up, or memory is wanted.
+    ensures demonstrated_complete { AreDemo (map string_bytes words.now)
+        → (Rose (O.faults out.old) (O.faults out.new) → ⊥)
+        → (result ≡ Status.Memory) ⊎ (result ≡ Status.Done)
+        ⊎ ((index : ℕ) × (result ≡ Status.IdsExhausted index)) }
+
     // With the words of a show, a journal that has the tick, and no fault, all is done, or memory is wanted.
     ensures shown_complete { (tick : ℕ) (bytes : List ℕ) (base world : Stored) (entries : List TickRecord)
         → AsksFor (map string_bytes words.now) tick
         → D.seen disk.old ≡ Some bytes → IsJournal base entries bytes → IsWorldAt base entries tick world
+        → (Rose (D.faults disk.old) (D.faults disk.new) → ⊥)
+        → (Rose (O.faults out.old) (O.faults out.new) → ⊥)
+        → (result ≡ Status.Memory) ⊎ (result ≡ Status.Done) }
+
+    // With the words of a replay, a journal whose records all are ruled, and no fault, all is done, or memory
+    // is wanted.
+    ensures replayed_complete { (bytes : List ℕ) (base : Stored) (entries : List TickRecord)
+        → AreReplay (map string_bytes words.now)
+        → D.seen disk.old ≡ Some bytes → IsJournal base entries bytes → AllRuled base entries
         → (Rose (D.faults disk.old) (D.faults disk.new) → ⊥)
         → (Rose (O.faults out.old) (O.faults out.new) → ⊥)
         → (result ≡ Status.Memory) ⊎ (result ≡ Status.Done) }
@@ -93,13 +126,11 @@ pub fn tool_main<S: Source, O: Sink, D: Disk>(
         × AppendsPrefix (O.written out.old) (O.written out.new) (answer_line answer) }
     ensures disk { (D.seen disk.new ≡ D.seen disk.old) × (D.moments disk.new ≡ D.moments disk.old) }
     ensures disk_unused { (AreShow (map string_bytes words.now) → ⊥)
+        → (AreReplay (map string_bytes words.now) → ⊥)
         → D.faults disk.new ≡ D.faults disk.old }
 
     // Only words of a check read the source.
-    ensures unread { result ≡ Status.Usage → S.left input.new ≡ S.left input.old }
-    ensures made_unread { AreGen (map string_bytes words.now)
-        → (S.left input.new ≡ S.left input.old) × (S.faults input.new ≡ S.faults input.old) }
-    ensures shown_unread { AreShow (map string_bytes words.now)
+    ensures unread { (AreCheck (map string_bytes words.now) → ⊥)
         → (S.left input.new ≡ S.left input.old) × (S.faults input.new ≡ S.faults input.old) }
 
     // No failure is passed over: a count stays but where its fault is answered.
@@ -115,8 +146,10 @@ pub fn tool_main<S: Source, O: Sink, D: Disk>(
     match read_words(alloc, words) {
         Ok(Command::Check { .. }) => check_module(alloc, input, out),
         Ok(Command::Show { tick, .. }) => show_tick(alloc, tick, out, disk),
+        Ok(Command::Replay { .. }) => replay_journal(alloc, out, disk),
         Ok(Command::Gen { seed, rooms, part }) => make_part(alloc, seed, rooms, part, out),
-        Ok(_) => Status::Usage,
+        Ok(Command::Demo { seed, rooms, ticks }) => run_in_memory(alloc, seed, rooms, ticks, out),
+        Ok(Command::Run { .. }) => Status::Usage,
         Err(WordsFault::Usage) => Status::Usage,
         Err(WordsFault::Memory) => Status::Memory,
     }

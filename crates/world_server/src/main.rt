@@ -2,7 +2,7 @@
 #![tactic(auto)]
 
 ghost use Rattle.std.specs.Prelude.{◌≡◌, ◌⊎◌, map, string_bytes};
-ghost use Rattle.command_words.specs.Words.{AreCheck, AreGen, AreRun, AreShow};
+ghost use Rattle.command_words.specs.Words.{AreOfTool, AreRun};
 ghost use Rattle.world_run.specs.Runs.{IsPastWords};
 
 mod pages;
@@ -76,11 +76,9 @@ fn print(rt: &HostRuntime, page: &str) -> Status {
 // Runs the command that the words say.
 fn run(rt: &HostRuntime, words: &[String]) -> Status
     ensures usage { result ≡ Status.Usage → (AreRun (map string_bytes words.now) → ⊥)
-        × (AreCheck (map string_bytes words.now) → ⊥) × (AreGen (map string_bytes words.now) → ⊥)
-        × (AreShow (map string_bytes words.now) → ⊥) }
+        × (AreOfTool (map string_bytes words.now) → ⊥) }
     ensures words { IsPastWords result → AreRun (map string_bytes words.now)
-        ⊎ (AreCheck (map string_bytes words.now) ⊎ (AreGen (map string_bytes words.now)
-        ⊎ AreShow (map string_bytes words.now))) }
+        ⊎ AreOfTool (map string_bytes words.now) }
 {
     match read_words(rt.alloc(), words) {
         Ok(
@@ -101,13 +99,11 @@ fn run(rt: &HostRuntime, words: &[String]) -> Status
             let mut module = FileSource::open(rt, module.as_str());
             use_tool(rt, words, &mut module, &mut no_disk(rt))
         }
-        Ok(Command::Gen { .. }) => use_tool(rt, words, &mut no_source(rt), &mut no_disk(rt)),
-        Ok(Command::Show { journal, tick: _ }) => {
-            let mut journal = FileDisk::open(rt, journal.as_str());
-            use_tool(rt, words, &mut no_source(rt), &mut journal)
+        Ok(Command::Gen { .. } | Command::Demo { .. }) => {
+            use_tool(rt, words, &mut no_source(rt), &mut no_disk(rt))
         }
-        // The words of a replay and of a run in memory: so far the program does none of these.
-        Ok(_) => Status::Usage,
+        Ok(Command::Show { journal, tick: _ }) => read_journal(rt, words, journal.as_str()),
+        Ok(Command::Replay { journal }) => read_journal(rt, words, journal.as_str()),
         Err(fault) => refused_words(fault),
     }
 }
@@ -134,18 +130,25 @@ fn run_files(
     )
 }
 
-// Checks the module of a source, makes a part of a world, or shows a tick of the journal on a disk. A file
-// that cannot be opened fails at its first call.
+// Shows a tick of the journal of a file, or rules its ticks again.
+fn read_journal(rt: &HostRuntime, words: &[String], journal: &str) -> Status
+    ensures usage { result ≡ Status.Usage → AreOfTool (map string_bytes words.now) → ⊥ }
+    ensures words { IsPastWords result → AreOfTool (map string_bytes words.now) }
+{
+    let mut journal = FileDisk::open(rt, journal);
+    use_tool(rt, words, &mut no_source(rt), &mut journal)
+}
+
+// Checks the module of a source, makes a part of a world or runs one in memory, or shows a tick of the
+// journal on a disk or rules its ticks again. A file that cannot be opened fails at its first call.
 fn use_tool<S: Source, D: Disk>(
     rt: &HostRuntime,
     words: &[String],
     input: &mut S,
     disk: &mut D,
 ) -> Status
-    ensures usage { result ≡ Status.Usage → (AreCheck (map string_bytes words.now) → ⊥)
-        × (AreGen (map string_bytes words.now) → ⊥) × (AreShow (map string_bytes words.now) → ⊥) }
-    ensures words { IsPastWords result → AreCheck (map string_bytes words.now)
-        ⊎ (AreGen (map string_bytes words.now) ⊎ AreShow (map string_bytes words.now)) }
+    ensures usage { result ≡ Status.Usage → AreOfTool (map string_bytes words.now) → ⊥ }
+    ensures words { IsPastWords result → AreOfTool (map string_bytes words.now) }
 {
     tool_main(
         rt.alloc(),

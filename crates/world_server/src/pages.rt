@@ -10,7 +10,9 @@ const HELP: &str =
     \x20 run WORLD UPLOADS JOURNAL --ticks N  runs N ticks and prints the lines of each\n\
     \x20 check MODULE                         says whether players may upload a module\n\
     \x20 gen SEED ROOMS PART                  prints a world that is made of a number, or its players' modules\n\
+    \x20 demo SEED ROOMS TICKS                runs such a world in memory, and prints how its last tick ended\n\
     \x20 show JOURNAL TICK                    prints the world of a tick of a journal\n\
+    \x20 replay JOURNAL                       says whether the ticks of a journal are what the rules make\n\
     \n\
     CHOICE --help says what the words of a choice mean. --version prints the version.\n\
     \n\
@@ -63,6 +65,20 @@ const GEN_HELP: &str = "world_server gen SEED ROOMS PART\n\
     \n\
     docs/hosting.md says what stands in such a world, and docs/formats.md what the bytes are.\n";
 
+const DEMO_HELP: &str = "world_server demo SEED ROOMS TICKS\n\
+    \n\
+    Runs so many ticks in memory on the world that `gen` makes, with the modules of its players, and prints the\n\
+    line of the last tick, then `journal` and how many bytes the journal of the run has. No file is read or written.\n\
+    \n\
+    \x20 SEED   the number that the world is made of, in digits: 0 to 18446744073709551615\n\
+    \x20 ROOMS  how many rooms it has, in digits: 1 to 400; each of the first eight has a player with a creep\n\
+    \x20 TICKS  how many ticks, in digits: 0 to 1000000\n\
+    \n\
+    An example, twenty ticks of a hundred rooms with eight players:\n\
+    \x20 world_server demo 7 100 20\n\
+    \n\
+    docs/hosting.md says what stands in such a world.\n";
+
 const SHOW_HELP: &str = "world_server show JOURNAL TICK\n\
     \n\
     Prints the world of a tick of a journal, as a world file, which `run` takes. The journal is not changed.\n\
@@ -74,6 +90,18 @@ const SHOW_HELP: &str = "world_server show JOURNAL TICK\n\
     \x20 world_server show small.journal 2 > later.json\n\
     \n\
     docs/hosting.md says how it ends where there is no such tick, and docs/formats.md what the text is.\n";
+
+const REPLAY_HELP: &str = "world_server replay JOURNAL\n\
+    \n\
+    Rules each tick of a journal again: prints `replayed` and how many there are, where each made of the world\n\
+    before it what the rules make of what is recorded that players wanted. The journal is not changed.\n\
+    \n\
+    \x20 JOURNAL  the path of a journal that a run made\n\
+    \n\
+    An example, in the top folder of the repository, behind the one of `world_server run --help`:\n\
+    \x20 world_server replay small.journal\n\
+    \n\
+    docs/hosting.md says how it ends where a tick is not what the rules make.\n";
 
 /// The text that the words ask for: `--help` or `--version`, alone or behind a choice.
 pub(crate) fn page_of(words: &[String]) -> Option<&'static str> {
@@ -94,7 +122,9 @@ fn page_of_choice(choice: &str, word: &str) -> Option<&'static str> {
         "run" => RUN_HELP,
         "check" => CHECK_HELP,
         "gen" => GEN_HELP,
+        "demo" => DEMO_HELP,
         "show" => SHOW_HELP,
+        "replay" => REPLAY_HELP,
         _ => return None,
     };
     match word {

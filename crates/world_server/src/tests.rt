@@ -69,7 +69,7 @@ fn each_path_is_the_one_of_its_word(rt: HostRuntime) -> Result<(), Fail> {
     fs::write(&rt, "words_other", b"hello")?;
     fs::write(&rt, "words_module", b"\0asm\x01\0\0\0")?;
     fs::write(&rt, "words_empty", b"")?;
-    let cases: [(&[&str], Status); 15] = [
+    let cases: [(&[&str], Status); 18] = [
         (
             &[
                 "run",
@@ -132,12 +132,15 @@ fn each_path_is_the_one_of_its_word(rt: HostRuntime) -> Result<(), Fail> {
         ),
         (&["check", "no_file"], Status::ReadFault),
         (&["gen", "7", "0", "world"], Status::Usage),
-        (&["replay", "words_empty"], Status::Usage),
+        (&["replay", "words_empty"], Status::NoJournal),
+        (&["replay", "words_world"], Status::NotAJournal(0)),
+        (&["replay", "no_file"], Status::DiskFault),
         (&["show", "words_empty", "0"], Status::NoJournal),
         (&["show", "words_world", "0"], Status::NotAJournal(0)),
         (&["show", "no_file", "0"], Status::DiskFault),
         (&["show", "words_empty", "-1"], Status::Usage),
-        (&["demo", "7", "1", "1"], Status::Usage),
+        (&["demo", "7", "0", "1"], Status::Usage),
+        (&["demo", "7", "1", "1"], Status::Done),
     ];
     for (words, status) in cases {
         assert_eq!(rt; run(&rt, &words_of(alloc, words)?), status);

@@ -1,5 +1,6 @@
 -- Runs as they are held: by stored worlds. For private clauses; Runs and Ends say the same of worlds.
-use Rattle.std.specs.Prelude.{◌≡◌, ℕ, ◌<◌, ◌≤◌, ◌^◌, List, [], ◌∷◌, ◌++◌, length, map, Option, Some, IfSome, false, slice_get}
+use Rattle.std.specs.Prelude.{◌≡◌, ℕ, ◌<◌, ◌≤◌, ◌^◌, List, [], ◌∷◌, ◌++◌, length, map, Option, Some, IfSome}
+use Rattle.std.specs.Prelude.{false, slice_get}
 use Rattle.std.specs.List.{AllByRecursion, flat_map}
 use Rattle.std.specs.FinMap.{empty}
 use Rattle.std.specs.Io.KnownBytes.{Appends}
@@ -19,7 +20,7 @@ use Rattle.recorded_tick.specs.Recording.{IsRecordOf}
 use Rattle.site_limit.specs.FewSites.{HaveFewSites}
 use Rattle.hosted_tick.specs.Next.{Next}
 use Rattle.hosted_tick.specs.Hosting.{Held, IsHosted, state_of}
-use Rattle.world_journal.specs.Journals.{HasJournal, IsJournal, MayBegin}
+use Rattle.world_journal.specs.Journals.{HasJournal, IsWholeJournal, MayBegin}
 use Rattle.world_run.specs.Lines.{start_line, tick_lines}
 use Rattle.world_run.specs.Runs.{AppendsPart, Stood}
 use Rattle.world_run.specs.declared.kept.Kept.{Kept}
@@ -102,8 +103,8 @@ pub record IsKeptAt (base : Stored) (entries : List TickRecord) (kept : Kept) (s
 
 -- ---- what is left
 
--- A journal of the world of a file stood on the disk, or none; these are ticks behind it, and the sink was given
--- their lines.
+-- A journal of the world of a file stood on the disk, or none; these are ticks behind it, and the sink was
+-- given their lines.
 pub record Prints (disk_old sink_old sink_new : Option (List ℕ)) (stream : List Upload) (world : Stored)
     (steps : List Step) : Type 0 where
   pub entries : List TickRecord
@@ -117,7 +118,8 @@ pub record Prints (disk_old sink_old sink_new : Option (List ℕ)) (stream : Lis
 pub record Leaves (disk_old disk_new sink_old sink_new : Option (List ℕ)) (stream : List Upload)
     (world : Stored) (steps : List Step) : Type 0 where
   pub prints : Prints disk_old sink_old sink_new stream world steps
-  pub journal_is : IfSome disk_new (IsJournal (world_as_read world) (prints.entries ++ recorded_of steps))
+  pub journal_is : IfSome disk_new
+      (IsWholeJournal (world_as_read world) (prints.entries ++ recorded_of steps))
 
 -- The sink was given the opening line, the lines of all steps but the last, and a part of those of the last;
 -- or only a part of the opening line, where there is no step.
@@ -135,5 +137,5 @@ pub record LeavesPart (disk_old disk_new sink_old sink_new : Option (List ℕ)) 
   pub stood : Stood disk_old (world_as_read world) entries
   pub at_end : IsAt (world_as_read world) entries first
   pub follow : Follow stream first steps
-  pub journal_is : IfSome disk_new (IsJournal (world_as_read world) (entries ++ recorded_of steps))
+  pub journal_is : IfSome disk_new (IsWholeJournal (world_as_read world) (entries ++ recorded_of steps))
   pub output_is : CutsLast sink_old sink_new first.world steps

@@ -8,11 +8,13 @@ use Rattle.world_form.specs.declared.fault.WorldFault.{WorldFault}
 use Rattle.world_form.specs.declared.fault.WorldFault.TheVariants as faults
 use Rattle.world_journal.specs.declared.fault.AtFault.{AtFault}
 use Rattle.world_journal.specs.declared.fault.AtFault.TheVariants as at_faults
+use Rattle.world_journal.specs.declared.fault.RecoverFault.{RecoverFault}
+use Rattle.world_journal.specs.declared.fault.RecoverFault.TheVariants as recover_faults
 use Rattle.world_run.specs.Runs.{AppendsPart}
 use Rattle.object_store.specs.Stored.{Stored}
 use Rattle.tick_journal.specs.declared.tick_record.TickRecord.{TickRecord}
 use Rattle.world_io.specs.Moments.{Moment}
-use Rattle.world_journal.specs.Journals.{IsJournal}
+use Rattle.world_journal.specs.Journals.{IsWholeJournal}
 use Rattle.world_run.specs.declared.kept.Kept.{Kept}
 use Rattle.world_run.specs.inner.Held.{Follow, IsKeptAt, Step, recorded_of, step_lines}
 use Rattle.world_run.specs.declared.status.Status.{Status}
@@ -20,10 +22,12 @@ use Rattle.world_run.specs.declared.status.Status.TheVariants as statuses
 
 -- ---- how far a run came, by its status
 
--- A run can end so: only a check refuses a module, and only a show looks for a tick.
+-- A run can end so: only a check refuses a module, only a show looks for a tick, and only a replay rules one
+-- again.
 abbrev pub IsOfRun : Status → Type 0
 IsOfRun (statuses.Refused refusal) = ⊥
 IsOfRun (statuses.NoSuchTick first last) = ⊥
+IsOfRun (statuses.Differs tick room at kept ruled) = ⊥
 IsOfRun statuses.NoJournal = ⊥
 IsOfRun status = Unit {0}
 
@@ -144,7 +148,7 @@ pub record GrowsPart (sink_old sink_new : Option (List ℕ)) (stream : List Uplo
 abbrev pub Continues : Kept → Option (List ℕ) → List Moment → Option (List ℕ) → List Step → Type 0
 Continues first seen moments seen_after steps = (base : Stored) (entries : List TickRecord)
     → IsKeptAt base entries first seen moments
-    → IfSome seen_after (IsJournal base (entries ++ recorded_of steps))
+    → IfSome seen_after (IsWholeJournal base (entries ++ recorded_of steps))
 
 -- the status where the journal answers no world
 abbrev pub status_of_at : AtFault → Status
@@ -153,3 +157,10 @@ status_of_at (at_faults.NoSuchTick first last) = statuses.NoSuchTick first last
 status_of_at at_faults.DiskFault = statuses.DiskFault
 status_of_at (at_faults.NotAJournal at) = statuses.NotAJournal at
 status_of_at at_faults.Memory = statuses.Memory
+
+-- the status where the frames of a journal are not read
+abbrev pub status_unread : RecoverFault → Status
+status_unread recover_faults.Empty = statuses.NoJournal
+status_unread recover_faults.DiskFault = statuses.DiskFault
+status_unread (recover_faults.NotAJournal at) = statuses.NotAJournal at
+status_unread recover_faults.Memory = statuses.Memory

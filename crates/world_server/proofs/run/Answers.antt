@@ -1,5 +1,6 @@
 use Rattle.std.proofs.Common.{◌≡◌, ◌∙◌, refl, sym}
-use Rattle.command_words.specs.Commands.{a_check, a_gen, a_run, a_show}
+use Rattle.command_words.specs.Commands.{a_run}
+use Rattle.command_words.proofs.Tools.{none_of_tool}
 use Rattle.command_words.specs.declared.command.WordsFault.{WordsFault}
 use Rattle.command_words.specs.declared.command.WordsFault.TheVariants as faults
 use Rattle.world_run.specs.declared.status.Status.{Status}
@@ -13,8 +14,8 @@ is_usage faults.Usage status wanted is = refl
 is_usage faults.Memory status wanted is =
     let bad : statuses.Memory ≡ statuses.Usage = sym (wanted refl) ∙ is in cc
 
-pub returns-clause-usage : goal.returns-clause-usage
-returns-clause-usage c = λ is.
+pub returns-in-Err-clause-usage : goal.returns-in-Err-clause-usage
+returns-in-Err-clause-usage c = λ is.
     let none = c.in-Err.ensures.usage
     (is_usage c.in-Err.fault c.refused_words.result c.refused_words.ensures.memory is) in
-    (none a_run, none a_check, none a_gen, none a_show)
+    (none a_run, none_of_tool _ none)

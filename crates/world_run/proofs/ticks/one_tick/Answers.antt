@@ -4,7 +4,7 @@ use Rattle.object_store.specs.Stored.{Stored}
 use Rattle.hosted_tick.specs.Hosting.{Held, IsHosted}
 use Rattle.tick_journal.specs.declared.tick_record.TickRecord.{TickRecord}
 use Rattle.world_io.specs.Told.{AppendsPrefix}
-use Rattle.world_journal.specs.Journals.{IsJournal}
+use Rattle.world_journal.specs.Journals.{IsWholeJournal}
 use Rattle.world_rules.specs.Sound.{HaveSerials}
 use Rattle.world_run.specs.declared.kept.Kept.{Kept}
 use Rattle.world_run.specs.inner.Held.{IsKeptAt}
@@ -36,6 +36,6 @@ returns-in-Err-clause-write_stopped g c = λ stopped.
       serials,
       subst (λ (held : Held). IsHosted held.world) (sym made.1) c.in-Ok.ensures.hosted,
       subst (λ (b : List ℕ). AppendsPrefix (g.O.Sink.written c.args.out.now) (g.O.Sink.written c.record.new.out) b) text (c.in-Err.ensures.lines_cut stopped),
-      λ base entries start. subst (λ (r : TickRecord). IfSome (g.D.Disk.seen c.record.new.disk) (IsJournal base (entries ++ r ∷ []))) (sym made.2)
+      λ base entries start. subst (λ (r : TickRecord). IfSome (g.D.Disk.seen c.record.new.disk) (IsWholeJournal base (entries ++ r ∷ []))) (sym made.2)
           (records_one base entries c.args.kept c.in-Ok.made.entry _ _ start c.in-Ok.ensures.follows c.record.new.journal.log.gate _ _ c.record.ensures.alike (c.in-Err.ensures.recorded_too stopped base entries)),
     )

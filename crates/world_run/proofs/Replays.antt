@@ -1,0 +1,340 @@
+-- How a replay ends.
+use Rattle.std.proofs.Common.{◌≡◌, ℕ, ◌+◌, ◌*◌, ◌^◌, ◌-◌, ◌<◌, ◌≤◌, ◌==◌, true, cond, List, [], ◌∷◌, ◌++◌, length, append_assoc, map, take, Option, Some, None, inl, inr, arith, refl, sym, ap, subst, ◌∙◌}
+use Rattle.std.specs.Prelude.{slice_get, IfSome, IfNone}
+use Rattle.std.specs.List.{AllByRecursion, flat_map}
+use Rattle.std.specs.Option.{is_some}
+use Rattle.std.proofs.lemmas.Bool.{cases_Bool, eqb-true}
+use Rattle.std.proofs.lemmas.List.{length-append, length-map, take_all, take_more}
+use Rattle.std.proofs.lemmas.Option.{get_or_from_slice_get, slice_get_within}
+use Rattle.std.proofs.lemmas.List.Elements.{recursion_from_All}
+use Rattle.game_tables.specs.Limits.{most_players}
+use Rattle.object_store.specs.declared.account.Account.{Account}
+use Rattle.object_store.specs.declared.world.Room.{Room}
+use Rattle.object_store.specs.Stored.{Stored, AreRising, HasAccount, find_account}
+use Rattle.intent_book.specs.Records.{AreOf, entries_bound}
+use Rattle.intent_book.specs.declared.intent.Intent.{Intent}
+use Rattle.world_bytes.specs.Forms.{room_bytes}
+use Rattle.world_rules.specs.Intents.{names_tile}
+use Rattle.world_rules.specs.Tick.{plain_world}
+use Rattle.world_rules.specs.World.{World, world_of}
+use Rattle.room_rules.specs.RoomRules.{is_player}
+use Rattle.ruled_tick.specs.Players.{AreByPlayers}
+use Rattle.world_rules.specs.Sound.{IsSound}
+use Rattle.hosted_tick.specs.Hosting.{IsHosted}
+use Rattle.hosted_tick.proofs.Accounts.{get_account}
+use Rattle.hosted_tick.proofs.Ran.{all_append}
+use Rattle.record_follows.specs.Courses.{world_after}
+use Rattle.record_follows.specs.Follows.{Follows, after}
+use Rattle.record_follows.proofs.Lasting.{after_alike}
+use Rattle.rule_check.proofs.Found.{mapped_at}
+use Rattle.world_io.specs.Causes.{Rose}
+use Rattle.world_journal.specs.Answers.{IsRecoverFaultOf}
+use Rattle.world_journal.specs.declared.fault.RecoverFault.{RecoverFault}
+use Rattle.world_journal.specs.declared.fault.RecoverFault.TheVariants as recover_faults
+use Rattle.world_journal.specs.Journals.{IsCourse, IsJournal, IsRead}
+use Rattle.world_journal.proofs.Courses.{course_front, follows_at}
+use Rattle.world_journal.proofs.Journals.{journal_once, journal_some, journal_whole}
+use Rattle.recorded_tick.proofs.Grounds.{grounds_ruled}
+use Rattle.recorded_tick.proofs.Leading.{as_many_rooms}
+use Rattle.tick_journal.specs.BaseForms.{room_as_read}
+use Rattle.tick_journal.specs.TickForms.{HasRunForm, HasTickForm, IsRisingBy}
+use Rattle.tick_journal.specs.declared.entries.RunEntry.{RunEntry}
+use Rattle.tick_journal.specs.declared.tick_record.TickRecord.{TickRecord}
+use Rattle.world_run.specs.Listed.{listed}
+use Rattle.world_run.specs.Replayed.{AllRuled, AreRuled, DifferIn, DiffersAt, ExhaustedAt, IsNotReplayed, forms, recorded_forms, ruled_forms, wanted}
+use Rattle.world_run.specs.Runs.{DifferAt, HasSerials}
+use Rattle.world_run.specs.inner.Stages.{status_unread}
+use Rattle.world_run.specs.inner.Ruling.{AreJudged, AreUnlike, IsRuling, IsUnlike, IsUnruled, StopsAt}
+use Rattle.world_run.specs.declared.status.Status.{Status}
+use Rattle.world_run.specs.declared.status.Status.TheVariants as statuses
+use Rattle.world_run.proofs.Opened.{same_differ}
+use Rattle.world_run.proofs.Worldly.{file_listed}
+
+-- ---- what is wanted is of few players, all with accounts
+
+abbrev player_of : RunEntry → ℕ
+player_of run = run.player
+
+abbrev HaveAccounts : List Account → List RunEntry → Type 0
+HaveAccounts accounts runs = AllByRecursion (λ (run : RunEntry). HasAccount run.player accounts) runs
+
+same_Some : {A : Type 0} (x y : A) → Some x ≡ Some y → x ≡ y
+same_Some x y same = cc
+
+-- an account of a player above another's stands behind it
+behind : (player : ℕ) (first : Account) (accounts : List Account) → first.player < player → HasAccount player (first ∷ accounts) → HasAccount player accounts
+behind player first accounts above has = elim (cases_Bool (first.player == player)) [
+  | inl at ↦ absurd (let same = eqb-true first.player player at in omega (arith, same, above))
+  | inr off ↦ (has.0, sym (ap (λ b. cond b (Some first) (find_account player accounts)) off) ∙ has.1)
+]
+
+all_behind : (first : Account) (accounts : List Account) (runs : List RunEntry) → AllByRecursion (λ (run : RunEntry). first.player < run.player) runs → HaveAccounts (first ∷ accounts) runs → HaveAccounts accounts runs
+all_behind first accounts [] above have = tt
+all_behind first accounts (run ∷ runs) above have = (behind run.player first accounts above.0 have.0, all_behind first accounts runs above.1 have.1)
+
+above_all : (low : ℕ) (run : RunEntry) (runs : List RunEntry) → low ≤ run.player → AllByRecursion (λ (other : RunEntry). run.player < other.player) runs → AllByRecursion (λ (other : RunEntry). low < other.player) runs
+above_all low run [] most above = tt
+above_all low run (other ∷ runs) most above = (omega (arith, most, above.0), above_all low run runs most above.1)
+
+account_above : (low player : ℕ) (accounts : List Account) → AllByRecursion (λ (later : Account). low < later.player) accounts → HasAccount player accounts → low < player
+account_above low player [] rising has = absurd (let bad : None ≡ Some has.0 = has.1 in cc)
+account_above low player (account ∷ accounts) rising has = elim (cases_Bool (account.player == player)) [
+  | inl at ↦ subst (λ (n : ℕ). low < n) (eqb-true account.player player at) rising.0
+  | inr off ↦ account_above low player accounts rising.1 (has.0, sym (ap (λ b. cond b (Some account) (find_account player accounts)) off) ∙ has.1)
+]
+
+-- Players that rise and have accounts are no more than the accounts.
+few_runs : (runs : List RunEntry) (accounts : List Account) → AreRising accounts → IsRisingBy player_of runs → HaveAccounts accounts runs → length runs ≤ length accounts
+few_runs [] accounts rising rise have = omega arith
+few_runs (run ∷ runs) [] rising rise have = absurd (let bad : None ≡ Some have.0.0 = have.0.1 in cc)
+few_runs (run ∷ runs) (account ∷ accounts) rising rise have = elim (cases_Bool (account.player == run.player)) [
+  | inl at ↦ (
+      let same = eqb-true account.player run.player at in
+      let above = above_all account.player run runs (omega (arith, same)) rise.0 in
+      let rest = few_runs runs accounts rising.1 rise.1 (all_behind account accounts runs above have.1) in
+      omega (arith, rest))
+  | inr off ↦ (
+      let here : HasAccount run.player accounts = (have.0.0, sym (ap (λ b. cond b (Some account) (find_account run.player accounts)) off) ∙ have.0.1) in
+      let low = account_above account.player run.player accounts rising.0 here in
+      let above = above_all account.player run runs (omega (arith, low)) rise.0 in
+      let rest = few_runs (run ∷ runs) accounts rising.1 rise (here, all_behind account accounts runs above have.1) in
+      omega (arith, rest))
+]
+
+few_each : (runs : List RunEntry) → AllByRecursion HasRunForm runs → length (flat_map (λ (run : RunEntry). run.intents) runs) ≤ entries_bound * length runs
+few_each [] formed = omega arith
+few_each (run ∷ runs) formed =
+    let rest = few_each runs formed.1 in
+    let here : length run.intents ≤ entries_bound = formed.0.intents.most in
+    let sum = length-append run.intents (flat_map (λ (run : RunEntry). run.intents) runs) in
+    omega (arith, rest, here, sum)
+
+module _ (before : Stored) (entry : TickRecord) (hosted : IsHosted before) (formed : HasTickForm entry) (follows : Follows before entry) where
+  pub few_wanted : length (wanted entry) ≤ 2 ^ 18
+  few_wanted =
+      let runs = few_runs entry.runs before.accounts hosted.sound.accounts formed.runs_rising follows.runs in
+      let each = few_each entry.runs formed.runs in
+      let most : length before.accounts ≤ most_players = hosted.players in
+      omega (arith, runs, each, most)
+
+  abbrev IsListed : Intent → Type 0
+  IsListed intent = names_tile intent.action ≡ true → is_player (world_of before) intent.player ≡ true
+
+  own_listed : (player : ℕ) → HasAccount player before.accounts → (intents : List Intent) → AreOf player intents → AllByRecursion IsListed intents
+  own_listed player has intents own =
+      let listed_here : is_player (world_of before) player ≡ true = ap (λ (found : Option Account). is_some found) (get_account before player ∙ has.1) in
+      recursion_from_All IsListed intents (λ i intent inside tile. subst (λ (n : ℕ). is_player (world_of before) n ≡ true) (sym (own i intent inside)) listed_here)
+
+  runs_listed : (runs : List RunEntry) → AllByRecursion HasRunForm runs → HaveAccounts before.accounts runs → AllByRecursion IsListed (flat_map (λ (run : RunEntry). run.intents) runs)
+  runs_listed [] forms_are have = tt
+  runs_listed (run ∷ runs) forms_are have =
+      all_append IsListed run.intents (flat_map (λ (other : RunEntry). other.intents) runs) (own_listed run.player have.0 run.intents forms_are.0.intents.own) (runs_listed runs forms_are.1 have.1)
+
+  pub wanted_by_players : AreByPlayers (world_of before) (wanted entry)
+  wanted_by_players = runs_listed entry.runs formed.runs follows.runs
+
+  pub tick_fits : before.tick < 2 ^ 64 - 1
+  tick_fits = let next = follows.tick in let fits = formed.tick in omega (arith, next, fits)
+
+-- ---- forms
+
+form_as_read : (room : Room) → room_bytes (room_as_read room).table ≡ room_bytes room.table
+unfolding room_bytes
+form_as_read room = refl
+
+forms_as_read : (rooms : List Room) → forms (map room_as_read rooms) ≡ forms rooms
+forms_as_read [] = refl
+forms_as_read (room ∷ rooms) = let rest = forms_as_read rooms in let here = form_as_read room in λ i. here i ∷ rest i
+
+-- what is ruled has the forms that are listed of it
+pub forms_ruled : (before : Stored) (entry : TickRecord) → IsHosted before → HasTickForm entry → Follows before entry → (next : Stored) (list : List Intent) → list ≡ wanted entry
+    → world_of next ≡ plain_world (world_of before) list → (AreByPlayers (world_of before) list → IsSound next) → forms next.rooms ≡ ruled_forms before entry
+forms_ruled before entry hosted formed follows next list same is makes =
+    let sound = makes (subst (AreByPlayers (world_of before)) (sym same) (wanted_by_players before entry hosted formed follows)) in
+    sym (forms_as_read next.rooms) ∙ sym (ap (λ (w : Stored). forms w.rooms) (file_listed next sound)) ∙ ap (λ (w : World). forms (listed w).rooms) (is ∙ ap (plain_world (world_of before)) same)
+
+-- there are as many rooms
+pub many_ruled : (before next : Stored) (list : List Intent) → world_of next ≡ plain_world (world_of before) list → length before.rooms ≡ length next.rooms
+many_ruled before next list is = as_many_rooms before.rooms next.rooms (grounds_ruled before next list (ap (λ (w : World). w.rooms) is))
+
+pub many_after : (before next after_it : Stored) (entry : TickRecord) → after_it ≡ after before entry → length before.rooms ≡ length next.rooms → length after_it.rooms ≡ length next.rooms
+many_after before next after_it entry is many = ap (λ (w : Stored). length w.rooms) is ∙ ((after_alike before entry).rooms ∙ many)
+
+-- ---- rooms, one after the other
+
+-- one more of a list's front
+front_more : {A : Type 0} (xs : List A) (i : ℕ) (x : A) → slice_get xs i ≡ Some x → take (i + 1) xs ≡ take i xs ++ x ∷ []
+front_more xs i x at = take_more xs i x (slice_get_within xs i x at) ∙ ap (λ y. take i xs ++ y ∷ []) (get_or_from_slice_get xs i x x at)
+
+module _ (kept ruled : List Room) (i : ℕ) (one other : Room) (first : slice_get kept i ≡ Some one) (second : slice_get ruled i ≡ Some other) (same : take i (forms kept) ≡ take i (forms ruled)) where
+  one_at : slice_get (forms kept) i ≡ Some (room_bytes one.table)
+  one_at = mapped_at (λ (room : Room). room_bytes room.table) kept i one first
+
+  other_at : slice_get (forms ruled) i ≡ Some (room_bytes other.table)
+  other_at = mapped_at (λ (room : Room). room_bytes room.table) ruled i other second
+
+  pub same_more : room_bytes one.table ≡ room_bytes other.table → take (i + 1) (forms kept) ≡ take (i + 1) (forms ruled)
+  same_more here =
+      front_more (forms kept) i (room_bytes one.table) one_at
+      ∙ (λ j. same j ++ here j ∷ [])
+      ∙ sym (front_more (forms ruled) i (room_bytes other.table) other_at)
+
+  differ_here : (room at : ℕ) (k r : Option ℕ) → room ≡ i → DifferAt at k r (room_bytes one.table) (room_bytes other.table) → DifferIn room at k r (forms kept) (forms ruled)
+  differ_here room at k r is differ = subst (λ (n : ℕ). DifferIn n at k r (forms kept) (forms ruled)) (sym is) (record {
+    same = same;
+    one = room_bytes one.table;
+    one_is = one_at;
+    other = room_bytes other.table;
+    other_is = other_at;
+    differ = differ;
+  })
+
+  pub unlike_here : (tick : ℕ) (status : Status) → IsUnlike tick i (room_bytes one.table) (room_bytes other.table) status → AreUnlike tick (forms kept) (forms ruled) status
+  unlike_here tick (statuses.Differs number room at k r) is = (is.0, differ_here room at k r is.1 is.2)
+  unlike_here tick statuses.Memory is = tt
+  unlike_here tick status is = absurd is
+
+-- where all rooms are gone through
+pub forms_same : (kept ruled : List Room) (i : ℕ) → length kept ≡ length ruled → length kept ≤ i → take i (forms kept) ≡ take i (forms ruled) → forms kept ≡ forms ruled
+forms_same kept ruled i many past same =
+    let one : length (forms kept) ≤ i = (let n = length-map kept (λ (room : Room). room_bytes room.table) in omega (arith, n, past)) in
+    let other : length (forms ruled) ≤ i = (let n = length-map ruled (λ (room : Room). room_bytes room.table) in omega (arith, n, past, many)) in
+    sym (take_all i (forms kept) one) ∙ same ∙ take_all i (forms ruled) other
+
+-- ---- records, one after the other
+
+all_at : {A : Type 0} (P : A → Type 0) (xs : List A) (x : A) (ys : List A) → AllByRecursion P (xs ++ x ∷ ys) → P x
+all_at P [] x ys all = all.0
+all_at P (y ∷ xs) x ys all = all_at P xs x ys all.1
+
+ruled_one : (base : Stored) (entries : List TickRecord) (entry : TickRecord) → AllRuled base entries → HasSerials (world_of (world_after base entries)) → AreRuled (world_after base entries) entry → AllRuled base (entries ++ entry ∷ [])
+ruled_one base [] entry all serials ruled = (serials, ruled, tt)
+ruled_one base (first ∷ entries) entry all serials ruled = (all.0, all.1, ruled_one (after base first) entries entry all.2 serials ruled)
+
+ruled_at : (base : Stored) (entries : List TickRecord) (entry : TickRecord) (later : List TickRecord) → AllRuled base (entries ++ entry ∷ later) → HasSerials (world_of (world_after base entries)) × AreRuled (world_after base entries) entry
+ruled_at base [] entry later all = (all.0, all.1)
+ruled_at base (first ∷ entries) entry later all = ruled_at (after base first) entries entry later all.2
+
+-- the front of a course, and its last record
+module _ (base : Stored) (entries : List TickRecord) (entry : TickRecord) (course : IsCourse base (entries ++ entry ∷ [])) where
+  pub course_before : IsCourse base entries
+  course_before = course_front base entries (entry ∷ []) course
+
+  pub follows_last : Follows (world_after base entries) entry
+  follows_last = follows_at base entries entry [] course
+
+  pub form_last : HasTickForm entry
+  form_last = (all_at IsRead entries entry [] course.forms).form
+
+module _ (base : Stored) (entries : List TickRecord) (entry : TickRecord) where
+  stops_here : AllRuled base entries → (status : Status) → IsUnruled (world_after base entries) entry status → StopsAt base (entries ++ entry ∷ []) status
+  stops_here all (statuses.Differs tick room at k r) is = record {
+    earlier = entries;
+    entry = entry;
+    later = [];
+    ordered = refl;
+    ruled_before = all;
+    tick_is = is.0;
+    serials = is.1;
+    differ = is.2;
+  }
+  stops_here all (statuses.IdsExhausted index) is = record {
+    earlier = entries;
+    entry = entry;
+    later = [];
+    ordered = refl;
+    ruled_before = all;
+    exhausted = is;
+  }
+  stops_here all statuses.Memory is = tt
+  stops_here all status is = absurd is
+
+  -- what stops a replay of some records stops one of more
+  stops_still : (status : Status) → StopsAt base entries status → StopsAt base (entries ++ entry ∷ []) status
+  stops_still (statuses.Differs tick room at k r) is = record {
+    earlier = is.earlier;
+    entry = is.entry;
+    later = is.later ++ entry ∷ [];
+    ordered = ap (λ l. l ++ entry ∷ []) is.ordered ∙ append_assoc is.earlier (is.entry ∷ is.later) (entry ∷ []);
+    ruled_before = is.ruled_before;
+    tick_is = is.tick_is;
+    serials = is.serials;
+    differ = is.differ;
+  }
+  stops_still (statuses.IdsExhausted index) is = record {
+    earlier = is.earlier;
+    entry = is.entry;
+    later = is.later ++ entry ∷ [];
+    ordered = ap (λ l. l ++ entry ∷ []) is.ordered ∙ append_assoc is.earlier (is.entry ∷ is.later) (entry ∷ []);
+    ruled_before = is.ruled_before;
+    exhausted = is.exhausted;
+  }
+  stops_still statuses.Memory is = tt
+  stops_still status is = absurd is
+
+  pub judged_more : (before : Stored) → before ≡ world_after base entries → (known found : Option Status) → AreJudged base entries known → IfSome known (λ status. found ≡ Some status) → IfNone known (IsRuling before entry found)
+      → AreJudged base (entries ++ entry ∷ []) found
+  judged_more before here None None all same ruling =
+      ruled_one base entries entry all (subst (λ (w : Stored). HasSerials (world_of w)) here ruling.0) (subst (λ (w : Stored). AreRuled w entry) here ruling.1)
+  judged_more before here None (Some status) all same ruling =
+      stops_here all status (subst (λ (w : Stored). IsUnruled w entry status) here ruling)
+  judged_more before here (Some status) found judged same ruling =
+      subst (AreJudged base (entries ++ entry ∷ [])) (sym same) (stops_still status judged)
+
+-- a record is not ruled where its rooms are unlike
+pub unruled_here : (before : Stored) (entry : TickRecord) (kept ruled : List (List ℕ)) → kept ≡ recorded_forms before entry → ruled ≡ ruled_forms before entry → HasSerials (world_of before)
+    → (status : Status) → AreUnlike entry.tick kept ruled status → IsUnruled before entry status
+unruled_here before entry kept ruled one other serials (statuses.Differs tick room at k r) is =
+    (is.0, serials, subst (λ (forms_two : List (List ℕ)). DifferIn room at k r (recorded_forms before entry) forms_two) other (subst (λ (forms_one : List (List ℕ)). DifferIn room at k r forms_one ruled) one is.1))
+unruled_here before entry kept ruled one other serials statuses.Memory is = tt
+unruled_here before entry kept ruled one other serials status is = absurd is
+
+-- ---- the whole journal
+
+pub unread : (seen : Option (List ℕ)) (before now : ℕ) (fault : RecoverFault) → IsRecoverFaultOf seen before now fault → IsNotReplayed seen before now (status_unread fault)
+unread seen before now recover_faults.Empty h = h
+unread seen before now recover_faults.DiskFault h = h
+unread seen before now (recover_faults.NotAJournal at) h = h
+unread seen before now recover_faults.Memory h = tt
+
+pub not_replayed : (disk : Option (List ℕ)) (before now : ℕ) (base : Stored) (entries : List TickRecord) → IsCourse base entries → IfSome disk (IsJournal base entries)
+    → (status : Status) → StopsAt base entries status → IsNotReplayed disk before now status
+not_replayed disk before now base entries course journal (statuses.Differs tick room at k r) is = (base, entries, course, journal, is)
+not_replayed disk before now base entries course journal (statuses.IdsExhausted index) is = (base, entries, course, journal, is)
+not_replayed disk before now base entries course journal statuses.Memory is = tt
+not_replayed disk before now base entries course journal status is = absurd is
+
+-- a replay that stops is not that of records that all are ruled
+not_differing : (tick room at : ℕ) (k r : Option ℕ) (base : Stored) (entries : List TickRecord) → AllRuled base entries → DiffersAt tick room at k r base entries → ⊥
+not_differing tick room at k r base entries all is =
+    let ruled = ruled_at base is.earlier is.entry is.later (subst (AllRuled base) is.ordered all) in
+    let same : Some is.differ.one ≡ Some is.differ.other = sym is.differ.one_is ∙ ap (λ (l : List (List ℕ)). slice_get l room) ruled.1 ∙ is.differ.other_is in
+    same_differ at k r is.differ.one is.differ.other (same_Some is.differ.one is.differ.other same) is.differ.differ
+
+not_exhausted : (index : ℕ) (base : Stored) (entries : List TickRecord) → AllRuled base entries → ExhaustedAt index base entries → ⊥
+not_exhausted index base entries all is =
+    let ruled = ruled_at base is.earlier is.entry is.later (subst (AllRuled base) is.ordered all) in
+    let within = ruled.0 index is.exhausted.frame is.exhausted.stands in
+    let above = is.exhausted.above in
+    omega (arith, within, above)
+
+replayed_or_wanted : (bytes : List ℕ) (before now : ℕ) (base : Stored) (entries : List TickRecord) → IsJournal base entries bytes → AllRuled base entries → (Rose before now → ⊥)
+    → (status : Status) → IsNotReplayed (Some bytes) before now status → status ≡ statuses.Memory
+replayed_or_wanted bytes before now base entries is all fine (statuses.Differs tick room at k r) h =
+    absurd (let same = journal_once bytes h.0 base h.1 entries h.3 is in
+    not_differing tick room at k r h.0 h.1 (subst (λ (b : Stored). AllRuled b h.1) (sym same.0) (subst (AllRuled base) (sym same.1) all)) h.4)
+replayed_or_wanted bytes before now base entries is all fine (statuses.IdsExhausted index) h =
+    absurd (let same = journal_once bytes h.0 base h.1 entries h.3 is in
+    not_exhausted index h.0 h.1 (subst (λ (b : Stored). AllRuled b h.1) (sym same.0) (subst (AllRuled base) (sym same.1) all)) h.4)
+replayed_or_wanted bytes before now base entries is all fine statuses.NoJournal h = absurd (journal_some bytes base entries is h)
+replayed_or_wanted bytes before now base entries is all fine (statuses.NotAJournal at) h = absurd (journal_whole bytes base entries at is h)
+replayed_or_wanted bytes before now base entries is all fine statuses.DiskFault h = absurd (fine h)
+replayed_or_wanted bytes before now base entries is all fine statuses.Memory h = refl
+replayed_or_wanted bytes before now base entries is all fine status h = absurd h
+
+-- Of a journal whose records all are ruled a disk that doesn't fail is replayed, or memory is wanted.
+pub all_or_wanted : (seen : Option (List ℕ)) (bytes : List ℕ) (before now : ℕ) (base : Stored) (entries : List TickRecord) (status : Status) → seen ≡ Some bytes → IsJournal base entries bytes → AllRuled base entries
+    → (Rose before now → ⊥) → IsNotReplayed seen before now status → status ≡ statuses.Memory
+all_or_wanted seen bytes before now base entries status told is all fine h =
+    replayed_or_wanted bytes before now base entries is all fine status
+    (subst (λ (disk : Option (List ℕ)). IsNotReplayed disk before now status) told h)
