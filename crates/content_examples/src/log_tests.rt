@@ -102,8 +102,11 @@ fn standing(alloc: Global, image: &[u8]) -> Result<u64, Fail>
 #[test]
 fn a_stop_leaves_what_stood(rt: HostRuntime) -> Result<(), Fail> {
     let alloc = rt.alloc();
+    // (behind the write of a gate and before its sync, what stood before or what stands after)
+    let mut both = false;
     for stop in 0..10 {
-        for pick in [0, 1, 2, 255] {
+        let (mut least, mut most) = (2, 0);
+        for pick in 0..256 {
             let mut disk = disk_of(alloc, &[], Some(stop))?;
             let mut done = 0;
             if let Ok(mut log) = Log::create(alloc, &mut disk, b"ab") {
@@ -119,7 +122,11 @@ fn a_stop_leaves_what_stood(rt: HostRuntime) -> Result<(), Fail> {
             let image = disk.crash(alloc, pick)?;
             let stands = standing(alloc, image.bytes())?;
             assert!(rt; done <= stands && stands <= 2);
+            least = if stands < least { stands } else { least };
+            most = if stands > most { stands } else { most };
         }
+        both = both || least == 1 && most == 2;
     }
+    assert!(rt; both);
     Ok(())
 }
