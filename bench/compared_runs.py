@@ -158,3 +158,10 @@ def play(checks, name, first, ticks, uploads, said=None, asked=None, status=0, e
         faults.append(f"the lines of the check are {out.decode().splitlines()} and not {said}")
     checks.note(name, faults, 1 + sum(answers_in(step, tables_at(uploads, step.world["tick"] - 1)) for step in steps))
     return steps
+
+
+def replay(checks, name, first, steps):
+    """A replay of the journal of a run, as bench/worlds.py writes it: the program rules each tick of it again, the whole world at once."""
+    if checks.has_program:
+        files = {"journal.bin": journal_of(first, steps)}
+        checks.note(f"the replay of {name}", faults_of(["replay", "journal.bin"], files, 0, f"replayed {len(steps)}\n".encode()))

@@ -38,10 +38,12 @@ def drawn(first, ticks, players, calls, changes):
 
 
 def play_drawn(checks, name, first, ticks, players, calls, changes):
-    """The same in the program. Answers how often each action did something, and nothing, and how often each change came."""
+    """The same in the program, whose journal is then replayed: the run goes room by room, and the replay rules each tick at once. Answers how
+    often each action did something, and nothing, and how often each change came."""
     uploads, steps, done = drawn(first, ticks, players, calls, changes)
     checks.note(f"the worlds of {name} keep the rules", world_faults(first, steps))
     compared_runs.play(checks, name, first, ticks, uploads, steps=steps)
+    compared_runs.replay(checks, name, first, steps)
     return done
 
 

@@ -27,6 +27,8 @@ NONE = "none"
 RUNS = {
     "command_words::read_words": "program.py",
     "counted_record::CountedRecord::reserve": "desk.py",
+    "changed_rules::Census::enter": "journals.py",
+    "changed_rules::Census::leave": "journals.py",
     "exit_crossing::all_crossers": "creeps.py",
     "exit_crossing::crossers": "creeps.py",
     "frame_log::Log::append Ok": "journals.py",
@@ -60,7 +62,8 @@ RUNS = {
     "room_step::step_taken": "rooms.py",
     "room_terrain::Terrain::of": "program.py",
     "rule_check::first_broken": "world_files.py",
-    "rule_check::keeps_object_rules": "journals.py",
+    "rule_check::keeps_room_rules": "journals.py",
+    "rule_check::list_of": "journals.py",
     "ruled_tick::copied": "rooms.py",
     "ruled_tick::tick_table": "rooms.py",
     "ruled_tick::widen": "rooms.py",
@@ -109,6 +112,7 @@ RUNS = {
 # What a call meets in the tests of another one that makes it.
 THROUGH = {
     "kept_entries::kept_entries": "ruled_tick::tick_plain",
+    "rule_check::keeps_object_rules": "record_follows::follows",
     "ruled_tick::tick_taken": "ruled_tick::tick_plain",
     "object_store::World::copy": "ruled_tick::tick_plain",
     "object_store::Account::copy": "object_store::World::copy",

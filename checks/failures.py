@@ -21,7 +21,7 @@ sys.path.insert(0, os.path.join(TOP, "bench"))
 from checked_program import PROGRAM, Checks, content_of, shown, write_files  # noqa: E402
 from game import SECOND, thing  # noqa: E402
 from modules import module  # noqa: E402
-from worlds import MIB, SMALL, Refused, Upload, bytes_of, contents_of, journal_of, output_of, played, room, start_line, stream_of, world  # noqa: E402
+from worlds import MIB, SMALL, Refused, Upload, bytes_of, contents_of, journal_of, output_of, played, room, start_line, stream_of, text_of, world  # noqa: E402
 
 checks = Checks(__file__)
 check, note = checks.check, checks.note
@@ -119,6 +119,25 @@ def check_memory_of_inputs(folder, least):
         note(f"{name}, where there are 48 MiB", [] if found == fault else [f"{shown(found)}, wanted {shown(fault)}"])
 
 
+def check_memory_of_journals(folder, least):
+    """A journal that is longer than memory lets it be is gone on with, shown and replayed: its frames are held one at a time."""
+    ticks = 60
+    uploads = [entry for tick in range(ticks) for entry in of_nobody(tick, 1, MIB)]
+    steps = played(SMALL, ticks, uploads)
+    kept = journal_of(SMALL, steps)
+    write_files(folder, {"world.json": bytes_of(SMALL), "uploads.bin": b"", FILES[2]: kept})
+    shown_world = text_of(steps[-1].world) + b"\n"
+    calls = {
+        "replayed": (["replay", FILES[2]], b"replayed %d\n" % ticks),
+        "shown": (["show", FILES[2], str(ticks)], shown_world),
+        "gone on with": (words_of(0), start_line(steps[-1].world).encode()),
+    }
+    for name, (words, out) in calls.items():
+        found = ended([PROGRAM, *words], folder, preexec_fn=within(least + 16 * MIB))
+        wanted = (0, out, b"", bounded(kept))
+        note(f"a journal of {len(kept) // MIB} MiB, {name} where there are 16 MiB", [] if found == wanted else [f"{shown(found)}, wanted {shown(wanted)}"])
+
+
 def check_memory_of_checks(folder, least):
     """The check of a module of a mebibyte, under limits from one where it hardly begins on."""
     write_files(folder, {"module.wasm": module([b"\x01" * 95] * 9_999)})
@@ -138,6 +157,7 @@ def check_memory():
         least = least_limit(folder)
         check_memory_of_runs(folder, least)
         check_memory_of_inputs(folder, least)
+        check_memory_of_journals(folder, least)
         check_memory_of_checks(folder, least)
 
 
@@ -295,6 +315,22 @@ def check_disk(folder):
             note(f"call {number} of {most} of {kinds} fails", faults)
 
 
+def check_folder(folder):
+    """A new journal's name outlasts a crash, since its folder is synced, once a run and before anything else; a run goes on where the file system
+    syncs no folder, and ends where it fails."""
+    write_files(folder, {"world.json": bytes_of(SMALL), "uploads.bin": b""})
+    steps = played(SMALL, TICKS)
+    at_folder = ("-P", os.path.realpath(folder), "-e", f"trace={SYNCS}")
+    lines, kept = output_of(SMALL, steps), journal_of(SMALL, steps)
+    wanted = {None: (0, lines, b"", kept), "EINVAL": (0, lines, b"", kept), "EIO": (7, b"", FAULTS[7], b"")}
+    names = {None: "the journal's folder is synced", "EINVAL": "a file system syncs no folder", "EIO": "the sync of the journal's folder fails"}
+    for error, left in wanted.items():
+        forget_journal(folder)
+        found, calls = traced(words_of(TICKS), folder, *at_folder, *(("-e", f"inject={SYNCS}:error={error}") if error else ()))
+        faults = [] if len(calls) == 1 else [f"{len(calls)} calls"]
+        note(names[error], faults + ([] if found == left else [f"{shown(found)}, wanted {shown(left)}"]))
+
+
 def went_on_faults(folder, steps, ticks):
     """What is wrong where the next run makes the ticks that are left."""
     status, _, err, kept = ended([PROGRAM, *words_of(ticks)], folder)
@@ -381,7 +417,7 @@ def check_calls():
     if reason:
         print(f"{checks.path}: no call was made to fail, and the order of writes and syncs was not looked at, since {reason}")
         return
-    for of in (check_sources, check_disk, check_kept, check_output, check_interrupted, check_syncs):
+    for of in (check_sources, check_disk, check_folder, check_kept, check_output, check_interrupted, check_syncs):
         with tempfile.TemporaryDirectory() as folder:
             of(folder)
 

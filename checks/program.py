@@ -22,7 +22,7 @@ sys.path.insert(0, os.path.join(TOP, "bench"))
 from checked_program import Checks, run, shown  # noqa: E402
 from modules import HOST_CALLS, I32, OPENING, func_type, host_import, leb, listed, section  # noqa: E402
 from game import SECOND  # noqa: E402
-from worlds import CLOSED, MIB, OPEN, SMALL, Step, base_content, bytes_of, frame, full, grounds, journal_of, output_of, played, room, start_line, step_lines, text_of, thing, tick_content, upload_entry, world  # noqa: E402
+from worlds import CLOSED, MIB, OPEN, SMALL, Step, base_content, bytes_of, frame, full, grounds, journal_of, output_of, played, room, room_bytes, start_line, step_lines, text_of, thing, tick_content, upload_entry, world  # noqa: E402
 
 FULL = "/dev/full"
 MOST_NEXT = 2**32 - 2**20
@@ -337,6 +337,60 @@ def check_shows():
         check(f"the words {words}", words, {"journal.bin": whole}, 2, err=refused(2, "Usage"))
 
 
+# ---- the ticks of a journal, ruled again
+
+REPLAY = ["replay", "journal.bin"]
+
+
+def other_tick(first, count, at, change):
+    """The journal of some ticks of a world, of which one, counted from 0, has another world after it; with the fault line that a replay has to end with."""
+    steps = played(first, count)
+    world_after = copy.deepcopy(steps[at].world)
+    index = change(world_after)
+    kept, ruled = (room_bytes(index, it["rooms"][index]) for it in (world_after, steps[at].world))
+    place = next(n for n in range(max(len(kept), len(ruled)) + 1) if kept[n : n + 1] != ruled[n : n + 1])
+    one, other = (str(form[place]) if place < len(form) else "none" for form in (kept, ruled))
+    steps[at] = Step([], [], world_after)
+    kept_journal = journal_of(first, [*steps[: at + 1], *played(world_after, count - at - 1)])
+    return kept_journal, refused(14, f"Differs {world_after['tick']} {index} {place} {one} {other}")
+
+
+def richer(index, key, more):
+    """A change of a world: so much more in this field of the last object of a room, or another next serial."""
+
+    def change(it):
+        place = it["rooms"][index]
+        (place if key == "next" else place["objects"][-1])[key] += more
+        return index
+
+    return change
+
+
+def check_replays():
+    for name, first in (("the small world", SMALL), ("two rooms", WIDE), ("all kinds", HELD)):
+        for count in (0, 1, 5):
+            check(f"the replay of {count} ticks of {name}", REPLAY, {"journal.bin": journal_of(first, played(first, count))}, 0, out=f"replayed {count}\n".encode())
+    for first, at, change in ((SMALL, 0, richer(0, "energy", 1)), (SMALL, 2, richer(0, "next", 256)), (WIDE, 1, richer(1, "energy", 1)), (WIDE, 2, richer(0, "next", 1))):
+        kept, fault = other_tick(first, 3, at, change)
+        check(f"the replay of a journal with another tick {at}", REPLAY, {"journal.bin": kept}, 14, err=fault)
+    past = world(room("E0S0", MOST_NEXT, thing("pile", 1, 5, 5, energy=9000)), room("E1S0", MOST_NEXT + 1, thing("pile", SECOND + 1, 5, 5, energy=9000)))
+    check("the replay of a tick that no room could rule", REPLAY, {"journal.bin": journal_of(past, played(past, 1))}, 10, err=refused(10, "IdsExhausted 1"))
+    check("the replay of no tick of such a world", REPLAY, {"journal.bin": journal_of(past, [])}, 0, out=b"replayed 0\n")
+    whole = journal_of(SMALL, played(SMALL, 2))
+    check("the replay of what stands before the closed gate", REPLAY, {"journal.bin": whole + b"\1tail"}, 0, out=b"replayed 2\n")
+    for kept in (b"", b"\0", b"\1", b"x"):
+        check(f"the replay of a journal in which nothing was recorded, of {len(kept)} bytes", REPLAY, {"journal.bin": kept}, 15, err=refused(15, "NoJournal"))
+    for kept, at in ((b"hello", 0), (whole[:-1], len(journal_of(SMALL, played(SMALL, 1))) - 1)):
+        check(f"the replay of a journal of {len(kept)} bytes that is faulty at {at}", REPLAY, {"journal.bin": kept}, 8, err=refused(8, f"NotAJournal {at}"))
+    fault = refused(7, "DiskFault")
+    check("the replay of no file", REPLAY, {}, 7, err=fault)
+    check("the replay of a folder", REPLAY, {"journal.bin": None}, 7, err=fault)
+    with open(FULL, "wb") as sink:
+        check("a replay, to a full standard output", REPLAY, {"journal.bin": whole}, 6, err=refused(6, "WriteFault"), stdout=sink)
+    for words in (["replay"], [*REPLAY, "0"], [*REPLAY, "--ticks", "1"], ["replay", "-j"]):
+        check(f"the words {words}", words, {"journal.bin": whole}, 2, err=refused(2, "Usage"))
+
+
 def check_words():
     path, paths = "module.wasm", RUN[1:4]
     orders = [
@@ -397,7 +451,6 @@ def check_words():
         ["check", "-m"],
         ["check", "--"],
         ["check", "--", path, path],
-        ["replay", "journal.bin"],
         ["serve"],
         [*RUN[:2], *RUN[4:]],
         ["run", b"\xff.json", *RUN[2:]],
@@ -412,16 +465,20 @@ def check_words():
 def check_pages():
     """What the program says of itself. Its texts are compared in part: docs/hosting.md has their first and last lines."""
     pages = {
-        ("--help",): [b"run WORLD UPLOADS JOURNAL --ticks N", b"check MODULE", b"gen SEED ROOMS PART", b"show JOURNAL TICK", b"docs/hosting.md", b"docs/players.md"],
+        ("--help",): [b"run WORLD UPLOADS JOURNAL --ticks N", b"check MODULE", b"gen SEED ROOMS PART", b"demo SEED ROOMS TICKS", b"show JOURNAL TICK", b"replay JOURNAL", b"docs/hosting.md", b"docs/players.md"],
         ("run", "--help"): [b"WORLD", b"UPLOADS", b"JOURNAL", b"--ticks N", b"docs/hosting.md"],
         ("check", "--help"): [b"MODULE", b"docs/players.md"],
         ("gen", "--help"): [b"SEED", b"ROOMS", b"PART", b"`world`", b"`uploads`", b"docs/hosting.md", b"docs/formats.md"],
         ("show", "--help"): [b"JOURNAL", b"TICK", b"docs/hosting.md", b"docs/formats.md"],
+        ("demo", "--help"): [b"SEED", b"ROOMS", b"TICKS", b"docs/hosting.md"],
+        ("replay", "--help"): [b"JOURNAL", b"docs/hosting.md"],
         ("--version",): [b"world_server 1\n"],
         ("run", "--version"): [b"world_server 1\n"],
         ("check", "--version"): [b"world_server 1\n"],
         ("gen", "--version"): [b"world_server 1\n"],
         ("show", "--version"): [b"world_server 1\n"],
+        ("demo", "--version"): [b"world_server 1\n"],
+        ("replay", "--version"): [b"world_server 1\n"],
     }
     for words, parts in pages.items():
         with tempfile.TemporaryDirectory() as folder:
@@ -614,7 +671,7 @@ MAKER = "players/upload_stream.py "
 SHOWER = "players/show_room.py "
 
 # How many examples each document has: one that is lost, or that is no longer found, is a fault as one too many is.
-EXAMPLES = {"README.md": 1, "docs/hosting.md": 20, "docs/players.md": 23}
+EXAMPLES = {"README.md": 6, "docs/hosting.md": 25, "docs/players.md": 23}
 
 # What the other blocks of these documents begin with, and where they are run, if anywhere.
 OF_PLAYERS, OF_GATE, NOWHERE = "checks/players.py", ".ci/run", "a form, or a command that takes a prover or a compiler for Rust"
@@ -625,7 +682,9 @@ OTHERS = {
         "world_server run --ticks N -- WORLD ": NOWHERE,
         "world_server check MODULE": NOWHERE,
         "world_server gen SEED ROOMS PART": NOWHERE,
+        "world_server demo SEED ROOMS TICKS": NOWHERE,
         "world_server show JOURNAL TICK": NOWHERE,
+        "world_server replay JOURNAL": NOWHERE,
         "flock game.journal.lock ": NOWHERE,
     },
     "docs/players.md": {
@@ -737,6 +796,7 @@ def main():
     check_world_faults()
     check_faults()
     check_shows()
+    check_replays()
     check_words()
     check_pages()
     check_modules()

@@ -4,7 +4,8 @@ of players from all of them.
 
 It runs behind `rt ci`, which builds crates/world_server/out/world_server. First come 200 small worlds of two to six rooms, apart, in rows and in rings,
 each drawn by its own number, in which all actions come and creeps cross; after each tick every object, every room and every account is
-compared with what bench/game.py makes of it. Then come 40 worlds in which nothing comes into the first room or leaves it: it has to become the same,
+compared with what bench/game.py makes of it, and `replay` has to rule the ticks of the journal, which a run makes room by room, to the same
+worlds. Then come 40 worlds in which nothing comes into the first room or leaves it: it has to become the same,
 byte for byte, where it is the whole world, where it is one room of several, and where the players want something of the other rooms too. Last come
 points of several rooms, rooms that lose all that they have, one room alone, and one creep in the last of 400 rooms.
 
