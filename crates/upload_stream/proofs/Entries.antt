@@ -2,8 +2,8 @@
 use Rattle.std.proofs.Common.{◌≡◌, ℕ, ◌+◌, ◌^◌, ◌<◌, List, ◌++◌, length, sym, ap, ◌∙◌, refl, arith, append_assoc, length-append}
 use Rattle.std.specs.List.{AllByRecursion}
 use Rattle.byteorder.specs.Endian.{little_bytes}
-use Rattle.upload_stream.specs.Entries.{BeginsNone}
-use Rattle.upload_stream.specs.Streams.{Upload, BeginsWith, entry_bytes}
+use Rattle.upload_stream.specs.Entries.{BeginsNone, BeginsWith}
+use Rattle.upload_stream.specs.Streams.{Upload, entry_bytes}
 use Rattle.upload_stream.proofs.Words.{behind_word, text_one}
 
 -- ---- an entry, field by field
@@ -12,7 +12,7 @@ entry_split : (upload : Upload) (rest : List ℕ) → entry_bytes upload ++ rest
 unfolding entry_bytes
 entry_split upload rest = simp append_assoc
 
-entry_length : (upload : Upload) → length (entry_bytes upload) ≡ 16 + length upload.bytes
+pub entry_length : (upload : Upload) → length (entry_bytes upload) ≡ 16 + length upload.bytes
 unfolding entry_bytes
 entry_length upload =
     simp length-append (omega arith)

@@ -1,25 +1,25 @@
 -- Uploads whose ticks do not fall, and those of one tick.
 use Rattle.std.proofs.Common.{◌≡◌, ℕ, zero, suc, ◌+◌, ◌<◌, ◌≤◌, true, false, eqb, ltb, leb, List, [], ◌∷◌, length, get_or, take, drop, map, inl, inr, sym, ap, refl, arith, eq-eqb}
 use Rattle.std.proofs.lemmas.Bool.{ltb-true, ltb-false, leb-true, leb-false, ne_eqb, cases_lt}
+use Rattle.std.specs.List.{AllByRecursion}
 use Rattle.std.specs.List.Sorted.{IsNonDecreasingBy, IsPartitionPoint}
 use Rattle.upload_stream.specs.declared.stream.Upload.{Upload as Lent}
 use Rattle.upload_stream.specs.Entries.{upload_of}
-use Rattle.upload_stream.specs.Streams.{Upload, UploadsFrom, uploads_at}
+use Rattle.upload_stream.specs.Streams.{NeverFall, Upload, uploads_at}
 
 -- ---- streams rise
 
-no_earlier : (least : ℕ) (bytes : List ℕ) (uploads : List Lent) → UploadsFrom least bytes (map upload_of uploads) → (i : ℕ) (d : Lent) → i < length uploads → least ≤ (get_or uploads i d).tick
-no_earlier least bytes [] list i d within = absurd (omega arith)
-no_earlier least bytes (u ∷ later) list zero d within = list.1.order
-no_earlier least bytes (u ∷ later) list (suc i) d within =
-    omega (arith, list.1.order, no_earlier u.tick list.0 later list.2 i d (omega arith))
+no_earlier : (least : ℕ) (uploads : List Lent) → AllByRecursion (λ (other : Upload). least ≤ other.tick) (map upload_of uploads) → (i : ℕ) (d : Lent) → i < length uploads → least ≤ (get_or uploads i d).tick
+no_earlier least [] all i d within = absurd (omega arith)
+no_earlier least (u ∷ later) all zero d within = all.0
+no_earlier least (u ∷ later) all (suc i) d within = no_earlier least later all.1 i d (omega arith)
 
-pub ticks_rise : (least : ℕ) (bytes : List ℕ) (uploads : List Lent) → UploadsFrom least bytes (map upload_of uploads) → IsNonDecreasingBy (λ upload. upload.tick) uploads
-ticks_rise least bytes [] list i j d order within = absurd (omega arith)
-ticks_rise least bytes (u ∷ later) list zero zero d order within = omega arith
-ticks_rise least bytes (u ∷ later) list zero (suc j) d order within = no_earlier u.tick list.0 later list.2 j d (omega arith)
-ticks_rise least bytes (u ∷ later) list (suc i) zero d order within = absurd (omega arith)
-ticks_rise least bytes (u ∷ later) list (suc i) (suc j) d order within = ticks_rise u.tick list.0 later list.2 i j d (omega arith) (omega arith)
+pub ticks_rise : (uploads : List Lent) → NeverFall (map upload_of uploads) → IsNonDecreasingBy (λ upload. upload.tick) uploads
+ticks_rise [] list i j d order within = absurd (omega arith)
+ticks_rise (u ∷ later) list zero zero d order within = omega arith
+ticks_rise (u ∷ later) list zero (suc j) d order within = no_earlier u.tick later list.0 j d (omega arith)
+ticks_rise (u ∷ later) list (suc i) zero d order within = absurd (omega arith)
+ticks_rise (u ∷ later) list (suc i) (suc j) d order within = ticks_rise later list.1 i j d (omega arith) (omega arith)
 
 -- ---- places among them
 

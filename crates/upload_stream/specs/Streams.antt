@@ -1,4 +1,5 @@
--- The stream of uploads: entries one after the other to the end, in rising tick. Numbers are little endian.
+-- The stream of uploads: entries one after the other to the end, whose ticks do not fall. Numbers are little
+-- endian.
 use Rattle.std.specs.Prelude.{◌≡◌, ◌≢◌, ℕ, ◌<◌, ◌≤◌, ◌^◌, ◌==◌, List, [], ◌∷◌, ◌++◌, length}
 use Rattle.std.specs.List.{AllByRecursion, filter, flat_map}
 use Rattle.byteorder.specs.Endian.{little_bytes}
@@ -26,37 +27,36 @@ pub record HasEntryForm (upload : Upload) : Type 0 where
   pub count : length upload.bytes < 2 ^ 32
   pub bytes : AllByRecursion (λ byte. byte < 2 ^ 8) upload.bytes
 
--- The bytes begin with this entry, whose tick is not less than that before it, and go on with the rest.
-pub record BeginsWith (least : ℕ) (bytes : List ℕ) (upload : Upload) (rest : List ℕ) : Type 0 where
-  pub form : HasEntryForm upload
-  pub order : least ≤ upload.tick
-  pub spells : bytes ≡ entry_bytes upload ++ rest
+-- No tick is less than one before it.
+abbrev pub NeverFall : List Upload → Type 0
+NeverFall [] = Unit {0}
+NeverFall (upload ∷ later) = AllByRecursion (λ other. upload.tick ≤ other.tick) later × NeverFall later
 
--- The bytes are these entries to their end, with ticks that do not fall, from this one on.
-abbrev pub UploadsFrom : ℕ → List ℕ → List Upload → Type 0
-UploadsFrom least bytes [] = bytes ≡ []
-UploadsFrom least bytes (upload ∷ later) =
-    (rest : List ℕ) × BeginsWith least bytes upload rest × UploadsFrom upload.tick rest later
+-- Each fits its fields, and the ticks do not fall.
+pub record AreEntries (uploads : List Upload) : Type 0 where
+  pub forms : AllByRecursion HasEntryForm uploads
+  pub order : NeverFall uploads
+
+-- the entries, one after the other
+abbrev pub stream_bytes : List Upload → List ℕ
+stream_bytes uploads = flat_map entry_bytes uploads
 
 -- The bytes are a stream of these uploads.
-abbrev pub UploadList : List ℕ → List Upload → Type 0
-UploadList bytes uploads = UploadsFrom 0 bytes uploads
+pub record UploadList (bytes : List ℕ) (uploads : List Upload) : Type 0 where
+  pub entries : AreEntries uploads
+  pub spells : bytes ≡ stream_bytes uploads
 
--- Something is left, and it begins with no entry: what is there is not whole, or its tick is less than that
--- before it.
-abbrev pub IsBad : ℕ → List ℕ → Type 0
-IsBad least bytes =
-    (bytes ≢ []) × ((upload : Upload) (rest : List ℕ) → BeginsWith least bytes upload rest → ⊥)
-
--- Behind these entries the next one is bad.
-abbrev pub BadAfter : ℕ → List ℕ → List Upload → Type 0
-BadAfter least bytes [] = IsBad least bytes
-BadAfter least bytes (upload ∷ later) =
-    (rest : List ℕ) × BeginsWith least bytes upload rest × BadAfter upload.tick rest later
-
--- The first bad entry begins at this place.
-abbrev pub IsFirstBad : List ℕ → ℕ → Type 0
-IsFirstBad bytes at = (good : List Upload) × BadAfter 0 bytes good × (at ≡ length (flat_map entry_bytes good))
+-- The first bad entry begins at this place: good ones stand before it, something is left, and that begins
+-- with no entry that may come next.
+pub record IsFirstBad (bytes : List ℕ) (at : ℕ) : Type 0 where
+  pub good : List Upload
+  pub rest : List ℕ
+  pub entries : AreEntries good
+  pub spells : bytes ≡ stream_bytes good ++ rest
+  pub place : at ≡ length (stream_bytes good)
+  pub left : rest ≢ []
+  pub bad : (next : Upload) (behind : List ℕ) → AreEntries (good ++ next ∷ [])
+      → rest ≡ entry_bytes next ++ behind → ⊥
 
 -- the uploads of a tick, in their order
 abbrev pub uploads_at : ℕ → List Upload → List Upload

@@ -2,8 +2,9 @@
 ghost use Rattle.std.specs.Prelude.{◌≡◌, ℕ, ◌+◌, ◌<◌, ◌≤◌, ◌^◌, length, map, IfOk, IfErr, OnOk, OnErr};
 ghost use Rattle.std.specs.List.{AllByRecursion};
 ghost use Rattle.std.specs.List.Sorted.{IsNonDecreasingBy, IsPartitionPoint};
-ghost use Rattle.upload_stream.specs.Entries.{BeginsNone, upload_of};
-ghost use Rattle.upload_stream.specs.Streams.{BeginsWith, IsFirstBad, UploadList, module_bytes_bound, uploads_at};
+ghost use Rattle.upload_stream.specs.Entries.{BeginsNone, BeginsWith, upload_of};
+ghost use Rattle.upload_stream.specs.Streams.{IsFirstBad, UploadList, module_bytes_bound};
+ghost use Rattle.upload_stream.specs.Streams.{uploads_at};
 
 use crate::fault::StreamFault;
 use byte_fields::{Cursor, Short};

@@ -27,8 +27,8 @@ each-preserved c = record {
 
 pub returns-clause-list : goal.returns-clause-list
 returns-clause-list c =
-    leads_end 0 c.args.bytes.now (map upload_of c.each.uploads.items) c.each.least c.each.from.0 c.each.invariant.read (none_left c.each.from.0 (omega (arith, c.left.ensures, c.each-test.false)))
+    leads_end c.args.bytes.now (map upload_of c.each.uploads.items) c.each.least c.each.from.0 c.each.invariant.read (none_left c.each.from.0 (omega (arith, c.left.ensures, c.each-test.false)))
 
 pub returns-clause-order : goal.returns-clause-order
 returns-clause-order c =
-    ticks_rise 0 c.args.bytes.now c.each.uploads.items (leads_end 0 c.args.bytes.now (map upload_of c.each.uploads.items) c.each.least c.each.from.0 c.each.invariant.read (none_left c.each.from.0 (omega (arith, c.left.ensures, c.each-test.false))))
+    ticks_rise c.each.uploads.items (leads_end c.args.bytes.now (map upload_of c.each.uploads.items) c.each.least c.each.from.0 c.each.invariant.read (none_left c.each.from.0 (omega (arith, c.left.ensures, c.each-test.false)))).entries.order
