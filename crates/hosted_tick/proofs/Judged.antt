@@ -13,18 +13,18 @@ use Rattle.tick_journal.specs.declared.entries.UploadEntry.{UploadEntry}
 use Rattle.hosted_tick.specs.Next.{AreJudged, IsResult, Modules, entry_of, modules_after}
 
 -- a refusal of the bytes of a player's upload
-pub refused : (world : World) (upload : Upload) (refusal : Refusal) → IsPlayer world upload.player → IsRefused upload.bytes refusal → refusal ≢ Memory → IsResult world upload (Some refusal)
-refused world upload UnknownPlayer is why known = absurd why
-refused world upload WrongToken is why known = absurd why
-refused world upload TooLarge is why known = (is, why)
-refused world upload Malformed is why known = (is, why)
-refused world upload FloatRefused is why known = (is, why)
-refused world upload Invalid is why known = (is, why)
-refused world upload UnknownImport is why known = (is, why)
-refused world upload ImportKind is why known = (is, why)
-refused world upload NoLoop is why known = (is, why)
-refused world upload Segment is why known = (is, why)
-refused world upload Memory is why known = known refl
+pub refused : (world : World) (upload : Upload) (refusal : Refusal) → IsPlayer world upload.player → IsRefused upload.bytes refusal → IsResult world upload (Some refusal)
+refused world upload UnknownPlayer is why = absurd why
+refused world upload WrongToken is why = absurd why
+refused world upload TooLarge is why = (is, why)
+refused world upload Malformed is why = (is, why)
+refused world upload FloatRefused is why = (is, why)
+refused world upload Invalid is why = (is, why)
+refused world upload UnknownImport is why = (is, why)
+refused world upload ImportKind is why = (is, why)
+refused world upload NoLoop is why = (is, why)
+refused world upload Segment is why = (is, why)
+refused world upload Memory is why = (is, why)
 
 judged_push : (world : World) (modules : Modules) (uploads : List Upload) (after : Modules) (records : List UploadEntry) (upload : Upload) (judgement : Option Refusal)
     → AreJudged world modules uploads after records → IsResult world upload judgement

@@ -7,7 +7,7 @@ use Rattle.object_store.specs.declared.account.Account.{Account}
 use Rattle.intent_book.specs.Refusals.{refusal_number}
 use Rattle.intent_book.specs.declared.player_run.PlayerRun.{PlayerRun}
 use Rattle.intent_book.specs.declared.refusal.Refusal.{Refusal}
-use Rattle.intent_book.specs.declared.refusal.Refusal.TheVariants.{UnknownPlayer, Memory}
+use Rattle.intent_book.specs.declared.refusal.Refusal.TheVariants.{UnknownPlayer}
 use Rattle.world_rules.specs.Rules.{IsPlayer}
 use Rattle.world_rules.specs.Tick.{next_world}
 use Rattle.world_rules.specs.World.{World}
@@ -33,7 +33,6 @@ pub record State : Type 0 where
 abbrev pub IsResult : World → Upload → Option Refusal → Type 0
 IsResult world upload None = IsPlayer world upload.player × IsAccepted upload.bytes
 IsResult world upload (Some UnknownPlayer) = ¬ IsPlayer world upload.player
-IsResult world upload (Some Memory) = ⊥
 IsResult world upload (Some refusal) = IsPlayer world upload.player × IsRefused upload.bytes refusal
 
 -- An accepted module becomes its player's; a refused one leaves things as they were.

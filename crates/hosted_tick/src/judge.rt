@@ -1,5 +1,6 @@
 // The judgement of a tick's uploads.
-ghost use Rattle.std.specs.Prelude.{◌≡◌, ◌≢◌, length, map, nat_le, if◌then◌else◌, [], Option, None, Some, IfOk, IfErr, OnOk};
+ghost use Rattle.std.specs.Prelude.{◌≡◌, ◌≢◌, length, map, nat_le, if◌then◌else◌, [], Option, None, Some};
+ghost use Rattle.std.specs.Prelude.{IfOk, IfErr, OnOk};
 ghost use Rattle.std.specs.FinMap.{insert};
 ghost use Rattle.world_rules.specs.World.{world_of};
 ghost use Rattle.wasm_link.specs.Kept.{link_view};

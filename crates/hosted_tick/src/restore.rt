@@ -13,8 +13,8 @@ use player_run::{Linked, admit};
 use std::alloc::Global;
 use std::collections::BTreeMap;
 
-/// The modules of these bytes, each decoded, validated and linked again. They were accepted before, so that want
-/// of memory alone refuses one.
+/// The modules of these bytes, each decoded, validated and linked again. They were accepted before, so that
+/// want of memory alone refuses one.
 pub(crate) fn link_all(alloc: Global, modules: BTreeMap<u32, Bytes>) -> Result<Modules, NoMemory>
     ensures same { IfOk result (λ linked. modules_of linked.entries ≡ from_entries modules.entries) }
     ensures linked { IfOk result (λ linked. AreLinked linked.entries) }
@@ -29,7 +29,8 @@ pub(crate) fn link_all(alloc: Global, modules: BTreeMap<u32, Bytes>) -> Result<M
 // Links a module again, and keeps it as that of its player.
 fn add(alloc: Global, player: u32, bytes: Bytes, linked: &mut Modules) -> Result<(), NoMemory>
     requires { AreLinked linked.old.entries }
-    ensures kept { OnOk result (modules_of linked.new.entries ≡ insert (modules_of linked.old.entries) player bytes) }
+    ensures kept { OnOk result
+        (modules_of linked.new.entries ≡ insert (modules_of linked.old.entries) player bytes) }
     ensures linked { OnOk result (AreLinked linked.new.entries) }
 {
     let module = link(alloc, &bytes)?;

@@ -66,23 +66,23 @@ module _ (bytes : List ℕ) (link : Link) (a : Accepts bytes link) where
       faultless fault.Memory memory f = memory refl
 
   -- They are not refused.
-  pub not_refused : (refusal : Refusal) → refusal ≢ refusals.Memory → IsRefused bytes refusal → ⊥
-  not_refused refusals.UnknownPlayer memory r = r
-  not_refused refusals.WrongToken memory r = r
-  not_refused refusals.TooLarge memory r = large_or_within bytes r.0 r.1 a.syntax a.spells.0
-  not_refused refusals.Malformed memory r = r.1 a.syntax a.spells.0.0
-  not_refused refusals.FloatRefused memory r = r.2 (subst HasNoFloat (same_module r.0 r.1.0) a.spells.1)
-  not_refused refusals.Invalid memory r = r.3 (subst IsValid (same_module r.0 r.1.0) a.spells.2)
-  not_refused refusals.UnknownImport memory r = not_unlinked (fault.UnknownImport r.0) (λ e. absurd cc) r.1
-  not_refused refusals.ImportKind memory r = not_unlinked (fault.ImportKind r.0) (λ e. absurd cc) r.1
-  not_refused refusals.NoLoop memory r = not_unlinked fault.NoLoop (λ e. absurd cc) r
-  not_refused refusals.Segment memory r = not_unlinked (fault.Segment r.0) (λ e. absurd cc) r.1
-  not_refused refusals.Memory memory r = memory refl
+  pub not_refused : (refusal : Refusal) → IsRefused bytes refusal → ⊥
+  not_refused refusals.UnknownPlayer r = r
+  not_refused refusals.WrongToken r = r
+  not_refused refusals.TooLarge r = large_or_within bytes r.0 r.1 a.syntax a.spells.0
+  not_refused refusals.Malformed r = r.1 a.syntax a.spells.0.0
+  not_refused refusals.FloatRefused r = r.2 (subst HasNoFloat (same_module r.0 r.1.0) a.spells.1)
+  not_refused refusals.Invalid r = r.3 (subst IsValid (same_module r.0 r.1.0) a.spells.2)
+  not_refused refusals.UnknownImport r = not_unlinked (fault.UnknownImport r.0) (λ e. absurd cc) r.1
+  not_refused refusals.ImportKind r = not_unlinked (fault.ImportKind r.0) (λ e. absurd cc) r.1
+  not_refused refusals.NoLoop r = not_unlinked fault.NoLoop (λ e. absurd cc) r
+  not_refused refusals.Segment r = not_unlinked (fault.Segment r.0) (λ e. absurd cc) r.1
+  not_refused refusals.Memory r = r
 
-pub refused_or_accepted : (bytes : List ℕ) (refusal : Refusal) (link : Link) → refusal ≢ refusals.Memory → IsRefused bytes refusal → Accepts bytes link → ⊥
-refused_or_accepted bytes refusal link memory r a = not_refused bytes link a refusal memory r
+pub refused_or_accepted : (bytes : List ℕ) (refusal : Refusal) (link : Link) → IsRefused bytes refusal → Accepts bytes link → ⊥
+refused_or_accepted bytes refusal link r a = not_refused bytes link a refusal r
 
 -- Where the bytes are refused they are not accepted, unless memory is wanted.
-pub refused_whole : {A : Type 0} (bytes : List ℕ) (r : Result A Refusal) → IfErr r (IsRefused bytes) → IfErr r (λ e. e ≢ refusals.Memory → (link : Link) → Accepts bytes link → ⊥)
+pub refused_whole : {A : Type 0} (bytes : List ℕ) (r : Result A Refusal) → IfErr r (λ e. e ≢ refusals.Memory → IsRefused bytes e) → IfErr r (λ e. e ≢ refusals.Memory → (link : Link) → Accepts bytes link → ⊥)
 refused_whole bytes (Ok x) h = h
-refused_whole bytes (Err e) h = λ memory link a. refused_or_accepted bytes e link memory h a
+refused_whole bytes (Err e) h = λ memory link a. refused_or_accepted bytes e link (h memory) a

@@ -119,12 +119,16 @@ reason_back refusals.NoLoop = refl
 reason_back refusals.Segment = refl
 reason_back refusals.Memory = refl
 
-pub refused_once : (bytes : List ℕ) (one other : Refusal) → IsRefused bytes one → IsRefused bytes other → one ≢ refusals.Memory → other ≢ refusals.Memory → one ≡ other
-refused_once bytes one other a b first second =
+-- want of memory is no refusal
+told : (bytes : List ℕ) (why : Refusal) → IsRefused bytes why → why ≢ refusals.Memory
+told bytes why is same = subst (IsRefused bytes) same is
+
+pub refused_once : (bytes : List ℕ) (one other : Refusal) → IsRefused bytes one → IsRefused bytes other → one ≡ other
+refused_once bytes one other a b =
     elim (cases_lt (refusal_number one) (refusal_number other)) [
-      | inl less ↦ absurd (apart bytes one other less second a b)
+      | inl less ↦ absurd (apart bytes one other less (told bytes other b) a b)
       | inr more ↦ elim (cases_lt (refusal_number other) (refusal_number one)) [
-        | inl less ↦ absurd (apart bytes other one less first b a)
+        | inl less ↦ absurd (apart bytes other one less (told bytes one a) b a)
         | inr most ↦
             let same : refusal_number one ≡ refusal_number other = omega (arith, more, most) in
             sym (reason_back one) ∙ ap reason_of same ∙ reason_back other

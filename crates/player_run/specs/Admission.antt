@@ -41,7 +41,7 @@ IsUnlinked bytes why =
     × IsFault sigs m why
 
 -- The bytes are refused so, each reason coming before those below it but for the size of the bytes, which
--- comes first.
+-- comes first. Want of memory says nothing of the bytes, and so is no refusal of them.
 abbrev pub IsRefused : List ℕ → Refusal → Type 0
 IsRefused bytes refusals.TooLarge = (limit : Limit) × IsTooLarge bytes limit
 IsRefused bytes refusals.Malformed = WithinBytes bytes × ((m : Syntax Ops) → Spells bytes m → ⊥)
@@ -51,5 +51,4 @@ IsRefused bytes refusals.UnknownImport = (place : ℕ) × IsUnlinked bytes (faul
 IsRefused bytes refusals.ImportKind = (place : ℕ) × IsUnlinked bytes (fault.ImportKind place)
 IsRefused bytes refusals.NoLoop = IsUnlinked bytes fault.NoLoop
 IsRefused bytes refusals.Segment = (place : ℕ) × IsUnlinked bytes (fault.Segment place)
-IsRefused bytes refusals.Memory = Unit {0}
 IsRefused bytes refusal = ⊥

@@ -17,10 +17,10 @@ use wasm_validate::{Valid, ValidFault, validate};
 
 /// The module of these bytes, linked to the host calls, or the first reason why it is refused.
 ///
-/// `UnknownPlayer` and `WrongToken` are never the answer.
+/// `UnknownPlayer` and `WrongToken` are never the answer. `Memory` says nothing of the bytes.
 pub fn admit(alloc: Global, bytes: &[u8]) -> Result<Linked, Refusal>
     ensures accepted { IfOk result (λ linked. Accepts bytes.now (link_view linked)) }
-    ensures refused { IfErr result (IsRefused bytes.now) }
+    ensures refused { IfErr result (λ why. why ≢ Refusal.Memory → IsRefused bytes.now why) }
     ensures complete { IfErr result (λ e. e ≢ Refusal.Memory → (link : Link) → Accepts bytes.now link → ⊥) }
 {
     match decode(alloc, bytes) {
@@ -38,7 +38,7 @@ fn admit_module(alloc: Global, found: Module) -> Result<Linked, Refusal>
     ensures accepted { (bytes : List ℕ) → WithinBytes bytes → Spells bytes (module_view found)
         → IfOk result (λ linked. Accepts bytes (link_view linked)) }
     ensures refused { (bytes : List ℕ) → WithinBytes bytes → Spells bytes (module_view found)
-        → IfErr result (IsRefused bytes) }
+        → IfErr result (λ why. why ≢ Refusal.Memory → IsRefused bytes why) }
 {
     match validate(alloc, found) {
         Ok(valid) => admit_valid(alloc, valid),
@@ -57,7 +57,7 @@ fn admit_valid(alloc: Global, valid: Valid) -> Result<Linked, Refusal>
     ensures accepted { (bytes : List ℕ) → WithinBytes bytes → Spells bytes (module_view valid)
         → IfOk result (λ linked. Accepts bytes (link_view linked)) }
     ensures refused { (bytes : List ℕ) → WithinBytes bytes → Spells bytes (module_view valid)
-        → IfErr result (IsRefused bytes) }
+        → IfErr result (λ why. why ≢ Refusal.Memory → IsRefused bytes why) }
 {
     match link(alloc, valid, host_sigs()) {
         Ok(linked) => Ok(linked),

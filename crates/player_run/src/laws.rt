@@ -1,9 +1,8 @@
 // Laws of runs.
-ghost use Rattle.std.specs.Prelude.{◌≡◌, ◌≢◌, ℕ, List};
+ghost use Rattle.std.specs.Prelude.{◌≡◌, ℕ, List};
 ghost use Rattle.intent_book.specs.Records.{AreOf};
 ghost use Rattle.intent_book.specs.declared.player_run.PlayerRun.{PlayerRun};
 ghost use Rattle.intent_book.specs.declared.refusal.Refusal.{Refusal};
-ghost use Rattle.intent_book.specs.declared.refusal.Refusal.TheVariants.{Memory};
 ghost use Rattle.visible_view.specs.Sights.{Sight};
 ghost use Rattle.wasm_link.specs.Linking.{Link};
 ghost use Rattle.player_run.specs.Admission.{Accepts, IsRefused};
@@ -26,13 +25,13 @@ pub fn emitted_in_own_name()
         → AreOf sight.account.player run.intents }
 {}
 
-/// Says that bytes have one judgement: they are accepted with one program, or refused for one reason,
-/// unless memory is wanted. It does nothing when it runs.
+/// Says that bytes have one judgement: they are accepted with one program, or refused for one reason. It does
+/// nothing when it runs.
 pub fn judged_once()
     ensures accepted { (bytes : List ℕ) (one other : Link) → Accepts bytes one → Accepts bytes other
         → one ≡ other }
     ensures one_reason { (bytes : List ℕ) (one other : Refusal) → IsRefused bytes one → IsRefused bytes other
-        → one ≢ Memory → other ≢ Memory → one ≡ other }
-    ensures refused { (bytes : List ℕ) (refusal : Refusal) (link : Link) → refusal ≢ Memory
-        → IsRefused bytes refusal → Accepts bytes link → ⊥ }
+        → one ≡ other }
+    ensures refused { (bytes : List ℕ) (refusal : Refusal) (link : Link) → IsRefused bytes refusal
+        → Accepts bytes link → ⊥ }
 {}

@@ -24,4 +24,4 @@ returns-in_ok-unless_memory-in-Err-clause-refused c =
     let found : find_account c.args.upload.now.player c.args.world.now.accounts ≡ Some c.in-Some.field-0.now = sym c.account.ensures ∙ ap (option_map (λ (a : Bor Account). a.now)) c.in-Some.is in
     let told = c.in_ok-unless_memory-in-Err.ensures in
     subst (λ (refusal : Refusal). IsResult (world_of c.args.world.now) (upload_of c.args.upload.now) (Some refusal)) (sym told.0)
-    (refused (world_of c.args.world.now) (upload_of c.args.upload.now) c.in-Err.refusal (is_player c.args.world.now c.args.upload.now.player c.in-Some.field-0.now found) c.in-Err.ensures.refused told.1)
+    (refused (world_of c.args.world.now) (upload_of c.args.upload.now) c.in-Err.refusal (is_player c.args.world.now c.args.upload.now.player c.in-Some.field-0.now found) (c.in-Err.ensures.refused told.1))

@@ -6,4 +6,4 @@ returns-in-Ok-clause-complete c =
     refused_whole c.args.bytes.now c.admit_module.result (c.admit_module.ensures.refused c.args.bytes.now c.in-Ok.ensures.within.0 c.in-Ok.ensures.found)
 
 pub returns-in-Err-Malformed-clause-refused : goal.returns-in-Err-Malformed-clause-refused
-returns-in-Err-Malformed-clause-refused c = c.in-Err-Malformed.ensures.malformed c.in-Err-Malformed.field-0-is
+returns-in-Err-Malformed-clause-refused c = λ other. c.in-Err-Malformed.ensures.malformed c.in-Err-Malformed.field-0-is
