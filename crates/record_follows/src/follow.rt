@@ -38,8 +38,8 @@ pub fn after(alloc: Global, before: &World, entry: &TickRecord) -> Result<World,
     Ok(world)
 }
 
-/// Leads the world with its census to the one after the record, where the record follows it, and says whether it
-/// does. Where it does not, and on want of memory, both may be any.
+/// Leads the world with its census to the one after the record, where the record follows it, and says whether
+/// it does. Where it does not, and on want of memory, both may be any.
 ///
 /// It takes time and memory for what is recorded, for the objects of these rooms before and after, and for a
 /// list of the rooms; where a record lowers the next serial of a room, for the whole world.
@@ -64,8 +64,11 @@ pub fn advance(
     census.enter(alloc, world, entry.rooms.as_slice(), kept)
 }
 
-// Puts what is recorded in the place of what was there.
-fn put(alloc: Global, world: &mut World, entry: &TickRecord) -> Result<(), NoMemory>
+/// Puts what is recorded in the place of what was there: the world is led to the one after the record. On
+/// want of memory it may be any.
+///
+/// It takes time and memory for what is recorded, and for a list of the rooms.
+pub fn put(alloc: Global, world: &mut World, entry: &TickRecord) -> Result<(), NoMemory>
     requires rooms { AllByRecursion (λ table. table.index < length world.old.rooms) entry.now.rooms }
     requires accounts { AllByRecursion (λ account. HasAccount account.player world.old.accounts)
         entry.now.accounts }

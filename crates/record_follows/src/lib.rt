@@ -6,6 +6,6 @@ mod follow;
 mod laws;
 mod putting;
 
-pub use follow::{advance, after, follows};
+pub use follow::{advance, after, follows, put};
 pub use laws::records_keep_rules;
 pub use std::alloc::AllocError as NoMemory;

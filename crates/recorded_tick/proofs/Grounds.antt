@@ -21,6 +21,7 @@ use Rattle.world_rules.specs.RuleBook.{Step, Sums}
 use Rattle.world_rules.specs.Tick.{Course, acted, after_actions, after_kind, after_rule, after_rules, after_steps, begun, book, harm_of, intents_of, movement, next_world, ruled, sums_in}
 use Rattle.world_rules.specs.Upkeep.{steps}
 use Rattle.world_rules.specs.World.{Frame, Placed, World, world_of}
+use Rattle.recorded_tick.specs.Recording.{ground_of}
 use Rattle.world_rules.proofs.Lifting.{frame_stored}
 
 -- the name and the grounds of a room
@@ -94,9 +95,6 @@ ruled_named world list k =
     ∙ actions_named world all_actions (kept world list) (begun world) k
 
 -- ---- stored worlds
-
-abbrev pub ground_of : Room → Outline
-ground_of room = (room.name, room.terrain)
 
 stored_at : (found : Option Room) → option_map framed (option_map (λ (room : Room). record { name = room.name; grounds = room.terrain; next = room.table.next }) found) ≡ option_map ground_of found
 stored_at None = refl

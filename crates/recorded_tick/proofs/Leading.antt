@@ -7,7 +7,7 @@ use Rattle.object_store.proofs.Rising.{Rises}
 use Rattle.object_store.specs.Tables.{Table, without_spare}
 use Rattle.object_store.specs.declared.account.Account.{Account}
 use Rattle.object_store.specs.declared.world.Room.{Room}
-use Rattle.object_store.specs.Stored.{Stored}
+use Rattle.object_store.specs.Stored.{AreRising, Stored}
 use Rattle.intent_book.specs.declared.player_run.PlayerRun.{PlayerRun}
 use Rattle.world_rules.specs.Sound.{IsSound}
 use Rattle.world_rules.specs.Tick.{next_world}
@@ -17,8 +17,8 @@ use Rattle.tick_journal.specs.BaseForms.{AreInPlace, room_as_read, world_as_read
 use Rattle.tick_journal.specs.TickForms.{tick_as_read}
 use Rattle.tick_journal.specs.declared.entries.UploadEntry.{UploadEntry}
 use Rattle.tick_journal.specs.declared.tick_record.TickRecord.{TickRecord}
-use Rattle.recorded_tick.specs.Recording.{HaveAsMany, IsRecordOf}
-use Rattle.recorded_tick.proofs.Grounds.{ground_of, grounds_stay}
+use Rattle.recorded_tick.specs.Recording.{HaveAsMany, IsRecordOf, ground_of}
+use Rattle.recorded_tick.proofs.Grounds.{grounds_stay}
 use Rattle.recorded_tick.proofs.Picked.{accounts_picked, bare_table, picked_put, put, rooms_picked}
 use Rattle.recorded_tick.proofs.Players.{players_are}
 
@@ -87,28 +87,32 @@ as_many_rooms before after grounds = sym (length-map before ground_of) ∙ ap le
 pub as_many_accounts : (before after : List Account) → map player_of before ≡ map player_of after → length before ≡ length after
 as_many_accounts before after players = sym (length-map before player_of) ∙ ap length players ∙ length-map after player_of
 
-module _ (before after_it : Stored) (runs : List PlayerRun) (sound : IsSound before) (well : IsSound after_it) (is : world_of after_it ≡ next_world (world_of before) runs) where
-  pub rooms_many : length before.rooms ≡ length after_it.rooms
-  rooms_many = as_many_rooms before.rooms after_it.rooms (grounds_stay before after_it runs is)
+-- What is recorded between two worlds of the same rooms and players leads from one to the other.
+module _ (before after_it : Stored) (grounds : map ground_of before.rooms ≡ map ground_of after_it.rooms) (players : map player_of before.accounts ≡ map player_of after_it.accounts)
+    (places : AreInPlace before.rooms) (places_after : AreInPlace after_it.rooms) (rising : AreRising after_it.accounts)
+    (uploads : List UploadEntry) (runs : List PlayerRun) (entry : TickRecord) (recorded : IsRecordOf before after_it uploads runs entry) where
+  rooms_lead : map (room_after (map without_spare entry.rooms)) (map room_as_read before.rooms) ≡ map room_as_read after_it.rooms
+  rooms_lead =
+      room_put (map without_spare entry.rooms) before.rooms after_it.rooms grounds
+      (picked_put index_of (map bare_table before.rooms) (map bare_table after_it.rooms) (map without_spare entry.rooms)
+      (same_indices 0 before.rooms after_it.rooms (as_many_rooms before.rooms after_it.rooms grounds) (stand_at before.rooms places) (stand_at after_it.rooms places_after)) (tables_rise after_it.rooms places_after)
+      (rooms_picked before.rooms after_it.rooms entry.rooms recorded.rooms))
 
+  accounts_lead : map (account_after entry.accounts) before.accounts ≡ after_it.accounts
+  accounts_lead =
+      picked_put player_of before.accounts after_it.accounts entry.accounts players (rises_from_accounts after_it.accounts rising)
+      (accounts_picked before.accounts after_it.accounts entry.accounts recorded.accounts)
+
+  pub leads_between : after (world_as_read before) (tick_as_read entry) ≡ world_as_read after_it
+  leads_between = let tick = recorded.tick in λ i. record { tick = tick i; rooms = rooms_lead i; accounts = accounts_lead i }
+
+module _ (before after_it : Stored) (runs : List PlayerRun) (sound : IsSound before) (well : IsSound after_it) (is : world_of after_it ≡ next_world (world_of before) runs) where
   pub many : HaveAsMany before after_it
   many = record {
     rooms = as_many_rooms before.rooms after_it.rooms (grounds_stay before after_it runs is);
     accounts = as_many_accounts before.accounts after_it.accounts (players_are before after_it runs sound.accounts well.accounts is);
   }
 
-  module _ (uploads : List UploadEntry) (entry : TickRecord) (recorded : IsRecordOf before after_it uploads runs entry) where
-    rooms_lead : map (room_after (map without_spare entry.rooms)) (map room_as_read before.rooms) ≡ map room_as_read after_it.rooms
-    rooms_lead =
-        room_put (map without_spare entry.rooms) before.rooms after_it.rooms (grounds_stay before after_it runs is)
-        (picked_put index_of (map bare_table before.rooms) (map bare_table after_it.rooms) (map without_spare entry.rooms)
-        (same_indices 0 before.rooms after_it.rooms rooms_many (stand_at before.rooms sound.places) (stand_at after_it.rooms well.places)) (tables_rise after_it.rooms well.places)
-        (rooms_picked before.rooms after_it.rooms entry.rooms recorded.rooms))
-
-    accounts_lead : map (account_after entry.accounts) before.accounts ≡ after_it.accounts
-    accounts_lead =
-        picked_put player_of before.accounts after_it.accounts entry.accounts (players_are before after_it runs sound.accounts well.accounts is) (rises_from_accounts after_it.accounts well.accounts)
-        (accounts_picked before.accounts after_it.accounts entry.accounts recorded.accounts)
-
-    pub leads : after (world_as_read before) (tick_as_read entry) ≡ world_as_read after_it
-    leads = let tick = recorded.tick in λ i. record { tick = tick i; rooms = rooms_lead i; accounts = accounts_lead i }
+  pub leads : (uploads : List UploadEntry) (entry : TickRecord) → IsRecordOf before after_it uploads runs entry → after (world_as_read before) (tick_as_read entry) ≡ world_as_read after_it
+  leads uploads entry recorded =
+      leads_between before after_it (grounds_stay before after_it runs is) (players_are before after_it runs sound.accounts well.accounts is) sound.places well.places well.accounts uploads runs entry recorded

@@ -11,3 +11,6 @@ pub mod Uploads
 pub mod Tables
 pub mod Standing
 pub mod Courses
+pub mod Standings
+pub mod Alike
+pub mod Catching

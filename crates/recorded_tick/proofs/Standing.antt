@@ -52,14 +52,14 @@ rising_tables [] rising = tt
 rising_tables (table ∷ tables) rising = (all_unmapped (λ (other : Table). table.index < other.index) without_spare tables rising.0, rising_tables tables rising.1)
 
 -- The indices of rooms in their places are below their number.
-within_from : (n most : ℕ) (rooms : List Room) → n + length rooms ≤ most → StandFrom n rooms → AllByRecursion (λ (table : Table). table.index < most) (map bare_table rooms)
+pub within_from : (n most : ℕ) (rooms : List Room) → n + length rooms ≤ most → StandFrom n rooms → AllByRecursion (λ (table : Table). table.index < most) (map bare_table rooms)
 within_from n most [] few stand = tt
 within_from n most (room ∷ rooms) few stand =
     let at = stand 0 room refl in
     (omega (arith, at, few), within_from (n + 1) most rooms (omega (arith, few)) (λ k other is. (let next = stand (suc k) other is in omega (arith, next))))
 
 -- The players of accounts have accounts where others of the same players are.
-same_have : (before after all : List Account) → map player_of before ≡ map player_of after → AllByRecursion (λ (account : Account). HasAccount account.player all) before
+pub same_have : (before after all : List Account) → map player_of before ≡ map player_of after → AllByRecursion (λ (account : Account). HasAccount account.player all) before
     → AllByRecursion (λ (account : Account). HasAccount account.player all) after
 same_have [] [] all same have = tt
 same_have [] (y ∷ after) all same have = absurd (cc)
@@ -75,7 +75,7 @@ listed_as_read : (rooms : List Room) → map listed_room (map room_as_read rooms
 listed_as_read [] = refl
 listed_as_read (room ∷ rooms) = ap (λ (listed : List ListedRoom). listed_room room ∷ listed) (listed_as_read rooms)
 
-listing_as_read : (stored : Stored) → listing_of (world_as_read stored) ≡ listing_of stored
+pub listing_as_read : (stored : Stored) → listing_of (world_as_read stored) ≡ listing_of stored
 listing_as_read stored = λ i. record { rules = 1; tick = stored.tick; rooms = listed_as_read stored.rooms i; accounts = stored.accounts }
 
 object_rules : (stored : Stored) → IsSound stored → HaveFewSites stored → (rule : Rule) (n : ℕ) → is_of_objects rule ≡ true → Broken rule n (listing_of stored) → ⊥

@@ -40,7 +40,7 @@ lasting world upload (Some UnknownImport) is = record { most = omega arith; toke
 lasting world upload (Some ImportKind) is = record { most = omega arith; token = λ same. omega arith }
 lasting world upload (Some NoLoop) is = record { most = omega arith; token = λ same. omega arith }
 lasting world upload (Some Segment) is = record { most = omega arith; token = λ same. omega arith }
-lasting world upload (Some Memory) is = absurd is
+lasting world upload (Some Memory) is = absurd is.1
 
 abbrev kept_bytes : List ℕ → Bool → List ℕ
 kept_bytes bytes small = if small then bytes else []

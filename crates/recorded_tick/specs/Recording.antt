@@ -1,14 +1,18 @@
 -- What is recorded of a tick: the uploads and the runs, and of what is stored the accounts and the rooms that
 -- changed.
 use Rattle.std.specs.Prelude.{◌≡◌, ◌⊎◌, List, [], ◌∷◌, length, map}
+use Rattle.room_terrain.specs.declared.name.RoomName.{RoomName}
+use Rattle.room_terrain.specs.declared.terrain.Ground.{Ground}
 use Rattle.intent_book.specs.declared.player_run.PlayerRun.{PlayerRun}
 use Rattle.object_store.specs.declared.account.Account.{Account}
 use Rattle.object_store.specs.declared.world.Room.{Room}
 use Rattle.object_store.specs.Stored.{Stored}
 use Rattle.object_store.specs.Tables.{Table, without_spare}
+use Rattle.tick_journal.specs.BaseForms.{world_as_read}
 use Rattle.tick_journal.specs.Contents.{run_entry}
 use Rattle.tick_journal.specs.declared.entries.UploadEntry.{UploadEntry}
 use Rattle.tick_journal.specs.declared.tick_record.TickRecord.{TickRecord}
+use Rattle.recorded_tick.specs.declared.recorder.Recorder.{Recorder}
 
 -- They are written alike: nothing that is read from a table differs.
 abbrev pub AreAlike : Table → Table → Type 0
@@ -45,3 +49,21 @@ pub record IsRecordOf (before after : Stored) (uploads : List UploadEntry) (runs
 pub record HaveAsMany (before after : Stored) : Type 0 where
   pub rooms : length before.rooms ≡ length after.rooms
   pub accounts : length before.accounts ≡ length after.accounts
+
+-- Nothing that is read from one of the two worlds differs.
+abbrev pub AreReadAlike : Stored → Stored → Type 0
+AreReadAlike one other = world_as_read one ≡ world_as_read other
+
+-- The recorder stands at the world.
+abbrev pub StandsAt : Recorder → Stored → Type 0
+StandsAt recorder world = AreReadAlike recorder.last world
+
+-- the name and the grounds of a room
+abbrev pub ground_of : Room → RoomName × List Ground
+ground_of room = (room.name, room.terrain)
+
+-- The worlds have rooms of the same names and grounds, and accounts of the same players.
+pub record HaveSameFrame (one other : Stored) : Type 0 where
+  pub rooms : map ground_of one.rooms ≡ map ground_of other.rooms
+  pub players : map (λ account. account.player) one.accounts
+      ≡ map (λ account. account.player) other.accounts

@@ -75,8 +75,9 @@ fn have_same_objects(one: &RoomTable, other: &RoomTable) -> bool
     true
 }
 
-// Whether two tables are written alike.
-fn are_alike(one: &RoomTable, other: &RoomTable) -> bool
+/// Whether two tables are written alike: nothing that is read from one of them differs. It takes one pass
+/// over both, up to the first object that differs.
+pub fn are_alike(one: &RoomTable, other: &RoomTable) -> bool
     ensures { IsTrue result ↔ AreAlike one.now other.now }
 {
     one.index() == other.index() && one.next() == other.next() && have_same_objects(one, other)

@@ -15,6 +15,8 @@ use Rattle.record_follows.specs.Follows.{after}
 use Rattle.record_follows.proofs.Steps.{world_after_one}
 use Rattle.world_journal.specs.Journals.{HasJournal, IsWholeJournal, MayFollow}
 use Rattle.world_journal.specs.declared.journal.Journal.{Journal}
+use Rattle.recorded_tick.specs.Recording.{StandsAt}
+use Rattle.recorded_tick.specs.declared.recorder.Recorder.{Recorder}
 use Rattle.world_run.specs.declared.kept.Kept.{Kept}
 use Rattle.world_run.specs.inner.Held.{IsAt, IsKeptAt}
 use Rattle.world_run.proofs.RunsLists.{whole_of}
@@ -53,14 +55,15 @@ module _ (base : Stored) (entries : List TickRecord) (kept : Kept) (entry : Tick
     few = few;
   }
 
-  pub kept_one : (hosted : Held) (journal : Journal) (after_seen : Option (List ℕ)) (later : List Moment) → TellsAlike seen after_seen
+  pub kept_one : (hosted : Held) (recorder : Recorder) (journal : Journal) (after_seen : Option (List ℕ)) (later : List Moment) → TellsAlike seen after_seen
       → (HasJournal base entries kept.journal.log.gate seen moments → MayFollow (world_after base entries) entry → HasJournal base longer journal.log.gate after_seen later)
       → after (world_as_read kept.hosted.world) (tick_as_read entry) ≡ world_as_read hosted.world
       → ((records : List TickRecord) → (state_of kept.hosted).modules ≡ modules_after empty records → (state_of hosted).modules ≡ modules_after empty (records ++ tick_as_read entry ∷ []))
-      → IsHosted hosted.world → HaveFewSites hosted.world → IsLog journal.log.gate after_seen later → journal.log.is_closed ≡ false
-      → IsKeptAt base longer (record { hosted = hosted; journal = journal }) after_seen later
-  kept_one hosted journal after_seen later alike done leads modules is few log is_open = record {
+      → IsHosted hosted.world → HaveFewSites hosted.world → StandsAt recorder hosted.world → IsLog journal.log.gate after_seen later → journal.log.is_closed ≡ false
+      → IsKeptAt base longer (record { hosted = hosted; recorder = recorder; journal = journal }) after_seen later
+  kept_one hosted recorder journal after_seen later alike done leads modules is few stands log is_open = record {
     at_end = at_one hosted leads modules is few;
+    recorder = stands;
     journal = journal_more journal.log.gate after_seen later alike done;
     log = log;
     is_open = is_open;

@@ -1,6 +1,6 @@
 -- How a replay ends.
-use Rattle.std.proofs.Common.{◌≡◌, ℕ, ◌+◌, ◌*◌, ◌^◌, ◌-◌, ◌<◌, ◌≤◌, ◌==◌, true, cond, List, [], ◌∷◌, ◌++◌, length, append_assoc, map, take, Option, Some, None, inl, inr, arith, refl, sym, ap, subst, ◌∙◌}
-use Rattle.std.specs.Prelude.{slice_get, IfSome, IfNone}
+use Rattle.std.proofs.Common.{◌≡◌, ℕ, ◌+◌, ◌*◌, ◌^◌, ◌-◌, ◌<◌, ◌≤◌, ◌==◌, true, cond, List, [], ◌∷◌, ◌++◌, length, append_assoc, map, take, Option, Some, None, Result, Ok, Err, inl, inr, arith, refl, sym, ap, subst, ◌∙◌}
+use Rattle.std.specs.Prelude.{slice_get, IfSome, IfOk, IfErr}
 use Rattle.std.specs.List.{AllByRecursion, flat_map}
 use Rattle.std.specs.Option.{is_some}
 use Rattle.std.proofs.lemmas.Bool.{cases_Bool, eqb-true}
@@ -10,6 +10,7 @@ use Rattle.std.proofs.lemmas.List.Elements.{recursion_from_All}
 use Rattle.game_tables.specs.Limits.{most_players}
 use Rattle.object_store.specs.declared.account.Account.{Account}
 use Rattle.object_store.specs.declared.world.Room.{Room}
+use Rattle.object_store.specs.Tables.{Table}
 use Rattle.object_store.specs.Stored.{Stored, AreRising, HasAccount, find_account}
 use Rattle.intent_book.specs.Records.{AreOf, entries_bound}
 use Rattle.intent_book.specs.declared.intent.Intent.{Intent}
@@ -24,8 +25,9 @@ use Rattle.hosted_tick.specs.Hosting.{IsHosted}
 use Rattle.hosted_tick.proofs.Accounts.{get_account}
 use Rattle.hosted_tick.proofs.Ran.{all_append}
 use Rattle.record_follows.specs.Courses.{world_after}
-use Rattle.record_follows.specs.Follows.{Follows, after}
-use Rattle.record_follows.proofs.Lasting.{after_alike}
+use Rattle.record_follows.specs.Follows.{Follows, account_after, after, room_after}
+use Rattle.record_follows.proofs.Placing.{player_stays}
+use Rattle.record_follows.proofs.Steps.{world_after_one}
 use Rattle.rule_check.proofs.Found.{mapped_at}
 use Rattle.world_io.specs.Causes.{Rose}
 use Rattle.world_journal.specs.Answers.{IsRecoverFaultOf}
@@ -34,17 +36,20 @@ use Rattle.world_journal.specs.declared.fault.RecoverFault.TheVariants as recove
 use Rattle.world_journal.specs.Journals.{IsCourse, IsJournal, IsRead}
 use Rattle.world_journal.proofs.Courses.{course_front, follows_at}
 use Rattle.world_journal.proofs.Journals.{journal_once, journal_some, journal_whole}
+use Rattle.recorded_tick.specs.Recording.{AreAlike, AreReadAlike, HaveSameFrame, ground_of}
+use Rattle.recorded_tick.proofs.Alike.{follows_alike, hosted_alike, led_alike, worlds_alike}
 use Rattle.recorded_tick.proofs.Grounds.{grounds_ruled}
 use Rattle.recorded_tick.proofs.Leading.{as_many_rooms}
-use Rattle.tick_journal.specs.BaseForms.{room_as_read}
+use Rattle.recorded_tick.proofs.Players.{players_raised}
+use Rattle.tick_journal.specs.BaseForms.{room_as_read, world_as_read}
 use Rattle.tick_journal.specs.TickForms.{HasRunForm, HasTickForm, IsRisingBy}
 use Rattle.tick_journal.specs.declared.entries.RunEntry.{RunEntry}
 use Rattle.tick_journal.specs.declared.tick_record.TickRecord.{TickRecord}
 use Rattle.world_run.specs.Listed.{listed}
 use Rattle.world_run.specs.Replayed.{AllRuled, AreRuled, DifferIn, DiffersAt, ExhaustedAt, IsNotReplayed, forms, recorded_forms, ruled_forms, wanted}
-use Rattle.world_run.specs.Runs.{DifferAt, HasSerials}
+use Rattle.world_run.specs.Runs.{DifferAt, HasSerials, IsExhausted}
 use Rattle.world_run.specs.inner.Stages.{status_unread}
-use Rattle.world_run.specs.inner.Ruling.{AreJudged, AreUnlike, IsRuling, IsUnlike, IsUnruled, StopsAt}
+use Rattle.world_run.specs.inner.Ruling.{AreJudged, AreUnlike, IsUnlike, IsUnruled, StopsAt}
 use Rattle.world_run.specs.declared.status.Status.{Status}
 use Rattle.world_run.specs.declared.status.Status.TheVariants as statuses
 use Rattle.world_run.proofs.Opened.{same_differ}
@@ -146,6 +151,11 @@ forms_as_read : (rooms : List Room) → forms (map room_as_read rooms) ≡ forms
 forms_as_read [] = refl
 forms_as_read (room ∷ rooms) = let rest = forms_as_read rooms in let here = form_as_read room in λ i. here i ∷ rest i
 
+-- tables that are written alike have one form
+pub form_alike : (one other : Table) → AreAlike one other → room_bytes one ≡ room_bytes other
+unfolding room_bytes
+form_alike one other same = ap room_bytes same
+
 -- what is ruled has the forms that are listed of it
 pub forms_ruled : (before : Stored) (entry : TickRecord) → IsHosted before → HasTickForm entry → Follows before entry → (next : Stored) (list : List Intent) → list ≡ wanted entry
     → world_of next ≡ plain_world (world_of before) list → (AreByPlayers (world_of before) list → IsSound next) → forms next.rooms ≡ ruled_forms before entry
@@ -153,12 +163,48 @@ forms_ruled before entry hosted formed follows next list same is makes =
     let sound = makes (subst (AreByPlayers (world_of before)) (sym same) (wanted_by_players before entry hosted formed follows)) in
     sym (forms_as_read next.rooms) ∙ sym (ap (λ (w : Stored). forms w.rooms) (file_listed next sound)) ∙ ap (λ (w : World). forms (listed w).rooms) (is ∙ ap (plain_world (world_of before)) same)
 
--- there are as many rooms
-pub many_ruled : (before next : Stored) (list : List Intent) → world_of next ≡ plain_world (world_of before) list → length before.rooms ≡ length next.rooms
-many_ruled before next list is = as_many_rooms before.rooms next.rooms (grounds_ruled before next list (ap (λ (w : World). w.rooms) is))
+-- what is ruled is sound
+pub sound_ruled : (before : Stored) (entry : TickRecord) → IsHosted before → HasTickForm entry → Follows before entry → (next : Stored) (list : List Intent) → list ≡ wanted entry
+    → (AreByPlayers (world_of before) list → IsSound next) → IsSound next
+sound_ruled before entry hosted formed follows next list same makes = makes (subst (AreByPlayers (world_of before)) (sym same) (wanted_by_players before entry hosted formed follows))
 
-pub many_after : (before next after_it : Stored) (entry : TickRecord) → after_it ≡ after before entry → length before.rooms ≡ length next.rooms → length after_it.rooms ≡ length next.rooms
-many_after before next after_it entry is many = ap (λ (w : Stored). length w.rooms) is ∙ ((after_alike before entry).rooms ∙ many)
+-- it has the rooms and the players of the world before
+pub frame_ruled : (before next : Stored) (list : List Intent) → IsSound before → IsSound next → world_of next ≡ plain_world (world_of before) list → HaveSameFrame before next
+frame_ruled before next list sound well is = record {
+  rooms = grounds_ruled before next list (ap (λ (w : World). w.rooms) is);
+  players = players_raised before next list sound.accounts well.accounts is;
+}
+
+-- The world after a record has the rooms and the players of the one before, and so have worlds that are read alike.
+abbrev player_in : Account → ℕ
+player_in account = account.player
+
+grounds_read : (rooms : List Room) → map ground_of (map room_as_read rooms) ≡ map ground_of rooms
+grounds_read [] = refl
+grounds_read (room ∷ rooms) = ap (λ grounds. ground_of room ∷ grounds) (grounds_read rooms)
+
+grounds_led : (tables : List Table) (rooms : List Room) → map ground_of (map (room_after tables) rooms) ≡ map ground_of rooms
+grounds_led tables [] = refl
+grounds_led tables (room ∷ rooms) = ap (λ grounds. ground_of room ∷ grounds) (grounds_led tables rooms)
+
+players_led : (list accounts : List Account) → map player_in (map (account_after list) accounts) ≡ map player_in accounts
+players_led list [] = refl
+players_led list (account ∷ accounts) = let first = player_stays list account in let rest = players_led list accounts in λ i. first i ∷ rest i
+
+pub frame_after : (own ruled after_it : Stored) (entry : TickRecord) → HaveSameFrame own ruled → AreReadAlike after_it (after own entry) → HaveSameFrame ruled after_it
+frame_after own ruled after_it entry frame same = record {
+  rooms =
+      sym frame.rooms
+      ∙ (sym (grounds_led entry.rooms own.rooms)
+      ∙ (sym (grounds_read (after own entry).rooms)
+      ∙ (ap (λ (world : Stored). map ground_of world.rooms) (sym same) ∙ grounds_read after_it.rooms)));
+  players =
+      sym frame.players
+      ∙ (sym (players_led entry.accounts own.accounts) ∙ ap (λ (world : Stored). map player_in world.accounts) (sym same));
+}
+
+pub many_framed : (ruled after_it : Stored) → HaveSameFrame ruled after_it → length after_it.rooms ≡ length ruled.rooms
+many_framed ruled after_it frame = sym (as_many_rooms ruled.rooms after_it.rooms frame.rooms)
 
 -- ---- rooms, one after the other
 
@@ -226,6 +272,38 @@ module _ (base : Stored) (entries : List TickRecord) (entry : TickRecord) (cours
   pub form_last : HasTickForm entry
   form_last = (all_at IsRead entries entry [] course.forms).form
 
+-- Worlds that are read alike are ruled alike.
+pub forms_alike : (one other : Stored) → AreReadAlike one other → forms one.rooms ≡ forms other.rooms
+forms_alike one other same = sym (forms_as_read one.rooms) ∙ (ap (λ (world : Stored). forms world.rooms) same ∙ forms_as_read other.rooms)
+
+serials_alike : (one other : Stored) → AreReadAlike one other → HasSerials (world_of one) → HasSerials (world_of other)
+serials_alike one other same = subst HasSerials (worlds_alike one other same)
+
+module _ (one other : Stored) (entry : TickRecord) (same : AreReadAlike one other) where
+  ruled_forms_alike : ruled_forms one entry ≡ ruled_forms other entry
+  ruled_forms_alike = ap (λ (world : World). forms (listed (plain_world world (wanted entry))).rooms) (worlds_alike one other same)
+
+  recorded_alike : recorded_forms one entry ≡ recorded_forms other entry
+  recorded_alike = forms_alike (after one entry) (after other entry) (led_alike one other same entry)
+
+  ruled_alike : AreRuled one entry → AreRuled other entry
+  ruled_alike is = sym recorded_alike ∙ (is ∙ ruled_forms_alike)
+
+  unruled_alike : (status : Status) → IsUnruled one entry status → IsUnruled other entry status
+  unruled_alike (statuses.Differs tick room at k r) is = (
+    is.0,
+    serials_alike one other same is.1,
+    subst (λ (others : List (List ℕ)). DifferIn room at k r (recorded_forms other entry) others) ruled_forms_alike
+        (subst (λ (ones : List (List ℕ)). DifferIn room at k r ones (ruled_forms one entry)) recorded_alike is.2),
+  )
+  unruled_alike (statuses.IdsExhausted index) is = subst (λ (world : World). IsExhausted world index) (worlds_alike one other same) is
+  unruled_alike statuses.Memory is = tt
+  unruled_alike status is = absurd is
+
+-- What comes of a record and of the world that was ruled so far: where there is one, it is what the rules make, and is read as this.
+abbrev pub IsLedTo : TickRecord → Result Stored Status → Result Stored Status → Stored → Type 0
+IsLedTo entry so_far found world = IfOk so_far (λ own. IfOk found (λ next. HasSerials (world_of own) × AreRuled own entry × AreReadAlike next world))
+
 module _ (base : Stored) (entries : List TickRecord) (entry : TickRecord) where
   stops_here : AllRuled base entries → (status : Status) → IsUnruled (world_after base entries) entry status → StopsAt base (entries ++ entry ∷ []) status
   stops_here all (statuses.Differs tick room at k r) is = record {
@@ -272,14 +350,38 @@ module _ (base : Stored) (entries : List TickRecord) (entry : TickRecord) where
   stops_still statuses.Memory is = tt
   stops_still status is = absurd is
 
-  pub judged_more : (before : Stored) → before ≡ world_after base entries → (known found : Option Status) → AreJudged base entries known → IfSome known (λ status. found ≡ Some status) → IfNone known (IsRuling before entry found)
+  judged_from : (before own : Stored) → before ≡ world_after base entries → AreReadAlike own before → AllRuled base entries → (found : Result Stored Status)
+      → IfOk found (λ next. HasSerials (world_of own) × AreRuled own entry × AreReadAlike next (world_after base (entries ++ entry ∷ []))) → IfErr found (IsUnruled own entry)
       → AreJudged base (entries ++ entry ∷ []) found
-  judged_more before here None None all same ruling =
-      ruled_one base entries entry all (subst (λ (w : Stored). HasSerials (world_of w)) here ruling.0) (subst (λ (w : Stored). AreRuled w entry) here ruling.1)
-  judged_more before here None (Some status) all same ruling =
-      stops_here all status (subst (λ (w : Stored). IsUnruled w entry status) here ruling)
-  judged_more before here (Some status) found judged same ruling =
-      subst (AreJudged base (entries ++ entry ∷ [])) (sym same) (stops_still status judged)
+  judged_from before own here alike all (Ok next) ruled unruled =
+      let same = subst (AreReadAlike own) here alike in
+      (ruled_one base entries entry all (serials_alike own (world_after base entries) same ruled.0) (ruled_alike own (world_after base entries) entry same ruled.1), ruled.2)
+  judged_from before own here alike all (Err status) ruled unruled =
+      stops_here all status (unruled_alike own (world_after base entries) entry (subst (AreReadAlike own) here alike) status unruled)
+
+  pub judged_more : (before : Stored) → before ≡ world_after base entries → (so_far found : Result Stored Status) → AreJudged base entries so_far
+      → IfErr so_far (λ status. found ≡ Err status)
+      → IsLedTo entry so_far found (world_after base (entries ++ entry ∷ []))
+      → IfOk so_far (λ own. IfErr found (IsUnruled own entry))
+      → AreJudged base (entries ++ entry ∷ []) found
+  judged_more before here (Ok own) found judged known ruled unruled = judged_from before own here (subst (AreReadAlike own) (sym here) judged.1) judged.0 found ruled unruled
+  judged_more before here (Err status) found judged known ruled unruled =
+      subst (AreJudged base (entries ++ entry ∷ [])) (sym known) (stops_still status judged)
+
+-- what is known of the world that is ruled so far
+module _ (base : Stored) (entries : List TickRecord) (entry : TickRecord) where
+  pub own_hosted : (so_far : Result Stored Status) → AreJudged base entries so_far → IsHosted (world_after base entries) → IfOk so_far IsHosted
+  own_hosted (Ok own) judged hosted = hosted_alike own (world_after base entries) judged.1 hosted
+  own_hosted (Err status) judged hosted = tt
+
+  pub own_follows : (so_far : Result Stored Status) → AreJudged base entries so_far → Follows (world_after base entries) entry → IfOk so_far (λ own. Follows own entry)
+  own_follows (Ok own) judged follows = follows_alike own (world_after base entries) judged.1 entry follows
+  own_follows (Err status) judged follows = tt
+
+  pub own_leads : (so_far : Result Stored Status) → AreJudged base entries so_far → (after_it : Stored) → after_it ≡ world_after base (entries ++ entry ∷ []) → IfOk so_far (λ own. AreReadAlike after_it (after own entry))
+  own_leads (Ok own) judged after_it is =
+      ap world_as_read (is ∙ world_after_one base entries entry) ∙ sym (led_alike own (world_after base entries) judged.1 entry)
+  own_leads (Err status) judged after_it is = tt
 
 -- a record is not ruled where its rooms are unlike
 pub unruled_here : (before : Stored) (entry : TickRecord) (kept ruled : List (List ℕ)) → kept ≡ recorded_forms before entry → ruled ≡ ruled_forms before entry → HasSerials (world_of before)

@@ -39,7 +39,7 @@ one_judged world modules upload (Some UnknownImport) is = refl
 one_judged world modules upload (Some ImportKind) is = refl
 one_judged world modules upload (Some NoLoop) is = refl
 one_judged world modules upload (Some Segment) is = refl
-one_judged world modules upload (Some Memory) is = absurd is
+one_judged world modules upload (Some Memory) is = absurd is.1
 
 -- The modules after uploads that were judged are those with the uploads that are recorded.
 pub judged_modules : (world : World) (modules : Modules) (uploads : List Upload) (after : Modules) (records : List UploadEntry) → AreJudged world modules uploads after records → after ≡ modules_with modules records

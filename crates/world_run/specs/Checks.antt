@@ -13,7 +13,6 @@ use Rattle.world_run.specs.declared.status.Status.TheVariants as statuses
 -- The answer that these bytes call for: they are a module that a player may have, or they are refused.
 abbrev pub Checks : List ℕ → Status → Type 0
 Checks bytes statuses.Done = IsAccepted bytes
-Checks bytes (statuses.Refused refusals.Memory) = ⊥
 Checks bytes (statuses.Refused refusal) = IsRefused bytes refusal
 Checks bytes status = ⊥
 

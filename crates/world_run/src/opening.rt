@@ -3,6 +3,7 @@ ghost use Rattle.std.specs.Prelude.{◌≡◌, ◌≢◌, ◌⊎◌, ℕ, ◌≤
 ghost use Rattle.std.specs.Prelude.{IfErr, IfSome, IfNone, OnOk};
 ghost use Rattle.frame_log.specs.Frames.{IsEmptyDisk};
 ghost use Rattle.object_store.specs.Stored.{Stored};
+ghost use Rattle.recorded_tick.specs.Recording.{StandsAt};
 ghost use Rattle.tick_journal.specs.BaseForms.{HasBaseForm, world_as_read};
 ghost use Rattle.tick_journal.specs.Contents.{base_content};
 ghost use Rattle.tick_journal.specs.declared.tick_record.TickRecord.{TickRecord};
@@ -20,7 +21,7 @@ use crate::lines::start_line;
 use crate::status::Status;
 use hosted_tick::Hosted;
 use object_store::World;
-use recorded_tick::courses_can_be_hosted;
+use recorded_tick::{Recorder, courses_can_be_hosted};
 use std::alloc::{AllocError as NoMemory, Global};
 use tick_journal::{bases_are_one, write_base};
 use world_io::Disk;
@@ -105,10 +106,14 @@ fn begin<D: Disk>(alloc: Global, world: World, disk: &mut D) -> Result<Opening, 
     let Ok(line) = start_line(alloc, &world) else {
         return Err(Status::Memory);
     };
+    let Ok(recorder) = Recorder::of(alloc, &world) else {
+        return Err(Status::Memory);
+    };
     match Journal::create(alloc, disk, &world) {
         Ok(journal) => Ok(Opening {
             kept: Kept {
                 hosted: Hosted::new(alloc, world),
+                recorder,
                 journal,
             },
             line,
@@ -125,6 +130,7 @@ fn go_on(alloc: Global, world: &World, found: Recovered) -> Result<Opening, Stat
     ensures at_end { IfOk result (λ opening. (entries : List TickRecord) → HasRecovered entries found
         → IsAt (world_as_read world.now) entries opening.kept.hosted) }
     ensures same { IfOk result (λ opening. found.base ≡ world_as_read world.now) }
+    ensures recorder { IfOk result (λ opening. StandsAt opening.kept.recorder opening.kept.hosted.world) }
     ensures journal { IfOk result (λ opening. opening.kept.journal ≡ found.journal) }
     ensures tick { IfOk result (λ opening. opening.kept.hosted.world.tick < 2 ^ 63) }
     ensures line { IfOk result
@@ -147,6 +153,7 @@ fn restore(alloc: Global, found: Recovered) -> Result<Opening, NoMemory>
     requires { (entries : List TickRecord) × HasRecovered entries found }
     ensures at_end { IfOk result (λ opening. (entries : List TickRecord) → HasRecovered entries found
         → IsAt found.base entries opening.kept.hosted) }
+    ensures recorder { IfOk result (λ opening. StandsAt opening.kept.recorder opening.kept.hosted.world) }
     ensures journal { IfOk result (λ opening. opening.kept.journal ≡ found.journal) }
     ensures tick { IfOk result (λ opening. opening.kept.hosted.world.tick < 2 ^ 63) }
     ensures line { IfOk result
@@ -161,9 +168,14 @@ fn restore(alloc: Global, found: Recovered) -> Result<Opening, NoMemory>
         uploads: _,
     } = found;
     let line = start_line(alloc, &world)?;
+    let recorder = Recorder::of(alloc, &world)?;
     let hosted = Hosted::restored(alloc, world, modules)?;
     Ok(Opening {
-        kept: Kept { hosted, journal },
+        kept: Kept {
+            hosted,
+            recorder,
+            journal,
+        },
         line,
     })
 }

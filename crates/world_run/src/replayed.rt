@@ -1,6 +1,6 @@
 // The records of a journal, ruled again.
-ghost use Rattle.std.specs.Prelude.{◌≡◌, ◌≢◌, ◌⊎◌, ℕ, ◌<◌, ◌≤◌, ◌^◌, List, length, string_bytes, Some};
-ghost use Rattle.std.specs.Prelude.{IfOk, IfErr, IfSome, IfNone, OnOk};
+ghost use Rattle.std.specs.Prelude.{◌≡◌, ◌≢◌, ◌⊎◌, ℕ, ◌<◌, ◌≤◌, ◌^◌, List, length, string_bytes, Some, Err};
+ghost use Rattle.std.specs.Prelude.{IfOk, IfErr, OnOk};
 ghost use Rattle.std.specs.List.{flat_map};
 ghost use Rattle.hosted_tick.specs.Hosting.{IsHosted};
 ghost use Rattle.object_store.specs.Stored.{Stored};
@@ -16,20 +16,25 @@ ghost use Rattle.world_run.specs.Replayed.{AllRuled, AreRuled, EndsReplaying, Is
 ghost use Rattle.world_run.specs.Replayed.{forms};
 ghost use Rattle.world_run.specs.Replayed.{replayed_line, ruled_forms};
 ghost use Rattle.world_run.specs.Runs.{HasSerials};
-ghost use Rattle.world_run.specs.inner.Ruling.{AreUnlike, IsRuling, IsUnlike, IsUnruled};
+ghost use Rattle.world_run.specs.inner.Ruling.{AreUnlike, IsUnlike, IsUnruled};
+ghost use Rattle.kept_entries.specs.Turns.{AreKept};
+ghost use Rattle.recorded_tick.specs.Recording.{AreReadAlike, HaveSameFrame};
+ghost use Rattle.world_rules.specs.Sound.{IsSound};
 
 use crate::opening::{byte_at, first_difference};
 use crate::status::Status;
 use crate::ticks::exhausted_room;
 use intent_book::Intent;
+use kept_entries::{Entry, kept_entries};
 use object_store::{Room, RoomTable, World};
-use recorded_tick::courses_can_be_hosted;
-use ruled_tick::tick_plain;
+use recorded_tick::{are_alike, catch_up, courses_can_be_hosted};
+use ruled_tick::tick_taken;
 use std::alloc::{AllocError as NoMemory, Global};
 use tick_journal::{RunEntry, TickRecord};
 use world_bytes::write_room;
 use world_io::{Disk, Sink, write_all};
 use world_journal::{RecoverFault, Walk};
+use world_roster::Roster;
 
 /// Rules the records of the journal on the disk again, and writes how many there are, if each room after each
 /// of them is what the rules make of the world before.
@@ -83,20 +88,16 @@ fn replayed<D: Disk>(alloc: Global, disk: &mut D) -> Result<u64, Status>
     courses_can_be_hosted();
     let mut walk = Walk::begin(alloc, disk)?;
     let first = walk.world().tick();
-    let Ok(mut before) = walk.world().copy(alloc) else {
+    let Ok(own) = walk.world().copy(alloc) else {
         return Err(Status::Memory);
     };
-    let mut stop = None;
+    let mut so_far: Result<World, Status> = Ok(own);
     'each: while let Some(entry) = walk.next(alloc, disk)? {
-        stop = first_stop(alloc, stop, &before, &entry, walk.world());
-        let Ok(after) = walk.world().copy(alloc) else {
-            return Err(Status::Memory);
-        };
-        before = after;
+        so_far = rule_next(alloc, so_far, &entry, walk.world());
     }
-    match stop {
-        None => Ok(walk.world().tick() - first),
-        Some(status) => Err(status),
+    match so_far {
+        Ok(_) => Ok(walk.world().tick() - first),
+        Err(status) => Err(status),
     }
 }
 
@@ -116,70 +117,83 @@ impl From<RecoverFault> for Status {
     }
 }
 
-// Why not all records up to this one are what the rules make: the reason that is known, or what is found of
-// it.
-fn first_stop(
+// The world that the rules make of all records up to this one, where they are what the rules make: else the
+// reason that is known, or what is found of this one.
+fn rule_next(
     alloc: Global,
-    known: Option<Status>,
-    before: &World,
+    so_far: Result<World, Status>,
     entry: &TickRecord,
     after: &World,
-) -> Option<Status>
-    requires hosted { IsHosted before.now }
+) -> Result<World, Status>
+    requires hosted { IfOk so_far (λ own. IsHosted own) }
+    requires follows { IfOk so_far (λ own. Follows own entry.now) }
+    requires leads { IfOk so_far (λ own. AreReadAlike after.now (world_next own entry.now)) }
     requires form { HasTickForm entry.now }
-    requires follows { Follows before.now entry.now }
-    requires leads { after.now ≡ world_next before.now entry.now }
-    ensures known { IfSome known (λ status. result ≡ Some status) }
-    ensures found { IfNone known (IsRuling before.now entry.now result) }
+    requires whole { IsHosted after.now }
+    ensures known { IfErr so_far (λ status. result ≡ Err status) }
+    ensures ruled { IfOk so_far (λ own. IfOk result (λ next.
+        HasSerials (world_of own) × AreRuled own entry.now × AreReadAlike next after.now)) }
+    ensures unruled { IfOk so_far (λ own. IfErr result (IsUnruled own entry.now)) }
 {
-    match known {
-        Some(status) => Some(status),
-        None => match rule_again(alloc, before, entry, after) {
-            Ok(()) => None,
-            Err(status) => Some(status),
-        },
-    }
-}
-
-// Whether the world after a record is what the rules make of the world before.
-fn rule_again(
-    alloc: Global,
-    before: &World,
-    entry: &TickRecord,
-    after: &World,
-) -> Result<(), Status>
-    requires hosted { IsHosted before.now }
-    requires form { HasTickForm entry.now }
-    requires follows { Follows before.now entry.now }
-    requires leads { after.now ≡ world_next before.now entry.now }
-    ensures serials { OnOk result (HasSerials (world_of before.now)) }
-    ensures ruled { OnOk result (AreRuled before.now entry.now) }
-    ensures unruled { IfErr result (IsUnruled before.now entry.now) }
-{
-    if let Some(index) = exhausted_room(before) {
-        return Err(Status::IdsExhausted(index));
-    }
-    let Ok(ruled) = ruled_world(alloc, before, entry) else {
-        return Err(Status::Memory);
-    };
-    match compare_rooms(alloc, entry.tick, after.room_list(), ruled.room_list()) {
-        Ok(()) => Ok(()),
+    match so_far {
+        Ok(own) => rule_again(alloc, own, entry, after),
         Err(status) => Err(status),
     }
 }
 
-// The world that the rules make of the world before a record.
-fn ruled_world(alloc: Global, before: &World, entry: &TickRecord) -> Result<World, NoMemory>
-    requires hosted { IsHosted before.now }
+// The world that the rules make of a world and a record, where it is the world after the record. It is read
+// as that one then, accounts included.
+fn rule_again(alloc: Global, own: World, entry: &TickRecord, after: &World) -> Result<World, Status>
+    requires hosted { IsHosted own }
+    requires follows { Follows own entry.now }
+    requires leads { AreReadAlike after.now (world_next own entry.now) }
     requires form { HasTickForm entry.now }
-    requires follows { Follows before.now entry.now }
-    requires serials { HaveSerials before.now.rooms }
-    ensures ruled { IfOk result (λ world. forms world.rooms ≡ ruled_forms before.now entry.now) }
-    ensures many { IfOk result (λ world. length before.now.rooms ≡ length world.rooms) }
+    requires whole { IsHosted after.now }
+    ensures serials { OnOk result (HasSerials (world_of own)) }
+    ensures ruled { OnOk result (AreRuled own entry.now) }
+    ensures alike { IfOk result (λ next. AreReadAlike next after.now) }
+    ensures unruled { IfErr result (IsUnruled own entry.now) }
+{
+    if let Some(index) = exhausted_room(&own) {
+        return Err(Status::IdsExhausted(index));
+    }
+    let Ok(mut ruled) = ruled_world(alloc, own, entry) else {
+        return Err(Status::Memory);
+    };
+    match compare_rooms(alloc, entry.tick, after.room_list(), ruled.room_list()) {
+        Ok(()) => {}
+        Err(status) => return Err(status),
+    }
+    let Ok(()) = catch_up(alloc, &mut ruled, after) else {
+        return Err(Status::Memory);
+    };
+    Ok(ruled)
+}
+
+// The world that the rules make of a world and of what a record says is wanted.
+fn ruled_world(alloc: Global, own: World, entry: &TickRecord) -> Result<World, NoMemory>
+    requires hosted { IsHosted own }
+    requires form { HasTickForm entry.now }
+    requires follows { Follows own entry.now }
+    requires serials { HaveSerials own.rooms }
+    ensures ruled { IfOk result (λ world. forms world.rooms ≡ ruled_forms own entry.now) }
+    ensures frame { IfOk result (λ world. HaveSameFrame own world) }
+    ensures sound { IfOk result IsSound }
 {
     let wanted = wanted_by(alloc, entry.runs.as_slice())?;
-    let ruled = tick_plain(alloc, before, &wanted)?;
+    let entries = counted(alloc, &own, &wanted)?;
+    let ruled = tick_taken(alloc, own, &entries)?;
     Ok(ruled)
+}
+
+// Those of the entries that count, in the order of a tick.
+fn counted(alloc: Global, world: &World, wanted: &[Intent]) -> Result<Vec<Entry>, NoMemory>
+    requires { IsSound world.now }
+    ensures { IfOk result (λ entries. AreKept (world_of world.now) wanted.now entries.items) }
+{
+    let roster = Roster::of(alloc, world)?;
+    let entries = kept_entries(alloc, world, &roster, wanted)?;
+    Ok(entries)
 }
 
 // What all runs want, in their order.
@@ -220,6 +234,9 @@ fn compare_room(
     ensures same { OnOk result (room_bytes kept.now ≡ room_bytes ruled.now) }
     ensures unlike { IfErr result (IsUnlike tick index (room_bytes kept.now) (room_bytes ruled.now)) }
 {
+    if are_alike(kept, ruled) {
+        return Ok(());
+    }
     let Ok(one) = form_of(alloc, kept) else {
         return Err(Status::Memory);
     };

@@ -13,6 +13,7 @@ ghost use Rattle.upload_stream.specs.Entries.{upload_of};
 ghost use Rattle.site_limit.specs.FewSites.{HaveFewSites};
 ghost use Rattle.hosted_tick.specs.Hosting.{IsHosted, state_of};
 ghost use Rattle.record_follows.specs.Courses.{modules_after, world_after};
+ghost use Rattle.recorded_tick.specs.Recording.{StandsAt};
 ghost use Rattle.std.specs.FinMap.{empty};
 ghost use Rattle.tick_journal.specs.BaseForms.{world_as_read};
 ghost use Rattle.tick_journal.specs.Contents.{base_content};
@@ -34,7 +35,7 @@ use crate::opening::{Opening, open_journal};
 use crate::status::Status;
 use hosted_tick::{Hosted, Ticked};
 use object_store::World;
-use recorded_tick::{record_tick, records_may_stand};
+use recorded_tick::{Recorder, records_may_stand};
 use site_limit::ticks_keep_the_limit_of_sites;
 use std::alloc::{AllocError as NoMemory, Global};
 use tick_journal::TickRecord;
@@ -119,6 +120,7 @@ fn run_ticks<O: Sink, D: Disk>(
 ) -> Status
     requires hosted { IsHosted first.hosted.world }
     requires few { HaveFewSites first.hosted.world }
+    requires recorder { StandsAt first.recorder first.hosted.world }
     requires order { IsNonDecreasingBy (λ upload. upload.tick) stream.now }
     requires tick { first.hosted.world.tick + ticks < 2 ^ 64 - 1 }
     requires is_open { first.journal.log.is_closed ≡ false }
@@ -180,6 +182,7 @@ fn one_tick<O: Sink, D: Disk>(
 ) -> Result<Kept, Status>
     requires hosted { IsHosted kept.hosted.world }
     requires few { HaveFewSites kept.hosted.world }
+    requires recorder { StandsAt kept.recorder kept.hosted.world }
     requires order { IsNonDecreasingBy (λ upload. upload.tick) stream.now }
     requires tick { kept.hosted.world.tick < 2 ^ 64 - 1 }
     requires is_open { kept.journal.log.is_closed ≡ false }
@@ -192,6 +195,7 @@ fn one_tick<O: Sink, D: Disk>(
         → IsKeptAt base (entries ++ step.recorded ∷ []) next (D.seen disk.new) (D.moments disk.new))) }
     ensures hosted { IfOk result (λ next. IsHosted next.hosted.world) }
     ensures few { IfOk result (λ next. HaveFewSites next.hosted.world) }
+    ensures recorder { IfOk result (λ next. StandsAt next.recorder next.hosted.world) }
     ensures is_open { IfOk result (λ next. next.journal.log.is_closed ≡ false) }
     ensures log { IfOk result (λ next. IsLog next.journal.log.gate (D.seen disk.new) (D.moments disk.new)) }
     ensures only { IfErr result IsOfTick }
@@ -224,37 +228,50 @@ fn one_tick<O: Sink, D: Disk>(
 {
     let Kept {
         hosted,
+        recorder,
         mut journal,
     } = kept;
     if let Some(index) = exhausted_room(hosted.world()) {
         return Err(Status::IdsExhausted(index));
     }
-    let Ok(made) = make_tick(alloc, hosted, stream) else {
+    let Ok(made) = make_tick(alloc, hosted, recorder, stream) else {
         return Err(Status::Memory);
     };
     let Made {
         hosted,
+        recorder,
         entry,
         lines,
     } = made;
     match record(alloc, &mut journal, &entry, &lines, out, disk) {
-        Ok(()) => Ok(Kept { hosted, journal }),
+        Ok(()) => Ok(Kept {
+            hosted,
+            recorder,
+            journal,
+        }),
         Err(status) => Err(status),
     }
 }
 
-// The world after a tick, its record, and its lines.
+// The world after a tick with the recorder that stands at it, the tick's record, and its lines.
 #[derive(Drop)]
 struct Made {
     hosted: Hosted,
+    recorder: Recorder,
     entry: TickRecord,
     lines: Vec<u8>,
 }
 
 // Makes the tick after a world.
-fn make_tick(alloc: Global, hosted: Hosted, stream: &[Upload]) -> Result<Made, NoMemory>
+fn make_tick(
+    alloc: Global,
+    hosted: Hosted,
+    mut recorder: Recorder,
+    stream: &[Upload],
+) -> Result<Made, NoMemory>
     requires hosted { IsHosted hosted.world }
     requires few { HaveFewSites hosted.world }
+    requires recorder { StandsAt recorder hosted.world }
     requires order { IsNonDecreasingBy (λ upload. upload.tick) stream.now }
     requires tick { hosted.world.tick < 2 ^ 64 - 1 }
     requires serials { HaveSerials hosted.world.rooms }
@@ -263,6 +280,7 @@ fn make_tick(alloc: Global, hosted: Hosted, stream: &[Upload]) -> Result<Made, N
         × (made.lines.items ≡ step_lines step)) }
     ensures hosted { IfOk result (λ made. IsHosted made.hosted.world) }
     ensures few { IfOk result (λ made. HaveFewSites made.hosted.world) }
+    ensures recorder { IfOk result (λ made. StandsAt made.recorder made.hosted.world) }
     ensures follows { IfOk result (λ made. MayFollow (world_as_read hosted.world) made.entry) }
     ensures leads { IfOk result (λ made. after (world_as_read hosted.world) (tick_as_read made.entry)
         ≡ world_as_read made.hosted.world) }
@@ -273,7 +291,6 @@ fn make_tick(alloc: Global, hosted: Hosted, stream: &[Upload]) -> Result<Made, N
     records_may_stand();
     ticks_keep_the_limit_of_sites();
     let uploads = uploads_at(stream, hosted.world().tick());
-    let before = hosted.world().copy(alloc)?;
     let done = hosted.tick(alloc, uploads)?;
     let lines = lines_of(alloc, &done)?;
     let Ticked {
@@ -281,9 +298,11 @@ fn make_tick(alloc: Global, hosted: Hosted, stream: &[Upload]) -> Result<Made, N
         uploads,
         runs,
     } = done;
-    let entry = record_tick(alloc, &before, hosted.world(), uploads, runs)?;
+    let entry = recorder.record(alloc, hosted.world(), uploads, runs)?;
+    recorder.lead(alloc, &entry)?;
     Ok(Made {
         hosted,
+        recorder,
         entry,
         lines,
     })

@@ -1,6 +1,7 @@
 -- What is tested before a record is put in the place of what was there, and how it is put there. For private
 -- clauses.
-use Rattle.std.specs.Prelude.{◌≡◌, ◌==◌, ℕ, zero, suc, ◌+◌, ◌<◌, List, [], ◌∷◌, Option, None, length, map, option_map, get_or}
+use Rattle.std.specs.Prelude.{◌≡◌, ◌==◌, ℕ, zero, suc, ◌+◌, ◌<◌, List, [], ◌∷◌, Option, None, length, map}
+use Rattle.std.specs.Prelude.{option_map, get_or}
 use Rattle.std.specs.Borrow.{Bor}
 use Rattle.std.specs.List.{AllByRecursion, find}
 use Rattle.object_store.specs.declared.account.Account.{Account}

@@ -16,7 +16,7 @@ use Rattle.tick_journal.specs.BaseForms.{world_as_read}
 use Rattle.tick_journal.specs.declared.entries.UploadEntry.{UploadEntry}
 use Rattle.tick_journal.specs.declared.tick_record.TickRecord.{TickRecord}
 use Rattle.record_follows.specs.Courses.{modules_after, world_after}
-use Rattle.recorded_tick.specs.Recording.{IsRecordOf}
+use Rattle.recorded_tick.specs.Recording.{IsRecordOf, StandsAt}
 use Rattle.site_limit.specs.FewSites.{HaveFewSites}
 use Rattle.hosted_tick.specs.Next.{Next}
 use Rattle.hosted_tick.specs.Hosting.{Held, IsHosted, state_of}
@@ -97,6 +97,7 @@ pub record IsAt (base : Stored) (entries : List TickRecord) (held : Held) : Type
 pub record IsKeptAt (base : Stored) (entries : List TickRecord) (kept : Kept) (seen : Option (List ℕ))
     (moments : List Moment) : Type 0 where
   pub at_end : IsAt base entries kept.hosted
+  pub recorder : StandsAt kept.recorder kept.hosted.world
   pub journal : IfSome seen (λ bytes. HasJournal base entries kept.journal.log.gate seen moments)
   pub log : IsLog kept.journal.log.gate seen moments
   pub is_open : kept.journal.log.is_closed ≡ false

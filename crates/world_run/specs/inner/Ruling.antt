@@ -1,8 +1,10 @@
 -- Why records are not ruled, by the status.
-use Rattle.std.specs.Prelude.{◌≡◌, ℕ, List, Option, Some, None}
+use Rattle.std.specs.Prelude.{◌≡◌, ℕ, List, Option, Result, Ok, Err}
 use Rattle.object_store.specs.Stored.{Stored}
+use Rattle.record_follows.specs.Courses.{world_after}
+use Rattle.recorded_tick.specs.Recording.{AreReadAlike}
 use Rattle.tick_journal.specs.declared.tick_record.TickRecord.{TickRecord}
-use Rattle.world_run.specs.Replayed.{AllRuled, AreRuled, DifferIn, DiffersAt, ExhaustedAt, recorded_forms}
+use Rattle.world_run.specs.Replayed.{AllRuled, DifferIn, DiffersAt, ExhaustedAt, recorded_forms}
 use Rattle.world_run.specs.Replayed.{ruled_forms}
 use Rattle.world_run.specs.Runs.{DifferAt, HasSerials, IsExhausted}
 use Rattle.world_rules.specs.World.{world_of}
@@ -42,12 +44,8 @@ StopsAt base entries status = ⊥
 
 -- ---- what is known so far
 
--- The record behind this world is ruled, or is not, and this is why.
-abbrev pub IsRuling : Stored → TickRecord → Option Status → Type 0
-IsRuling before entry None = HasSerials (world_of before) × AreRuled before entry
-IsRuling before entry (Some status) = IsUnruled before entry status
-
--- All these records are ruled, or not all are, and this is why.
-abbrev pub AreJudged : Stored → List TickRecord → Option Status → Type 0
-AreJudged base entries None = AllRuled base entries
-AreJudged base entries (Some status) = StopsAt base entries status
+-- All these records are ruled, and this world is read as the last; or not all are, and this is why.
+abbrev pub AreJudged : Stored → List TickRecord → Result Stored Status → Type 0
+AreJudged base entries (Ok own) =
+    AllRuled base entries × AreReadAlike own (world_after base entries)
+AreJudged base entries (Err status) = StopsAt base entries status

@@ -12,7 +12,7 @@ pub returns-in-Ok-text_of-clause-text : goal.returns-in-Ok-text_of-clause-text
 returns-in-Ok-text_of-clause-text c =
     let found = c.in-Ok-generate_uploads.ensures.found in
     let listed = subst (λ (b : List ℕ). UploadList b (map upload_of c.in-Ok-read_uploads.uploads.items)) c.deref.ensures.value c.in-Ok-read_uploads.ensures.list in
-    let made = ap (map upload_of) c.deref-2.ensures.value ∙ uploads_one 0 c.in-Ok-generate_uploads.stream.items _ (uploads found.0 c.args.rooms) listed found.2 in
+    let made = ap (map upload_of) c.deref-2.ensures.value ∙ uploads_one c.in-Ok-generate_uploads.stream.items _ (uploads found.0 c.args.rooms) listed found.2 in
     let run = c.keep_journal.ensures.done c.in-Done.is in
     let no_disk : c.new-disk.result.bytes.items ≡ [] = ap (λ v. v.items) c.new-disk.ensures.seen ∙ c.new-2.ensures.items in
     let told = c.in-Ok-text_of.ensures in
@@ -23,7 +23,7 @@ pub returns-in-IdsExhausted-clause-none : goal.returns-in-IdsExhausted-clause-no
 returns-in-IdsExhausted-clause-none c =
     let found = c.in-Ok-generate_uploads.ensures.found in
     let listed = subst (λ (b : List ℕ). UploadList b (map upload_of c.in-Ok-read_uploads.uploads.items)) c.deref.ensures.value c.in-Ok-read_uploads.ensures.list in
-    let made = ap (map upload_of) c.deref-2.ensures.value ∙ uploads_one 0 c.in-Ok-generate_uploads.stream.items _ (uploads found.0 c.args.rooms) listed found.2 in
+    let made = ap (map upload_of) c.deref-2.ensures.value ∙ uploads_one c.in-Ok-generate_uploads.stream.items _ (uploads found.0 c.args.rooms) listed found.2 in
     let run = c.keep_journal.ensures.exhausted c.in-IdsExhausted.index c.in-IdsExhausted.is in
     let no_disk : c.new-disk.result.bytes.items ≡ [] = ap (λ v. v.items) c.new-disk.ensures.seen ∙ c.new-2.ensures.items in
     exhausted c.args.seed c.args.rooms c.in-Ok.world c.in-Ok.ensures.same c.in-Ok.ensures.starts.hosted.sound found.0 found.1 _ made c.args.ticks c.in-IdsExhausted.index run.0 _ _ _ _ no_disk c.new-lines.ensures.written run.1 run.2 run.3
