@@ -1,8 +1,8 @@
 -- The memory, the globals and the table that an instance begins with, one entry after the other.
-use Rattle.std.proofs.Common.{◌≡◌, ℕ, suc, ◌+◌, ◌-◌, ◌<◌, ◌≤◌, List, [], ◌∷◌, ◌++◌, length, get_or, map, take, drop, refl, ap, sym, ◌∙◌, subst, arith, length-append, length-drop, append_assoc, Option, Some, None, slice_set, All}
+use Rattle.std.proofs.Common.{◌≡◌, ℕ, ◌+◌, ◌*◌, ◌<◌, ◌≤◌, List, [], ◌∷◌, ◌++◌, length, get_or, map, take, drop, refl, ap, sym, ◌∙◌, subst, arith, length-append, length-drop, append_assoc, Option, Some, None, slice_set, All}
 use Rattle.std.specs.Prelude.{replicate}
-use Rattle.std.proofs.lemmas.List.{length-map, length-take-le, take_all, drop_all, drop_more, map_more, set_at, append-nil, map_push}
-use Rattle.std.proofs.lemmas.List.Elements.{All-more}
+use Rattle.std.proofs.lemmas.List.{length-map, length-replicate, length-take-le, drop_all, drop_more, map_more, set_at, map_push}
+use Rattle.std.proofs.lemmas.List.Elements.{All-more, All-head, All-tail}
 use Rattle.wasm_module.specs.Syntax.{Op, Ops, next, i32_const, i64_const}
 use Rattle.wasm_module.specs.View.{items_view, instr_view, instrs_view}
 use Rattle.wasm_module.specs.Entries.{element_view, segment_view, global_view}
@@ -14,7 +14,8 @@ use Rattle.wasm_module.specs.declared.types.ValType.{ValType}
 use Rattle.wasm_validate.specs.Typing.{IsConstant}
 use Rattle.wasm_soundness.specs.Typed.{IsValue}
 use Rattle.wasm_store.specs.Memory.{Memory, written}
-use Rattle.wasm_link.specs.Linking.{Fits, constant, filled, first_table, with_segments}
+use Rattle.wasm_module.specs.declared.types.Bounds.{Bounds}
+use Rattle.wasm_link.specs.Linking.{Fits, constant, filled, first_memory, first_table, with_segments}
 use Rattle.wasm_link.specs.Made.{element_span, data_span}
 
 -- ---- constants
@@ -31,7 +32,7 @@ no_constant (x ∷ y ∷ items) other = two_ops (instr_view x) (instr_view y) (i
 
 -- ---- the memory
 
-written_size : (memory : Memory) (at : ℕ) (bytes : List ℕ) → at + length bytes ≤ length memory.bytes → length (written memory at bytes).bytes ≡ length memory.bytes
+pub written_size : (memory : Memory) (at : ℕ) (bytes : List ℕ) → at + length bytes ≤ length memory.bytes → length (written memory at bytes).bytes ≡ length memory.bytes
 written_size memory at bytes fits =
     let first = length-take-le at memory.bytes (omega (arith, fits)) in
     let last = length-drop (at + length bytes) memory.bytes in
@@ -61,6 +62,22 @@ module _ (segments : List Segment) (at size : ℕ) (x : Segment) (below : at < l
 pub segments_end : (segments : List Segment) (at : ℕ) (now start : Memory) → length segments ≤ at → with_segments now (map segment_view (drop at segments)) ≡ with_segments start (map segment_view segments) → now ≡ with_segments start (map segment_view segments)
 segments_end segments at now start past so_far = sym (ap (λ z. with_segments now (map segment_view z)) (drop_all at segments past)) ∙ so_far
 
+pub segments_size : (memory : Memory) (segments : List Segment) → All (λ segment. Fits (data_span (length memory.bytes) segment)) segments → length (with_segments memory (map segment_view segments)).bytes ≡ length memory.bytes
+segments_size memory [] fit = refl
+segments_size memory (x ∷ xs) fit =
+    let P : Segment → Type 0 = λ segment. Fits (data_span (length memory.bytes) segment) in
+    let one = written_size memory (constant (instrs_view x.offset)) x.bytes (All-head P x xs fit) in
+    segments_size (written memory (constant (instrs_view x.offset)) x.bytes) xs (subst (λ (z : ℕ). All (λ segment. Fits (data_span z segment)) xs) (sym one) (All-tail P x xs fit)) ∙ one
+
+pub segments_limit : (memory : Memory) (segments : List Segment) → (with_segments memory (map segment_view segments)).limit ≡ memory.limit
+segments_limit memory [] = refl
+segments_limit memory (x ∷ xs) = segments_limit (written memory (constant (instrs_view x.offset)) x.bytes) xs
+
+pub first_blank : (memories : List Bounds) → (first_memory memories).bytes ≡ replicate (length (first_memory memories).bytes) 0
+first_blank [] = ap (λ z. replicate z 0) (sym (length-replicate {A = ℕ} (0 * 65536) 0))
+first_blank (bounds ∷ more) = ap (λ z. replicate z 0) (sym (length-replicate {A = ℕ} (bounds.min * 65536) 0))
+
+-- ---- the table
 -- ---- the table
 
 -- one more function, written behind those so far
@@ -84,23 +101,6 @@ filled_more start old new offset at func funcs fits below is so_far made =
     let mapped : map Some (take at funcs) ++ Some func ∷ [] ≡ map Some (take (at + 1) funcs) = ap (λ z. map Some (take at funcs) ++ Some z ∷ []) is ∙ sym (map_more Some funcs at 0 below) in
     let place : offset + at + 1 ≡ offset + (at + 1) = omega arith in
     put ∙ joined ∙ ap (λ z. take offset start ++ (z ++ drop (offset + at + 1) start)) mapped ∙ ap (λ z. take offset start ++ (map Some (take (at + 1) funcs) ++ drop z start)) place
-
-pub filled_length : (start now : List (Option ℕ)) (offset at : ℕ) (funcs : List ℕ) → offset + length funcs ≤ length start → at ≤ length funcs → now ≡ take offset start ++ (map Some (take at funcs) ++ drop (offset + at) start) → length now ≡ length start
-filled_length start now offset at funcs fits within is =
-    let one = length-take-le offset start (omega (arith, fits)) in
-    let two = length-drop (offset + at) start in
-    let three = length-map (take at funcs) (λ (z : ℕ). Some z) in
-    let four = length-append (map Some (take at funcs)) (drop (offset + at) start) in
-    let five = length-append (take offset start) (map Some (take at funcs) ++ drop (offset + at) start) in
-    let six = length-take-le at funcs within in
-    let size = ap length is in
-    omega (arith, one, two, three, four, five, six, size, fits, within)
-
-pub filled_end : (start now : List (Option ℕ)) (offset at : ℕ) (funcs : List ℕ) → length funcs ≤ at → at ≤ length funcs → now ≡ take offset start ++ (map Some (take at funcs) ++ drop (offset + at) start)
-    → now ≡ take offset start ++ (map Some funcs ++ drop (offset + length funcs) start)
-filled_end start now offset at funcs past within so_far =
-    let same : at ≡ length funcs = omega (arith, past, within) in
-    so_far ∙ ap (λ z. take offset start ++ (map Some z ++ drop (offset + at) start)) (take_all at funcs past) ∙ ap (λ z. take offset start ++ (map Some funcs ++ drop (offset + z) start)) same
 
 filled_size : (start : List (Option ℕ)) (offset : ℕ) (funcs : List ℕ) → offset + length funcs ≤ length start → length (take offset start ++ (map Some funcs ++ drop (offset + length funcs) start)) ≡ length start
 filled_size start offset funcs fits =
@@ -131,34 +131,27 @@ module _ (elements : List Element) (at size : ℕ) (x : Element) (below : at < l
         made ∙ ap (λ z. take z old ++ (map Some funcs ++ drop (z + length funcs) old)) offset_is ∙ ap (λ z. take (constant (instrs_view x.offset)) old ++ (map Some z ++ drop (constant (instrs_view x.offset) + length z) old)) funcs_is in
         ap (λ z. first_table z (map element_view (drop (at + 1) elements))) same ∙ sym step ∙ so_far
 
+pub elements_size : (table : List (Option ℕ)) (elements : List Element) → All (λ segment. Fits (element_span (length table) segment)) elements → length (first_table table (map element_view elements)) ≡ length table
+elements_size table [] fit = refl
+elements_size table (x ∷ xs) fit =
+    let P : Element → Type 0 = λ segment. Fits (element_span (length table) segment) in
+    let one = filled_size table (constant (instrs_view x.offset)) x.funcs (All-head P x xs fit) in
+    elements_size (filled table (element_view x)) xs (subst (λ (z : ℕ). All (λ segment. Fits (element_span z segment)) xs) (sym one) (All-tail P x xs fit)) ∙ one
+
 pub elements_end : (elements : List Element) (at : ℕ) (now start : List (Option ℕ)) → length elements ≤ at → first_table now (map element_view (drop at elements)) ≡ first_table start (map element_view elements) → now ≡ first_table start (map element_view elements)
 elements_end elements at now start past so_far = sym (ap (λ z. first_table now (map element_view z)) (drop_all at elements past)) ∙ so_far
 
 -- ---- the globals
 
-module _ (globals : List GlobalDef) (at : ℕ) (x : GlobalDef) (old new : List ℕ) (value : ℕ) (below : at < length globals) (is : x ≡ get_or globals at x) (value_is : value ≡ constant (instrs_view x.init)) where
-  pub globals_more : old ≡ map (λ global. constant global.1) (map global_view (take at globals)) ++ replicate (length globals - at) 0 → new ≡ slice_set old at value
-      → new ≡ map (λ global. constant global.1) (map global_view (take (at + 1) globals)) ++ replicate (length globals - (at + 1)) 0
-  globals_more so_far made =
-      let front = map (λ global. constant global.1) (map global_view (take at globals)) in
-      let less : length globals - at ≡ suc (length globals - (at + 1)) = omega (arith, below) in
-      let split : old ≡ front ++ 0 ∷ replicate (length globals - (at + 1)) 0 = so_far ∙ ap (λ z. front ++ replicate z 0) less in
-      let one = length-map (take at globals) global_view in
-      let two = length-map (map global_view (take at globals)) (λ global. constant global.1) in
-      let three = length-take-le at globals (omega (arith, below)) in
-      let size : length front ≡ at = omega (arith, one, two, three) in
-      let put : new ≡ front ++ value ∷ replicate (length globals - (at + 1)) 0 = made ∙ ap (λ z. slice_set z at value) split ∙ set_at front 0 (replicate (length globals - (at + 1)) 0) value at size in
-      let grown : map (λ global. constant global.1) (map global_view (take (at + 1) globals)) ≡ front ++ value ∷ [] =
-      ap (map (λ global. constant global.1)) (map_more global_view globals at x below)
-      ∙ map_push (λ global. constant global.1) (map global_view (take at globals)) (global_view (get_or globals at x))
-      ∙ ap (λ z. front ++ constant (instrs_view z.init) ∷ []) (sym is) ∙ ap (λ z. front ++ z ∷ []) (sym value_is) in
-      put ∙ sym (append_assoc front (value ∷ []) (replicate (length globals - (at + 1)) 0)) ∙ ap (λ z. z ++ replicate (length globals - (at + 1)) 0) (sym grown)
-
-pub globals_end : (globals : List GlobalDef) (at : ℕ) (now : List ℕ) → length globals ≤ at → now ≡ map (λ global. constant global.1) (map global_view (take at globals)) ++ replicate (length globals - at) 0 → now ≡ map (λ global. constant global.1) (map global_view globals)
-globals_end globals at now past so_far =
-    let none : length globals - at ≡ 0 = omega (arith, past) in
-    so_far ∙ ap (λ z. map (λ global. constant global.1) (map global_view z) ++ replicate (length globals - at) 0) (take_all at globals past)
-    ∙ ap (λ z. map (λ global. constant global.1) (map global_view globals) ++ replicate z 0) none ∙ append-nil (map (λ global. constant global.1) (map global_view globals))
+pub globals_more : (globals : List GlobalDef) (at : ℕ) (x : GlobalDef) (old new : List ℕ) (value : ℕ) → at < length globals → x ≡ get_or globals at x → value ≡ constant (instrs_view x.init)
+    → old ≡ map (λ global. constant global.1) (map global_view (take at globals)) → new ≡ old ++ value ∷ [] → new ≡ map (λ global. constant global.1) (map global_view (take (at + 1) globals))
+globals_more globals at x old new value below is value_is so_far made =
+    let front = map (λ global. constant global.1) (map global_view (take at globals)) in
+    let grown : map (λ global. constant global.1) (map global_view (take (at + 1) globals)) ≡ front ++ value ∷ [] =
+    ap (map (λ global. constant global.1)) (map_more global_view globals at x below)
+    ∙ map_push (λ global. constant global.1) (map global_view (take at globals)) (global_view (get_or globals at x))
+    ∙ ap (λ z. front ++ constant (instrs_view z.init) ∷ []) (sym is) ∙ ap (λ z. front ++ z ∷ []) (sym value_is) in
+    made ∙ ap (λ z. z ++ value ∷ []) so_far ∙ sym grown
 
 abbrev HoldsValue : GlobalDef → Type 0
 HoldsValue global = IsValue global.kind.value (constant (instrs_view global.init))
@@ -170,6 +163,3 @@ value_here globals at x value below is value_is typed constants so_far =
     let one : IsConstant [] (instrs_view x.init) x.kind.value = subst (λ (z : GlobalDef). IsConstant [] (instrs_view z.init) z.kind.value) (sym is) (constants at x below) in
     let here : HoldsValue x = subst (λ (z : ℕ). IsValue x.kind.value z) value_is (typed x.kind.value one) in
     All-more HoldsValue globals at x below so_far (subst HoldsValue is here)
-
-pub all_values : (globals : List GlobalDef) (at : ℕ) → length globals ≤ at → All (λ global. IsValue global.kind.value (constant (instrs_view global.init))) (take at globals) → All (λ global. IsValue global.kind.value (constant (instrs_view global.init))) globals
-all_values globals at past h = subst (λ (z : List GlobalDef). All HoldsValue z) (take_all at globals past) h

@@ -10,3 +10,5 @@ pub mod Places
 pub mod Counts
 pub mod Stores
 pub mod Begun
+pub mod Images
+pub mod Joins

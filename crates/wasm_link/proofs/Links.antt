@@ -9,15 +9,15 @@ use Rattle.wasm_module.specs.declared.imports.Import.{Import}
 use Rattle.wasm_module.specs.declared.types.FuncType.{FuncType}
 use Rattle.wasm_validate.specs.Context.{module_context}
 use Rattle.wasm_validate.specs.Modules.{IsValid}
-use Rattle.wasm_link.specs.Kept.{IsKept, link_of, TakesAtMost}
+use Rattle.wasm_link.specs.Kept.{IsKept, link_of, IsMost}
 use Rattle.wasm_link.specs.Linking.{IsKnown, IsOfKind, IsLinked, IsLinkable, IsFault, HasLoop, Fits, spans, FirstNot}
-use Rattle.wasm_link.specs.Made.{AreNamed, AreImported, AreOwn, HaveAtMost, IsOtherKind, IsLoop, IsCounted, AreBusy, AreClasses, IsEntryOf, program_of, kind_of}
+use Rattle.wasm_link.specs.Made.{AreNamed, AreImported, AreOwn, HaveMost, IsOtherKind, IsLoop, IsCounted, AreBusy, AreClasses, IsEntryOf, program_of, kind_of}
 use Rattle.wasm_link.specs.declared.entries.Entry.{Entry}
 use Rattle.wasm_link.specs.declared.fault.LinkFault.{LinkFault}
 use Rattle.wasm_link.specs.declared.fault.LinkFault.TheVariants as fault
 use Rattle.wasm_link.proofs.Each.{all_at}
 use Rattle.wasm_link.proofs.Names.{all_of_kind}
-use Rattle.wasm_link.proofs.Parts.{is_program, are_entries, takes_at_most, kinds_are}
+use Rattle.wasm_link.proofs.Parts.{is_program, are_entries, is_most, kinds_are}
 use Rattle.wasm_link.proofs.Programs.{imported_funcs}
 
 module _ (m : Syntax Ops) (sigs : List HostSig) (types : List FuncType) (imports : List Import) (t : types ≡ m.types) (i : imports ≡ m.imports) where
@@ -74,7 +74,7 @@ module _ (m : Syntax Ops) (sigs : List HostSig) (first own functions : List Entr
       } in
       subst (λ (z : List Entry). IsLinked sigs m (link_of m z main)) (sym joined) made
 
-  pub kept_by : (main most : ℕ) (classes calls : List ℕ) → HasLoop m main → All Fits (spans m) → IsValid m → IsWithin m → IsCounted m → AreBusy sigs → AreClasses m.types classes → AreNamed sigs m.imports calls → HaveAtMost sigs calls most
+  pub kept_by : (main most : ℕ) (classes calls : List ℕ) → HasLoop m main → All Fits (spans m) → IsValid m → IsWithin m → IsCounted m → AreBusy sigs → AreClasses m.types classes → AreNamed sigs m.imports calls → HaveMost sigs calls most
       → IsKept m functions classes most main
   kept_by main most classes calls has fits valid within counted busy are_classes named at_most = record {
     sigs = sigs;
@@ -84,7 +84,7 @@ module _ (m : Syntax Ops) (sigs : List HostSig) (first own functions : List Entr
     counted = counted;
     entries = subst (λ (z : List Entry). All (IsEntryOf m) z) (sym joined) (are_entries sigs m first own are_imported are_own);
     classes = are_classes;
-    most = subst (λ (z : List Entry). TakesAtMost (program_of m z) most) (sym joined) (takes_at_most sigs m first own are_imported are_own valid kinds_hold calls named most at_most);
+    most = subst (λ (z : List Entry). IsMost (program_of m z) most) (sym joined) (is_most sigs m first own are_imported are_own valid kinds_hold calls named most at_most);
   }
 
 pub joined_kinds : (m : Syntax Ops) (imports : List Import) (first own functions now : List Entry) → imports ≡ m.imports → now ≡ functions → functions ≡ first ++ own → map kind_of first ≡ imported_funcs imports → map kind_of own ≡ m.funcs → map kind_of now ≡ (module_context m).funcs

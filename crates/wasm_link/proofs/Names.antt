@@ -139,6 +139,18 @@ module _ (sigs : List HostSig) (numbers : List ℕ) (at most new : ℕ) (d : Hos
 pub number_within : (sigs : List HostSig) (numbers : List ℕ) (at : ℕ) → EachAt (IsNumberOf sigs) numbers → at < length numbers → get_or numbers at 0 < length sigs
 number_within sigs numbers at h below = h.each at (get_or numbers at 0) (slice_get-get_or numbers at 0 below)
 
+-- the number is 0, or that of the parameters of a call
+abbrev pub IsMet : List HostSig → List ℕ → ℕ → Type 0
+IsMet sigs numbers most = (most ≡ 0) ⊎ ((place number : ℕ) × (sig : HostSig) × (slice_get numbers place ≡ Some number) × (slice_get sigs number ≡ Some sig) × (length sig.params.now ≡ most))
+
+module _ (sigs : List HostSig) (numbers : List ℕ) (at most new : ℕ) (d : HostSig) (below : at < length numbers) (is : new ≡ max most (length (get_or sigs (get_or numbers at 0) d).params.now)) (all : EachAt (IsNumberOf sigs) numbers) where
+  met_here : IsMet sigs numbers most → (most < length (get_or sigs (get_or numbers at 0) d).params.now) ⊎ (length (get_or sigs (get_or numbers at 0) d).params.now ≤ most) → IsMet sigs numbers new
+  met_here met (inl more) = inr (at, get_or numbers at 0, get_or sigs (get_or numbers at 0) d, slice_get-get_or numbers at 0 below, slice_get-get_or sigs (get_or numbers at 0) d (number_within sigs numbers at all below), omega (arith, more, is))
+  met_here met (inr less) = let same : most ≡ new = omega (arith, less, is) in subst (λ (z : ℕ). IsMet sigs numbers z) same met
+
+  pub met_more : IsMet sigs numbers most → IsMet sigs numbers new
+  met_more met = met_here met (before_or most (length (get_or sigs (get_or numbers at 0) d).params.now))
+
 pub are_numbers : (sigs : List HostSig) (imports : List Import) (numbers : List ℕ) → AreNamed sigs imports numbers → EachAt (IsNumberOf sigs) numbers
 are_numbers sigs imports numbers h = record { each = λ place number e. let r = h.named.each place number e in slice_get_within sigs number r.2.0 r.2.1.stands }
 

@@ -15,13 +15,13 @@ use Rattle.wasm_validate.specs.Context.{module_context, locals_of}
 use Rattle.wasm_validate.specs.Modules.{IsValid}
 use Rattle.wasm_steps.specs.Program.{imported, defined, Program}
 use Rattle.wasm_steps.specs.Program as steps
-use Rattle.wasm_link.specs.Kept.{TakesAtMost}
+use Rattle.wasm_link.specs.Kept.{TakesAtMost, IsMost}
 use Rattle.wasm_link.specs.Linking.{Names, IsOfKind, IsProgram, HasLoop}
-use Rattle.wasm_link.specs.Made.{AreNamed, AreImported, AreOwn, own_entry, function_of, program_of, IsEntryOf, kind_of, IsLoop, HaveAtMost, no_type, body_in}
+use Rattle.wasm_link.specs.Made.{AreNamed, AreImported, AreOwn, own_entry, function_of, program_of, IsEntryOf, kind_of, IsLoop, HaveMost, no_type, body_in}
 use Rattle.wasm_link.specs.declared.entries.Entry.{Entry}
 use Rattle.wasm_link.specs.declared.entries.Entry.TheVariants as code
-use Rattle.wasm_link.proofs.Each.{same_found, before_or, found, all_from, get_left, get_right, get_map}
-use Rattle.wasm_link.proofs.Names.{one_number, one_sig}
+use Rattle.wasm_link.proofs.Each.{same_found, before_or, found, all_from, all_at, get_left, get_right, get_map}
+use Rattle.wasm_link.proofs.Names.{one_number, one_sig, IsMet}
 use Rattle.wasm_link.proofs.Programs.{FromHost, FromModule, origin, imported_funcs}
 
 one_kind : (a b : ℕ) → import.Func a ≡ import.Func b → a ≡ b
@@ -92,7 +92,7 @@ module _ (sigs : List HostSig) (m : Syntax Ops) (first own : List Entry) (are_im
   pub are_entries : All (IsEntryOf m) (first ++ own)
   are_entries = all_from (IsEntryOf m) (first ++ own) (λ i e is. entry_at i e is (before_or i (length first)))
 
-  module _ (valid : IsValid m) (kinds : All (IsOfKind sigs m.types) m.imports) (numbers : List ℕ) (named : AreNamed sigs m.imports numbers) (most : ℕ) (at_most : HaveAtMost sigs numbers most) where
+  module _ (valid : IsValid m) (kinds : All (IsOfKind sigs m.types) m.imports) (numbers : List ℕ) (named : AreNamed sigs m.imports numbers) (most : ℕ) (have : HaveMost sigs numbers most) where
     takes_from : (func call : ℕ) (type : FuncType) (function : steps.Function) → function ≡ imported type call → FromHost sigs m func function ⊎ FromModule m func function → length type.params ≤ most
     takes_from func call type function e (inl h) =
         let same : imported h.type h.number ≡ imported type call = sym h.is ∙ e in
@@ -103,14 +103,28 @@ module _ (sigs : List HostSig) (m : Syntax Ops) (first own : List Entry) (are_im
         let entry : k.0 ≡ h.entry = same_found (slice_get m.imports func) k.1 h.stands in
         let names : Names sigs h.entry f.0 k.2.0 = subst (λ (z : Import). Names sigs z f.0 k.2.0) entry k.2.1 in
         let sig : k.2.0 ≡ h.sig = one_sig f.0 h.number k.2.0 h.sig names h.named in
-        let few : length k.2.0.params.now ≤ most = at_most.each func f.0 f.1 k.2.0 names.stands in
+        let few : length k.2.0.params.now ≤ most = have.bound.each func f.0 f.1 k.2.0 names.stands in
         let params : type.params ≡ k.2.0.params.now = ap (λ (z : FuncType). z.params) (sym one) ∙ h.params ∙ ap (λ (z : HostSig). z.params.now) (sym sig) in
         let size = ap length params in
         omega (arith, few, size)
     takes_from func call type function e (inr h) = let never : defined h.type (length (locals_of h.code.0)) h.code.1 ≡ imported type call = sym h.is ∙ e in absurd cc
 
-    pub takes_at_most : TakesAtMost (program_of m (first ++ own)) most
+    takes_at_most : TakesAtMost (program_of m (first ++ own)) most
     takes_at_most = λ func call type e. takes_from func call type (imported type call) refl (origin sigs m (program_of m (first ++ own)) valid kinds is_program func (imported type call) e)
+
+    -- a function has so many
+    taken_by : IsMet sigs numbers most → (most ≡ 0) ⊎ ((func call : ℕ) × (type : FuncType) × (slice_get (program_of m (first ++ own)).functions func ≡ Some (imported type call)) × (length type.params ≡ most))
+    taken_by (inl none) = inl none
+    taken_by (inr (place, number, sig, e, f, is)) =
+        let n = named.named.each place number e in
+        let k = all_at (IsOfKind sigs m.types) m.imports place n.0 kinds n.1 in
+        let call : k.number ≡ number = one_number k.number number k.sig n.2.0 k.named n.2.1 in
+        let one : k.sig ≡ sig = same_found (slice_get sigs number) (subst (λ (z : ℕ). slice_get sigs z ≡ Some k.sig) call k.named.stands) f in
+        let params : length k.type.params ≡ length sig.params.now = ap length k.params ∙ ap (λ (z : HostSig). length z.params.now) one in
+        inr (place, k.number, k.type, at_import place k.number k.index n.0 k.sig k.type n.1 k.named k.func k.declared, params ∙ is)
+
+    pub is_most : IsMost (program_of m (first ++ own)) most
+    is_most = record { bound = takes_at_most; met = taken_by have.met }
 
 -- ---- the function `loop`
 

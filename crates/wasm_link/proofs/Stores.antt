@@ -4,12 +4,10 @@ use Rattle.std.specs.Prelude.{replicate}
 use Rattle.std.proofs.lemmas.List.Elements.{All-head, All-tail, All-weaker}
 use Rattle.wasm_module.specs.Syntax.{Ops}
 use Rattle.wasm_module.specs.View.{instrs_view}
-use Rattle.wasm_module.specs.Entries.{Elements, Global, global_view, element_view, segment_view}
+use Rattle.wasm_module.specs.Entries.{Elements, Global, global_view}
 use Rattle.wasm_module.specs.Limits.{IsWithin}
 use Rattle.wasm_module.specs.Sections.{module_view}
-use Rattle.wasm_module.specs.declared.elements.Element.{Element}
 use Rattle.wasm_module.specs.declared.globals.GlobalDef.{GlobalDef}
-use Rattle.wasm_module.specs.declared.segments.Segment.{Segment}
 use Rattle.wasm_store.specs.Memory.{Memory}
 use Rattle.wasm_module.specs.declared.module.Module.{Module}
 use Rattle.wasm_module.specs.declared.types.Bounds.{Bounds}
@@ -20,9 +18,10 @@ use Rattle.wasm_validate.specs.Typing.{IsConstant}
 use Rattle.wasm_validate.proofs.Imported.{unmapped}
 use Rattle.wasm_soundness.specs.Typed.{IsValue, AreValues, no_values, next_value, IsTypedStore}
 use Rattle.wasm_steps.specs.Program.{Store}
-use Rattle.wasm_link.specs.Linking.{constant, filled, first_table, first_store, table_size, with_segments, first_memory}
+use Rattle.wasm_link.specs.Linking.{constant, filled, first_table, first_store, table_size, first_memory}
 use Rattle.wasm_link.specs.Made.{IsSmall}
 use Rattle.wasm_link.proofs.Each.{same_found, all_at, all_from, found_under, get_left, get_right, before_or}
+use Rattle.wasm_link.proofs.Places.{memory_size}
 use Rattle.wasm_link.proofs.Programs.{IsFunc, no_globals, no_memories}
 
 abbrev pub store_of : Memory → List ℕ → List (Option ℕ) → Store
@@ -33,6 +32,14 @@ store_of memory values table = record { memory = memory; globals = values; table
 least : (tables : List Bounds) → All (λ bounds. bounds.min ≤ 65536) tables → table_size tables < 2 ^ 32
 least [] h = omega arith
 least (x ∷ xs) h = let few = All-head (λ (z : Bounds). z.min ≤ 65536) x xs h in omega (arith, few)
+
+-- The bytes of a memory that may be made are few.
+pub small_bytes : (memories : List Bounds) → All IsSmall memories → length (first_memory memories).bytes ≤ 2 ^ 32
+small_bytes [] h = let size = memory_size [] in omega (arith, size)
+small_bytes (x ∷ xs) h =
+    let few = (All-head IsSmall x xs h).0 in
+    let size = memory_size (x ∷ xs) in
+    omega (arith, size, few)
 
 module _ (m : Module) (valid : IsValid (module_view m)) (within : IsWithin (module_view m)) (funcs : All IsFunc m.imports) where
   memories_are : (module_context (module_view m)).memories ≡ m.memories
@@ -116,11 +123,7 @@ typed_store m valid funcs values = record {
 }
 
 -- The parts of the store are those that the module begins with.
-pub store_is : (m : Module) (memories tables : List Bounds) (segments : List Segment) (elements : List Element) (globals : List GlobalDef) (memory : Memory) (values : List ℕ) (table : List (Option ℕ))
-    → memories ≡ m.memories → tables ≡ m.tables → segments ≡ m.segments → elements ≡ m.elements → globals ≡ m.globals
-    → memory ≡ with_segments (first_memory memories) (map segment_view segments) → values ≡ map (λ global. constant global.1) (map global_view globals) → table ≡ first_table (replicate (table_size tables) None) (map element_view elements)
+pub store_is : (m : Module) (memory : Memory) (values : List ℕ) (table : List (Option ℕ)) → memory ≡ (first_store (module_view m)).memory → values ≡ (first_store (module_view m)).globals → table ≡ (first_store (module_view m)).table
     → store_of memory values table ≡ first_store (module_view m)
-store_is m memories tables segments elements globals memory values table a b c d e f g h =
-    ap (λ z. store_of z values table) (f ∙ ap (λ z. with_segments (first_memory z) (map segment_view segments)) a ∙ ap (λ z. with_segments (first_memory m.memories) (map segment_view z)) c)
-    ∙ ap (λ z. store_of (first_store (module_view m)).memory z table) (g ∙ ap (λ z. map (λ global. constant global.1) (map global_view z)) e)
-    ∙ ap (λ z. store_of (first_store (module_view m)).memory (first_store (module_view m)).globals z) (h ∙ ap (λ z. first_table (replicate (table_size z) None) (map element_view elements)) b ∙ ap (λ z. first_table (replicate (table_size m.tables) None) (map element_view z)) d)
+store_is m memory values table a b c =
+    ap (λ z. store_of z values table) a ∙ ap (λ z. store_of (first_store (module_view m)).memory z table) b ∙ ap (λ z. store_of (first_store (module_view m)).memory (first_store (module_view m)).globals z) c

@@ -1,5 +1,5 @@
 -- What a linked module keeps of the module and the calls.
-use Rattle.std.specs.Prelude.{◌≡◌, ℕ, ◌≤◌, List, length, Some, slice_get, All}
+use Rattle.std.specs.Prelude.{◌≡◌, ◌⊎◌, ℕ, ◌≤◌, List, length, Some, slice_get, All}
 use Rattle.wasm_module.specs.Syntax.{Ops}
 use Rattle.wasm_module.specs.Sections.{Syntax, module_view}
 use Rattle.wasm_module.specs.Limits.{IsWithin}
@@ -30,6 +30,12 @@ TakesAtMost program most =
     (func call : ℕ) (type : FuncType) → slice_get program.functions func ≡ Some (imported type call)
     → length type.params ≤ most
 
+-- It is the most parameters of an imported function, and 0 where none is imported.
+pub record IsMost (program : Program) (most : ℕ) : Type 0 where
+  pub bound : TakesAtMost program most
+  pub met : (most ≡ 0) ⊎ ((func call : ℕ) × (type : FuncType)
+      × (slice_get program.functions func ≡ Some (imported type call)) × (length type.params ≡ most))
+
 pub record IsKept (m : Syntax Ops) (functions : List Entry) (kinds : List ℕ)
     (greatest main : ℕ) : Type 0 where
   pub sigs : List HostSig
@@ -39,4 +45,4 @@ pub record IsKept (m : Syntax Ops) (functions : List Entry) (kinds : List ℕ)
   pub counted : IsCounted m
   pub entries : All (IsEntryOf m) functions
   pub classes : AreClasses m.types kinds
-  pub most : TakesAtMost (program_of m functions) greatest
+  pub most : IsMost (program_of m functions) greatest

@@ -1,6 +1,7 @@
 -- Whether a module links against the calls of a host, and what a run of it begins with: WebAssembly Core 1.0,
 -- chapter 4.5.4.
-use Rattle.std.specs.Prelude.{◌≡◌, ℕ, ◌+◌, ◌<◌, ◌≤◌, List, [], ◌∷◌, ◌++◌, length, map, replicate, codes, Option, Some, None, slice_get, take, drop, All}
+use Rattle.std.specs.Prelude.{◌≡◌, ℕ, ◌+◌, ◌<◌, ◌≤◌, List, [], ◌∷◌, ◌++◌, length, map, replicate, codes}
+use Rattle.std.specs.Prelude.{Option, Some, None, slice_get, take, drop, All}
 use Rattle.std.specs.Option.{unwrap_or}
 use Rattle.std.specs.Int.{w32, w64, cast_unsigned}
 use Rattle.wasm_module.specs.Syntax.{Ops, no_ops, next, i32_const, i64_const}

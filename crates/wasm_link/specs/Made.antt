@@ -1,5 +1,6 @@
 -- What the code makes of the parts of a module before it links it.
-use Rattle.std.specs.Prelude.{◌≡◌, ℕ, ◌+◌, ◌<◌, ◌≤◌, ◌^◌, List, [], ◌∷◌, length, map, codes, Option, Some, None, slice_get, All}
+use Rattle.std.specs.Prelude.{◌≡◌, ◌⊎◌, ℕ, ◌+◌, ◌<◌, ◌≤◌, ◌^◌, List, [], ◌∷◌, length, map, codes, Option}
+use Rattle.std.specs.Prelude.{Some, None, slice_get, All}
 use Rattle.std.specs.Option.{unwrap_or}
 use Rattle.wasm_module.specs.Syntax.{Ops, no_ops}
 use Rattle.wasm_module.specs.View.{instrs_view}
@@ -206,3 +207,9 @@ abbrev pub HaveAtMost : List HostSig → List ℕ → ℕ → Type 0
 HaveAtMost sigs numbers most =
     EachAt (λ place number. (sig : HostSig) → slice_get sigs number ≡ Some sig
     → length sig.params.now ≤ most) numbers
+
+-- No call of these numbers has more parameters, and one has so many; it is 0 where there is none.
+pub record HaveMost (sigs : List HostSig) (numbers : List ℕ) (most : ℕ) : Type 0 where
+  pub bound : HaveAtMost sigs numbers most
+  pub met : (most ≡ 0) ⊎ ((place number : ℕ) × (sig : HostSig) × (slice_get numbers place ≡ Some number)
+      × (slice_get sigs number ≡ Some sig) × (length sig.params.now ≡ most))

@@ -4,7 +4,8 @@ ghost use Rattle.std.specs.List.{filter_map};
 ghost use Rattle.wasm_validate.specs.Context.{imported_func};
 ghost use Rattle.wasm_validate.specs.inner.Stands.{Exactly};
 ghost use Rattle.wasm_link.specs.Linking.{IsKnown};
-ghost use Rattle.wasm_link.specs.Made.{kind_of, IsNamed, IsFirstOf, HasName, AreNamed, HasKind, AreImported, IsUnknown, IsOtherKind, EachAt, IsNumberOf, HaveAtMost};
+ghost use Rattle.wasm_link.specs.Made.{kind_of, IsNamed, IsFirstOf, HasName, AreNamed, HasKind, AreImported};
+ghost use Rattle.wasm_link.specs.Made.{IsUnknown, IsOtherKind, EachAt, IsNumberOf, HaveMost};
 
 use crate::entries::Entry;
 use crate::fault::LinkFault;
@@ -120,10 +121,10 @@ pub(crate) fn imported_functions(
     Ok(functions)
 }
 
-/// The most parameters of the calls of these numbers.
+/// The most parameters of the calls of these numbers, and 0 where there is none.
 pub(crate) fn most_params(sigs: &[HostSig], calls: &[u32]) -> usize
     requires { EachAt (IsNumberOf sigs.now) calls.now }
-    ensures { HaveAtMost sigs.now calls.now result }
+    ensures { HaveMost sigs.now calls.now result }
 {
     let mut most = 0usize;
     let mut at = 0usize;

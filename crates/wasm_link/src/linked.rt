@@ -1,12 +1,14 @@
 // Linked modules.
-ghost use Rattle.std.specs.Prelude.{◌≡◌, ◌≤◌, ◌<◌, ◌^◌, ◌↔◌, ℕ, List, [], length, All, None, Some, slice_get, IfOk, IfErr, IfSome, IsTrue};
+ghost use Rattle.std.specs.Prelude.{◌≡◌, ◌≤◌, ◌<◌, ◌^◌, ◌↔◌, ℕ, List, [], length, All, None, Some, slice_get};
+ghost use Rattle.std.specs.Prelude.{IfOk, IfErr, IfSome, IsTrue};
 ghost use Rattle.wasm_module.specs.Limits.{IsWithin, WithinBytes};
 ghost use Rattle.wasm_module.specs.Sections.{Spells, module_view};
 ghost use Rattle.wasm_validate.specs.Modules.{IsValid};
 ghost use Rattle.wasm_link.specs.Linking.{IsLinked, IsFault, IsLinkable};
-ghost use Rattle.wasm_link.specs.Kept.{IsKept, link_of, link_view};
+ghost use Rattle.wasm_link.specs.Kept.{IsKept, IsMost, link_of, link_view};
 ghost use Rattle.wasm_link.specs.Made.{AreBusy, IsCounted};
 
+use crate::beginning::{Beginning, beginning_of};
 use crate::classes::classes_of;
 use crate::entries::Entry;
 use crate::exports::find_loop;
@@ -14,10 +16,11 @@ use crate::fault::LinkFault;
 use crate::functions::own_functions;
 use crate::imports::{call_numbers, imported_functions, most_params};
 use crate::segments::first_misfit;
-use crate::stored::{Stored, globals_of, memory_of, table_of};
+use crate::stored::{Stored, memory_of, table_of};
 use std::alloc::{AllocError as NoMemory, Global};
 use std::marker::Model;
 use wasm_module::{FuncType, HostSig, Instr, Module};
+use wasm_store::GlobalValues;
 use wasm_validate::Valid;
 
 /// What a call leads to.
@@ -56,10 +59,12 @@ pub struct Linked {
     classes: Vec<u32>,
     most: usize,
     main: u32,
+    beginning: Beginning,
 }
 
 impl Model for Linked {
-    ghost use Rattle.wasm_link.specs.Kept.{Kept, IsKept};
+    ghost use Rattle.wasm_link.specs.Kept.{Kept};
+    ghost use Rattle.wasm_link.specs.inner.Beginnings.{IsReady};
     ghost use Rattle.wasm_module.specs.Sections.{module_view};
     ghost use Rattle.std.specs.Coded.{codes};
     ghost use Rattle.wasm_module.specs.contracts.module.Module as whole_row;
@@ -75,9 +80,8 @@ impl Model for Linked {
       main = linked.main;
     } };
 
-    ghost invariant = { λ linked. IsKept (module_view linked.valid) linked.functions.items
-        linked.classes.items
-        linked.most linked.main };
+    ghost invariant = { λ linked. IsReady (module_view linked.valid) linked.functions.items
+        linked.classes.items linked.most linked.main linked.beginning };
 }
 
 /// The parts of a module, each looked at in the order of the refusals.
@@ -132,13 +136,16 @@ pub fn link(alloc: Global, valid: Valid, sigs: &[HostSig]) -> Result<Linked, Lin
     ensures fault { IfErr result (IsFault sigs.now (module_view valid)) }
     ensures complete { IsLinkable sigs.now (module_view valid) → IfErr result (λ e. e ≡ LinkFault.Memory) }
 {
-    let parts = parts_of(alloc, valid.module(), sigs)?;
+    let whole = valid.module();
+    let parts = parts_of(alloc, whole, sigs)?;
+    let beginning = beginning_of(alloc, whole)?;
     Ok(Linked {
         valid,
         functions: parts.functions,
         classes: parts.classes,
         most: parts.most,
         main: parts.main,
+        beginning,
     })
 }
 
@@ -212,29 +219,25 @@ impl Linked {
 
     /// The most parameters of an imported function.
     pub fn most_arguments(&self) -> usize
-        ensures { (func call : ℕ) (type : FuncType)
-            → slice_get (link_view self.now).program.functions func ≡ Some (imported type call)
-            → length type.params ≤ result }
+        ensures { IsMost (link_view self.now).program result }
     {
         self.most
     }
 
     /// A new store with the segments in it: the memory of the module's least size, zeros but for the data;
-    /// the table, empty but for the
-    /// elements; the globals. No page past the least size is touched.
+    /// the table, empty but for the elements; the globals. It copies what linking worked out, and touches no
+    /// page past the least size.
     pub fn store(&self, alloc: Global) -> Result<Stored, NoMemory>
         ensures store { IfOk result (λ stored. store_view stored ≡ first_store (link_view self.now).whole) }
         ensures typed { IfOk result
             (λ stored. IsTypedStore (module_context (link_view self.now).whole) (store_view stored)) }
     {
         let whole = self.valid.module();
-        let pages = memory_of(alloc, whole.memories.as_slice(), whole.segments.as_slice())?;
-        let globals = globals_of(alloc, whole.globals.as_slice())?;
-        let table = table_of(alloc, whole.tables.as_slice(), whole.elements.as_slice())?;
+        let first = &self.beginning;
         Ok(Stored {
-            pages,
-            globals,
-            table,
+            pages: memory_of(alloc, whole.memories.as_slice(), &first.memory)?,
+            globals: GlobalValues::of(alloc, first.globals.as_slice())?,
+            table: table_of(alloc, whole.tables.as_slice(), &first.table)?,
         })
     }
 }

@@ -1,11 +1,14 @@
 // Whether the segments of a module are within its table and its memory.
-ghost use Rattle.std.specs.Prelude.{◌≡◌, ◌+◌, ◌≤◌, ℕ, MatchOption, All};
+ghost use Rattle.std.specs.Prelude.{◌≡◌, ◌+◌, ◌<◌, ◌≤◌, ℕ, MatchOption, All, Any, IfOk};
 ghost use Rattle.wasm_validate.specs.inner.Stands.{Exactly};
 ghost use Rattle.wasm_module.specs.Sections.{module_view};
 ghost use Rattle.wasm_link.specs.Linking.{Span, Fits, FirstNot, table_size, spans};
 ghost use Rattle.wasm_link.specs.Made.{IsCounted};
+ghost use Rattle.wasm_link.specs.inner.Images.{IsOf, EndsIn};
 
 use crate::constants::value_of;
+use crate::image::Interval;
+use std::alloc::{AllocError, Global};
 use wasm_module::{Bounds, Element, Module, Segment};
 
 const PAGE_SIZE: u64 = 65_536;
@@ -33,6 +36,11 @@ pub(crate) trait Placed {
     /// Whether it ends at the end at most, where there are so many entries.
     fn is_within(&self, size: u64) -> bool
         ensures { Exactly (Fits (span size self.now)) result };
+
+    /// Where its entries stand.
+    fn interval(&self) -> Interval
+        ensures is { (size : ℕ) → IsOf (span size self.now) result }
+        ensures sized { (size : ℕ) → (span size self.now).size ≡ size };
 }
 
 impl Placed for Element {
@@ -42,6 +50,13 @@ impl Placed for Element {
 
     fn is_within(&self, size: u64) -> bool {
         fits(value_of(&self.offset), self.funcs.len(), size)
+    }
+
+    fn interval(&self) -> Interval {
+        Interval {
+            start: value_of(&self.offset) as usize,
+            len: self.funcs.len() as usize,
+        }
     }
 }
 
@@ -53,6 +68,37 @@ impl Placed for Segment {
     fn is_within(&self, size: u64) -> bool {
         fits(value_of(&self.offset), self.bytes.len(), size)
     }
+
+    fn interval(&self) -> Interval {
+        Interval {
+            start: value_of(&self.offset) as usize,
+            len: self.bytes.len() as usize,
+        }
+    }
+}
+
+/// The intervals of the segments that have entries.
+pub(crate) fn intervals_of<S: Placed>(
+    alloc: Global,
+    segments: &[S],
+) -> Result<Vec<Interval>, AllocError>
+    ensures ends { IfOk result
+        (λ intervals. (size : ℕ) → All (λ segment. Fits (S.span size segment)) segments.now
+        → All (EndsIn size) intervals.items) }
+    ensures each { IfOk result
+        (λ intervals. All (λ segment. (size : ℕ) → 0 < (S.span size segment).count
+        → Any (IsOf (S.span size segment)) intervals.items) segments.now) }
+{
+    let mut intervals = Vec::new(alloc);
+    let mut at = 0usize;
+    while at < segments.len() {
+        let interval = segments[at].interval();
+        if interval.len > 0 {
+            intervals.push(interval)?;
+        }
+        at += 1;
+    }
+    Ok(intervals)
 }
 
 /// The place of the first segment that passes the end.

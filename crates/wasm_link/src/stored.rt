@@ -1,16 +1,14 @@
 // The store of an instance.
-ghost use Rattle.std.specs.Prelude.{◌≡◌, [], ◌+◌, ◌<◌, ◌≤◌, ◌^◌, ◌++◌, length, map, replicate, take, drop, All, IfOk, OnOk, None, Some};
-ghost use Rattle.wasm_module.specs.Entries.{global_view, element_view, segment_view};
-ghost use Rattle.wasm_module.specs.View.{instrs_view};
-ghost use Rattle.wasm_validate.specs.Typing.{IsConstant};
-ghost use Rattle.wasm_soundness.specs.Typed.{IsValue};
-ghost use Rattle.wasm_link.specs.Linking.{Fits, constant, first_memory, first_table, with_segments, table_size};
-ghost use Rattle.wasm_link.specs.Made.{element_span, data_span, IsSmall};
+ghost use Rattle.std.specs.Prelude.{◌≡◌, ◌<◌, ◌^◌, ℕ, List, Option, length, All, IfOk, None};
+ghost use Rattle.wasm_store.specs.Memory.{Memory};
+ghost use Rattle.wasm_link.specs.Linking.{first_memory, table_size};
+ghost use Rattle.wasm_link.specs.Made.{IsSmall};
+ghost use Rattle.wasm_link.specs.inner.Images.{Ends, Valued, Stands};
 
-use crate::constants::value_of;
+use crate::image::Image;
 use crate::segments::least_size;
 use std::alloc::{AllocError, Global};
-use wasm_module::{Bounds, Element, GlobalDef, Segment};
+use wasm_module::Bounds;
 use wasm_store::{FuncTable, GlobalValues, Pages};
 
 /// The memory, the globals and the table of an instance: WebAssembly Core 1.0, chapter 4.2.3.
@@ -41,83 +39,54 @@ fn first_pages(alloc: Global, memories: &[Bounds]) -> Result<Pages, AllocError>
     }
 }
 
-/// The memory with the data of the segments in it.
+/// The memory that an image stands for, zeros but for its stretches.
 pub(crate) fn memory_of(
     alloc: Global,
     memories: &[Bounds],
-    segments: &[Segment],
+    image: &Image<u8>,
 ) -> Result<Pages, AllocError>
     requires small { All IsSmall memories.now }
-    requires fit { All
-        (λ segment. Fits (data_span (length (first_memory memories.now).bytes) segment)) segments.now }
+    requires ends { All (Ends (length (first_memory memories.now).bytes)) image.now.stretches.items }
+    requires valued { All (Valued (length image.now.values.items)) image.now.stretches.items }
     ensures { IfOk result
-        (λ pages. pages ≡ with_segments (first_memory memories.now) (map segment_view segments.now)) }
+        (λ pages. (memory : Memory) → length memory.bytes ≡ length (first_memory memories.now).bytes
+        → memory.limit ≡ (first_memory memories.now).limit
+        → Stands 0 image.now.stretches.items image.now.values.items memory.bytes → pages ≡ memory) }
 {
+    let stretches = image.stretches.as_slice();
+    let values = image.values.as_slice();
     let mut pages = first_pages(alloc, memories)?;
     let mut at = 0usize;
-    while at < segments.len() {
-        let segment = &segments[at];
-        pages.write_span(value_of(&segment.offset), segment.bytes.as_slice());
+    while at < stretches.len() {
+        let stretch = stretches[at];
+        let end = stretch.base + stretch.len;
+        pages.write_span(stretch.start as u64, &values[stretch.base..end]);
         at += 1;
     }
     Ok(pages)
 }
 
-/// The globals with the values that they begin with.
-pub(crate) fn globals_of(alloc: Global, globals: &[GlobalDef]) -> Result<GlobalValues, AllocError>
-    requires few { length globals.now < 2 ^ 32 }
-    requires constants { All
-        (λ global. IsConstant [] (instrs_view global.init) global.kind.value) globals.now }
-    ensures values { IfOk result
-        (λ values. values ≡ map (λ global. constant global.1) (map global_view globals.now)) }
-    ensures typed { OnOk result
-        (All (λ global. IsValue global.kind.value (constant (instrs_view global.init))) globals.now) }
-{
-    let mut values = GlobalValues::new(alloc, globals.len() as u32)?;
-    let mut at = 0usize;
-    while at < globals.len() {
-        let global = &globals[at];
-        values.set(at as u32, value_of(&global.init));
-        at += 1;
-    }
-    Ok(values)
-}
-
-/// Writes functions into the table, from an entry on.
-fn fill(table: &mut FuncTable, offset: u32, funcs: &[u32])
-    requires within { offset + length funcs.now ≤ length table.old }
-    requires small { length table.old < 2 ^ 32 }
-    ensures { table.new ≡ take offset table.old
-        ++ (map Some funcs.now ++ drop (offset + length funcs.now) table.old) }
-{
-    let mut at = 0usize;
-    while at < funcs.len() {
-        table.set(offset + at as u32, funcs[at]);
-        at += 1;
-    }
-}
-
-/// The table with the functions of the segments in it.
+/// The table that an image stands for, empty but for its stretches.
 pub(crate) fn table_of(
     alloc: Global,
     tables: &[Bounds],
-    elements: &[Element],
+    image: &Image<Option<u32>>,
 ) -> Result<FuncTable, AllocError>
     requires small { table_size tables.now < 2 ^ 32 }
-    requires fit { All (λ segment. Fits (element_span (table_size tables.now) segment)) elements.now }
+    requires ends { All (Ends (table_size tables.now)) image.now.stretches.items }
+    requires valued { All (Valued (length image.now.values.items)) image.now.stretches.items }
     ensures { IfOk result
-        (λ table. table ≡ first_table (replicate (table_size tables.now) None)
-        (map element_view elements.now)) }
+        (λ table. (content : List (Option ℕ)) → length content ≡ table_size tables.now
+        → Stands None image.now.stretches.items image.now.values.items content → table ≡ content) }
 {
+    let stretches = image.stretches.as_slice();
+    let values = image.values.as_slice();
     let mut table = FuncTable::new(alloc, least_size(tables))?;
     let mut at = 0usize;
-    while at < elements.len() {
-        let segment = &elements[at];
-        fill(
-            &mut table,
-            value_of(&segment.offset) as u32,
-            segment.funcs.as_slice(),
-        );
+    while at < stretches.len() {
+        let stretch = stretches[at];
+        let end = stretch.base + stretch.len;
+        table.write_span(stretch.start as u32, &values[stretch.base..end]);
         at += 1;
     }
     Ok(table)

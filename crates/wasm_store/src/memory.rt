@@ -1,5 +1,6 @@
 // A memory in pages of 65,536 bytes.
-ghost use Rattle.std.specs.Prelude.{◌≡◌, ◌+◌, ◌*◌, ◌^◌, ◌<◌, ◌≤◌, ◌↔◌, min, IfOk, IfSome, IsSome, IsNone, IsTrue, false, length, vec_capacity, []};
+ghost use Rattle.std.specs.Prelude.{◌≡◌, ◌+◌, ◌*◌, ◌^◌, ◌<◌, ◌≤◌, ◌↔◌, min, IfOk, IfSome, IsSome, IsNone};
+ghost use Rattle.std.specs.Prelude.{IsTrue, false, length, vec_capacity, []};
 ghost use Rattle.wasm_store.specs.Bytes.{IsWidth, le_bytes, le_number};
 ghost use Rattle.wasm_store.specs.Memory.{page_size, most_pages, page_count, fresh, grown, span, written};
 

@@ -1,5 +1,7 @@
 // A table of functions.
-ghost use Rattle.std.specs.Prelude.{◌≡◌, ◌<◌, ◌≤◌, ◌↔◌, IfOk, IsTrue, IsNone, false, None, Some, length, replicate, slice_get, slice_set};
+ghost use Rattle.std.specs.Prelude.{◌≡◌, ◌+◌, ◌<◌, ◌≤◌, ◌↔◌, IfOk, IsTrue, IsNone, false, None, Some, length};
+ghost use Rattle.std.specs.Prelude.{replicate, slice_get, slice_set};
+ghost use Rattle.wasm_store.specs.Tables.{with_entries};
 
 use std::alloc::{AllocError, Global};
 use std::marker::Model;
@@ -35,6 +37,21 @@ impl FuncTable {
         ensures range { IsNone result ↔ (length self.now ≤ i) }
     {
         self.entries.get(i as usize).copied()
+    }
+
+    /// Writes entries from `at` on, and answers whether they are within the end. Nothing is changed where
+    /// they pass it.
+    pub fn write_span(&mut self, at: u32, entries: &[Option<u32>]) -> bool
+        ensures range { IsTrue result ↔ (at + length entries.now ≤ length self.old) }
+        ensures written { IsTrue result → self.new ≡ with_entries self.old at entries.now }
+        ensures unchanged { result ≡ false → self.new ≡ self.old }
+    {
+        let from = at as usize;
+        if from > self.entries.len() || entries.len() > self.entries.len() - from {
+            return false;
+        }
+        self.entries[from..from + entries.len()].copy_from_slice(entries);
+        true
     }
 
     /// Whether there is such an entry. It names that function then.

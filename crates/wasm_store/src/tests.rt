@@ -96,3 +96,28 @@ fn entries_begin_empty(rt: HostRuntime) -> Result<(), Fail> {
     assert_eq!(rt; table.get(65_536), None);
     Ok(())
 }
+
+#[test]
+fn variables_of_values(rt: HostRuntime) -> Result<(), Fail> {
+    let mut values = GlobalValues::of(rt.alloc(), &[5, u64::MAX, 7])?;
+    values.set(2, 8);
+    assert_eq!(rt; values.get(0), 5);
+    assert_eq!(rt; values.get(1), u64::MAX);
+    assert_eq!(rt; values.get(2), 8);
+    Ok(())
+}
+
+#[test]
+fn spans_of_entries_are_written(rt: HostRuntime) -> Result<(), Fail> {
+    let mut table = FuncTable::new(rt.alloc(), 4)?;
+    assert!(rt; table.write_span(1, &[Some(7), None, Some(9)]));
+    assert!(rt; !table.write_span(2, &[None, None, None]));
+    assert!(rt; table.write_span(4, &[]));
+    assert!(rt; !table.write_span(5, &[]));
+    assert_eq!(rt; table.get(0), Some(None));
+    assert_eq!(rt; table.get(1), Some(Some(7)));
+    assert_eq!(rt; table.get(2), Some(None));
+    assert_eq!(rt; table.get(3), Some(Some(9)));
+    assert_eq!(rt; table.get(4), None);
+    Ok(())
+}

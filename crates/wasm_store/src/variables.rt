@@ -28,6 +28,15 @@ impl GlobalValues {
         Ok(GlobalValues { values })
     }
 
+    /// Variables of these values.
+    pub fn of(alloc: Global, values: &[u64]) -> Result<GlobalValues, AllocError>
+        ensures { IfOk result (λ g. g ≡ values.now) }
+    {
+        let mut copied = Vec::with_capacity(alloc, values.len())?;
+        copied.extend_from_slice(values)?;
+        Ok(GlobalValues { values: copied })
+    }
+
     /// The value of variable `i`.
     #[inline]
     pub fn get(&self, i: u32) -> u64

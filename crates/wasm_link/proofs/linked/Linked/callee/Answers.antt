@@ -19,5 +19,5 @@ returns-in-Defined c =
     let size = length-map functions (function_of m) in
     let is = read_at functions c.args.func e (omega (arith, few, size)) c.index.ensures in
     subst (λ (z : Kept). IsDefinedAt (link_view z).program c.args.func d.params d.more d.results c.as_slice-in-Defined-2.result.now) c.self.view_is
-    (defined_call i.valid functions c.args.func e d.kind d.place d.params d.more d.results c.as_slice-in-Defined.result.now c.index-as_slice-place.result c.as_slice-in-Defined-2.result.now is c.self.invariant.entries d.is
+    (defined_call i.valid functions c.args.func e d.kind d.place d.params d.more d.results c.as_slice-in-Defined.result.now c.index-as_slice-place.result c.as_slice-in-Defined-2.result.now is c.self.invariant.kept.entries d.is
     (c.as_slice-in-Defined.ensures ∙ ap (λ (z : Module). z.codes) c.module-whole.ensures.same) c.as_slice-in-Defined-2.ensures)
