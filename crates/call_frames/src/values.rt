@@ -1,6 +1,9 @@
 // The values of all call frames.
-ghost use Rattle.std.specs.Prelude.{◌≡◌, ◌+◌, ◌^◌, ◌<◌, ◌≤◌, ◌↔◌, length, take, reverse, slice_index, IfOk, IsTrue, if◌then◌else◌};
-ghost use Rattle.call_frames.specs.Stack.{Stack, size, empty, pushed, without, replaced, with_local, entered, left, cut};
+ghost use Rattle.std.specs.Prelude.{◌≡◌, ◌+◌, ◌^◌, ◌<◌, ◌≤◌, ◌↔◌, length, take, reverse, slice_index, IfOk};
+ghost use Rattle.std.specs.Prelude.{IsTrue, if◌then◌else◌};
+ghost use Rattle.call_frames.specs.Stack.{Stack, size, empty, pushed, without, replaced, with_local, entered};
+ghost use Rattle.call_frames.specs.Stack.{left, cut, most_values, most_waiting};
+ghost use Rattle.call_frames.specs.inner.View.{near_locals};
 
 use crate::arrays::{append, clear, reach};
 use std::alloc::{AllocError, Global};
@@ -130,7 +133,7 @@ impl Values {
     /// Pushes an operand, where there is room.
     #[inline]
     pub fn push(&mut self, value: u64) -> bool
-        ensures room { IsTrue result ↔ (size self.old < MOST_VALUES) }
+        ensures room { IsTrue result ↔ (size self.old < most_values) }
         ensures pushed { self.new ≡ (if result then pushed value self.old else self.old) }
     {
         let end = self.top.end;
@@ -201,8 +204,8 @@ impl Values {
     #[inline]
     pub fn enter(&mut self, params: usize, more: usize) -> bool
         requires params { params ≤ length self.old.operands }
-        requires depth { length self.old.waiting < MOST_WAITING }
-        ensures room { IsTrue result ↔ (size self.old + more ≤ MOST_VALUES) }
+        requires depth { length self.old.waiting < most_waiting }
+        ensures room { IsTrue result ↔ (size self.old + more ≤ most_values) }
         ensures entered { self.new ≡ (if result then entered params more self.old else self.old) }
     {
         let end = self.top.end;
@@ -231,7 +234,7 @@ impl Values {
         let base = self.top.base;
         let end = self.top.end;
         let Some(caller) = self.waiting.pop() else {
-            return;
+            unreachable!()
         };
         self.top = caller;
         if results == 0 {
@@ -264,13 +267,13 @@ impl Values {
 #[inline]
 fn called(base: usize, written: usize, floor: usize, last: u64) -> Span
     requires order { (base ≤ written) × (written ≤ floor) }
-    requires within { floor ≤ MOST_VALUES }
+    requires within { floor ≤ most_values }
     ensures base { result.base ≡ base }
     ensures floor { result.floor ≡ floor }
     ensures end { result.end ≡ floor }
     ensures near { (written ≤ result.near) × (result.near ≤ floor) }
-    ensures enough { result.near < floor → base + NEAR ≤ result.near }
-    ensures few { last + 1 < 2 ^ 64 → written < result.near → result.near ≤ base + NEAR }
+    ensures enough { result.near < floor → base + near_locals ≤ result.near }
+    ensures few { last + 1 < 2 ^ 64 → written < result.near → result.near ≤ base + near_locals }
     ensures all_near { floor ≤ result.near → result.epoch ≡ last }
     ensures some_far { result.near < floor → result.epoch ≡ last + 1 }
 {

@@ -6,9 +6,10 @@ use Rattle.wasm_module.specs.declared.types.ValType.{ValType}
 use Rattle.wasm_validate.specs.Context.{Context}
 use Rattle.wasm_steps.specs.Program.{Program, Store, most_values}
 use Rattle.wasm_steps.specs.Threads.{Level, arity, size, Branches, Returns}
-use Rattle.wasm_steps.specs.Plain.{does_nop}
+use Rattle.wasm_steps.specs.Plain.{Fails, does_nop}
 use Rattle.wasm_steps.specs.Steps.{Meaning, Step, Stops, step_plain, step_block, step_loop, step_then, step_else, step_br, step_br_if, step_no_br_if, step_br_table, step_return, stops_plain, stops_full, target_of}
 use Rattle.wasm_steps.specs.declared.outcome.Trap.{Trap}
+use Rattle.wasm_steps.specs.declared.outcome.Trap.TheVariants as traps
 use Rattle.wasm_soundness.specs.Typed.{IsTyped}
 use Rattle.wasm_soundness.proofs.Plain.{nop_on}
 use Rattle.wasm_soundness.proofs.Blocks.{enters_block, enters_loop, enters_if}
@@ -16,19 +17,24 @@ use Rattle.wasm_soundness.proofs.Branches.{br_on, br_if_on, br_table_on, return_
 use Rattle.wasm_stack.specs.Held.{Held, running, opened, without}
 use Rattle.wasm_stack.specs.View.{ops_at}
 use Rattle.wasm_stack.specs.declared.place.Place.{Place}
-use Rattle.wasm_plain.specs.Done.{data_of, IsDone, IsStopped}
+use Rattle.wasm_plain.specs.Done.{data_of, IsDone, IsFull, IsStopped, IsRun}
 use Rattle.wasm_machine.specs.Machine.{state_of, IsSoundAt, Ran, Stopped, Executes}
 
 top_split : (xs : List ℕ) → 1 ≤ length xs → xs ≡ get_or xs 0 0 ∷ drop 1 xs
 top_split [] h = absurd (omega (arith, h))
 top_split (x ∷ xs) h = refl
 
-pub stopped_plain : {S : Type 0} {program : Program} (op : Op) (rest : Ops) (old : Held) (before : Store) (host : S) (trap : Trap)
-    → IsStopped op old before trap → Stopped program (next op rest) old before host trap host
-stopped_plain {S} {program} op rest old before host trap (inl fails) = record { stops = stops_plain refl fails; kept = refl }
-stopped_plain {S} {program} op rest old before host trap (inr full) =
+stops_so : {S : Type 0} {program : Program} (op : Op) (rest : Ops) (old : Held) (before : Store) (host : S) (trap : Trap)
+    → Fails op (data_of old before) trap ⊎ ((trap ≡ traps.StackFull) × IsFull op old before) → Stops program (state_of (next op rest) old before host) trap
+stops_so {S} {program} op rest old before host trap (inl fails) = stops_plain refl fails
+stops_so {S} {program} op rest old before host trap (inr full) =
     let stopped = stops_full {op = op} {rest = rest} {held = full.1.result} refl full.1.does full.1.full in
-    record { stops = subst (λ (z : Trap). Stops program (state_of (next op rest) old before host) z) (sym full.0) stopped; kept = refl }
+    subst (λ (z : Trap). Stops program (state_of (next op rest) old before host) z) (sym full.0) stopped
+
+pub stopped_plain : {S : Type 0} {program : Program} (op : Op) (rest : Ops) (old new : Held) (before after : Store) (host : S) (trap : Trap)
+    → IsStopped op old before trap new after → Stopped program (next op rest) old before host trap new after host
+stopped_plain {S} {program} op rest old new before after host trap stopped =
+    record { stops = stops_so op rest old before host trap stopped.cause; held = stopped.held; stored = stopped.stored; host_kept = refl }
 
 pub executes_seen : {S : Type 0} (program : Program) (H : Meaning S) (base : Context) (op view : Op) (rest : Ops) (old new : Held) (before kept : Store) (host later : S) (result : Result Place Trap)
     → view ≡ op → Executes program H base (next op rest) old before host result new kept later → Executes program H base (next view rest) old before host result new kept later
@@ -196,14 +202,14 @@ pub arm_done : {S : Type 0} (program : Program) (H : Meaning S) (base : Context)
 arm_done {S} program H base op seen rest old new before after host e sound done =
     subst (λ (z : Op). Ran program H base (next z rest) old before host rest new after host) (sym e) (ran_plain op rest old new before after host (sound_as e sound) done)
 
-pub arm_stopped : {S : Type 0} (program : Program) (op seen : Op) (rest : Ops) (old : Held) (before : Store) (host : S) (trap : Trap)
-    → seen ≡ op → IsStopped op old before trap → Stopped program (next seen rest) old before host trap host
-arm_stopped {S} program op seen rest old before host trap e stopped =
-    subst (λ (z : Op). Stopped program (next z rest) old before host trap host) (sym e) (stopped_plain op rest old before host trap stopped)
+pub arm_stopped : {S : Type 0} (program : Program) (op seen : Op) (rest : Ops) (old new : Held) (before after : Store) (host : S) (trap : Trap)
+    → seen ≡ op → IsStopped op old before trap new after → Stopped program (next seen rest) old before host trap new after host
+arm_stopped {S} program op seen rest old new before after host trap e stopped =
+    subst (λ (z : Op). Stopped program (next z rest) old before host trap new after host) (sym e) (stopped_plain op rest old new before after host trap stopped)
 
 pub arm_onward : {S : Type 0} (program : Program) (H : Meaning S) (base : Context) (op seen : Op) (here : Place) (old new : Held) (before after : Store) (host : S) (ran : Result (Unit {0}) Trap) (result : Result Place Trap)
     → seen ≡ op → IsSoundAt base (next seen (ops_at here)) old before
-    → MatchResult ran (λ _. IsDone op old before new after) (IsStopped op old before)
+    → IsRun op old before ran new after
     → MatchResult ran (λ _. MatchResult result (λ place. place ≡ here) (λ _. ⊥)) (λ trap. MatchResult result (λ _. ⊥) (λ told. told ≡ trap))
     → Executes program H base (next seen (ops_at here)) old before host result new after host
 arm_onward {S} program H base op seen here old new before after host (Ok u) (Ok place) e sound done at =
@@ -211,7 +217,7 @@ arm_onward {S} program H base op seen here old new before after host (Ok u) (Ok 
 arm_onward program H base op seen here old new before after host (Ok u) (Err trap) e sound done at = absurd at
 arm_onward program H base op seen here old new before after host (Err trap) (Ok place) e sound done at = absurd at
 arm_onward {S} program H base op seen here old new before after host (Err trap) (Err told) e sound stopped at =
-    subst (λ (z : Trap). Stopped program (next seen (ops_at here)) old before host z host) (sym at) (arm_stopped program op seen (ops_at here) old before host trap e stopped)
+    subst (λ (z : Trap). Stopped program (next seen (ops_at here)) old before host z new after host) (sym at) (arm_stopped program op seen (ops_at here) old new before after host trap e stopped)
 
 -- the same for any instruction, by what it does where it is the next
 pub arm_ran : {S : Type 0} (program : Program) (H : Meaning S) (base : Context) (op seen : Op) (rest after reached : Ops) (old new made : Held) (before kept : Store) (host later : S)

@@ -26,14 +26,24 @@ made_so false new made old t e = absurd (cc)
 
 -- ---- invocations
 
+-- there is always room for the locals of a function that is invoked
+pub always_fits : (program : Program) (func : ℕ) (base : Context) (type : FuncType) (more : ℕ) (body : Ops) (empty : Held) (fits : Bool)
+    → IsTypedProgram base program → slice_get program.functions func ≡ Some (defined type more body) → empty ≡ nothing
+    → (size (running no_ops empty) + more ≤ most_values → fits ≡ true) → fits ≡ true
+always_fits program func base type more body empty fits typed known e room =
+    let within : more ≤ most_values = omega (arith, (typed.bodies func type more body known).room) in
+    let low : size (running no_ops empty) ≡ 0 = ap (λ (z : Held). size (running no_ops z)) e in
+    room (omega arith)
+
+pub never_full : (fits : Bool) → fits ≡ true → fits ≡ false → ⊥
+never_full fits e f = cc
+
 pub invoked_as : (program : Program) (func : ℕ) (base : Context) (type : FuncType) (more : ℕ) (body : Ops) (empty made : Held) (fits : Bool)
     → IsTypedProgram base program → slice_get program.functions func ≡ Some (defined type more body) → empty ≡ nothing
     → (size (running no_ops empty) + more ≤ most_values → fits ≡ true) → made ≡ cond fits (called 0 more 0 no_ops empty) empty
     → IsInvoked program func (running body made)
 invoked_as program func base type more body empty made fits typed known e room made_is =
-    let within : more ≤ most_values = omega (arith, (typed.bodies func type more body known).room) in
-    let low : size (running no_ops empty) ≡ 0 = ap (λ (z : Held). size (running no_ops z)) e in
-    let so : made ≡ called 0 more 0 no_ops nothing = made_so fits made (called 0 more 0 no_ops empty) empty (room (omega arith)) made_is ∙ ap (λ (z : Held). called 0 more 0 no_ops z) e in
+    let so : made ≡ called 0 more 0 no_ops nothing = made_so fits made (called 0 more 0 no_ops empty) empty (always_fits program func base type more body empty fits typed known e room) made_is ∙ ap (λ (z : Held). called 0 more 0 no_ops z) e in
     record { type = type; more = more; body = body; known = known; begins = ap (λ (z : Held). running body z) so }
 
 pub invoked_typed : (program : Program) (func : ℕ) (base : Context) (type : FuncType) (more : ℕ) (body : Ops) (empty made : Held) (fits : Bool)

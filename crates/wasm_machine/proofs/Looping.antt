@@ -34,15 +34,15 @@ module _ {S : Type 0} {program : Program} {H : Meaning S} {first : State S} wher
       → code ≡ no_ops → old.levels ≡ [] → EndsSo program H first fuel (Finished used) store host
   finished code old store host used fuel within so_far e over = (state_of code old store host, (within, so_far, (e, over)), refl, refl)
 
-  pub spent : (code rest : Ops) (op : Op) (old : Held) (store kept : Store) (host : S) (used fuel : ℕ) → used ≤ fuel → fuel ≤ used → Steps program H first used (state_of code old store host)
-      → code ≡ next op rest → EndsSo program H first fuel (Spent used) kept host
-  spent code rest op old store kept host used fuel within all so_far e = (state_of code old store host, (omega arith, so_far, (op, rest, e)), refl, tt)
+  pub spent : (code rest : Ops) (op : Op) (old : Held) (store : Store) (host : S) (used fuel : ℕ) → used ≤ fuel → fuel ≤ used → Steps program H first used (state_of code old store host)
+      → code ≡ next op rest → EndsSo program H first fuel (Spent used) store host
+  spent code rest op old store host used fuel within all so_far e = (state_of code old store host, (omega arith, so_far, (op, rest, e)), refl, refl)
 
-  pub trapped : (code seen : Ops) (old : Held) (store kept : Store) (host later : S) (used fuel : ℕ) (trap : Trap) → used < fuel → Steps program H first used (state_of code old store host)
-      → code ≡ seen → Stopped program seen old store host trap later → EndsSo program H first fuel (Trapped (used + 1) trap) kept later
-  trapped code seen old store kept host later used fuel trap within so_far e stopped =
+  pub trapped : (code seen : Ops) (old new : Held) (store kept : Store) (host later : S) (used fuel : ℕ) (trap : Trap) → used < fuel → Steps program H first used (state_of code old store host)
+      → code ≡ seen → Stopped program seen old store host trap new kept later → EndsSo program H first fuel (Trapped (used + 1) trap) kept later
+  trapped code seen old new store kept host later used fuel trap within so_far e stopped =
       let P : Ops → Type 0 = λ z. Steps program H first used (state_of z old store host) in
-      (state_of seen old store host, (omega arith, used, refl, subst P e so_far, stopped.stops), sym stopped.kept, tt)
+      (state_of seen old store host, (omega arith, used, refl, subst P e so_far, stopped.stops), sym stopped.host_kept, sym stopped.stored)
 
 pub left_typed : (base : Context) (code after : Ops) (old new : Held) (store : Store) → IsSoundAt base code old store → code ≡ no_ops → Leaves (running no_ops old) (running after new) → IsSoundAt base after new store
 left_typed base code after old new store sound e leaves = record { thread = kept_leaving (running code old) (running after new) sound.thread (leaves_as code old after new e leaves); store = sound.store }

@@ -6,10 +6,10 @@ use Rattle.wasm_steps.specs.Threads.{Level, Thread}
 use Rattle.wasm_soundness.specs.Typed.{IsTyped}
 use Rattle.wasm_soundness.specs.Ready.{CanBranch}
 use Rattle.wasm_soundness.proofs.Ends.{few_levels}
-use Rattle.wasm_stack.specs.Held.{Held, running}
+use Rattle.wasm_stack.specs.Held.{Held, running, most_controls}
 
 -- There is room for the innermost level of a typed thread.
-pub has_room : (base : Context) (t : Thread) (level : Level) (levels : List Level) → IsTyped base t → t.levels ≡ level ∷ levels → length levels < 201000
+pub has_room : (base : Context) (t : Thread) (level : Level) (levels : List Level) → IsTyped base t → t.levels ≡ level ∷ levels → length levels < most_controls
 has_room base t level levels p e = omega (arith, few_levels t p, p.frames, ap length e)
 
 -- Where a branch can be made does not depend on the instructions.

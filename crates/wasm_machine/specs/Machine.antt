@@ -37,15 +37,17 @@ pub record Ran (program : Program) {S : Type 0} (H : Meaning S) (base : Context)
   pub step : Step program H (state_of code old before host) 1 (state_of after new kept later)
   pub sound : IsSoundAt base after new kept
 
--- The instruction trapped, with the host as it was.
+-- The instruction trapped, and changed nothing.
 pub record Stopped (program : Program) {S : Type 0} (code : Ops) (old : Held) (before : Store) (host : S)
-    (trap : Trap) (later : S) : Type 0 where
+    (trap : Trap) (new : Held) (kept : Store) (later : S) : Type 0 where
   pub stops : Stops program (state_of code old before host) trap
-  pub kept : later ≡ host
+  pub held : new ≡ old
+  pub stored : kept ≡ before
+  pub host_kept : later ≡ host
 
 -- The instruction was run and led to a place, or trapped.
 abbrev pub Executes : Program → {S : Type 0} → Meaning S → Context → Ops → Held → Store → S
     → Result Place Trap → Held → Store → S → Type 0
 Executes program H base code old before host result new kept later =
     MatchResult result (λ place. Ran program H base code old before host (ops_at place) new kept later)
-    (λ trap. Stopped program code old before host trap later)
+    (λ trap. Stopped program code old before host trap new kept later)

@@ -9,16 +9,11 @@ use Rattle.wasm_link.specs.Kept.{Kept, link_view}
 use Rattle.wasm_link.specs.Linking.{first_store}
 use Rattle.wasm_machine.specs.Machine.{program_of}
 
--- the store at the end of a run that was finished
-abbrev pub Leaves : Outcome → Store → Store → Type 0
-Leaves (Finished used) store kept = store ≡ kept
-Leaves outcome store kept = Unit {0}
-
--- The run from this state ends so, with the host as it is then, and the store too where it was finished.
+-- The run from this state ends so, with the host and the store as they are then.
 abbrev pub EndsSo : Program → {S : Type 0} → Meaning S → State S → ℕ → Outcome → Store → S → Type 0
 EndsSo program {S} H first fuel outcome kept later =
     (last : State S) × EndsFrom program H first fuel outcome last × (last.host ≡ later)
-    × Leaves outcome last.store kept
+    × (last.store ≡ kept)
 
 -- The run of a fresh instance of the module: its start function first, where it has one, and then `loop`. The
 -- host is then in this state.

@@ -4,7 +4,7 @@ ghost use Rattle.wasm_module.specs.View.{items_view};
 ghost use Rattle.wasm_module.specs.Syntax.{no_ops, next, call_indirect};
 ghost use Rattle.wasm_steps.specs.Program.{Function, Store, most_frames, most_values};
 ghost use Rattle.wasm_steps.specs.Threads.{frame_count, size};
-ghost use Rattle.wasm_stack.specs.Held.{running};
+ghost use Rattle.wasm_stack.specs.Held.{running, most_controls};
 ghost use Rattle.wasm_stack.specs.Standing.{held};
 ghost use Rattle.wasm_stack.specs.View.{ops_at};
 ghost use Rattle.wasm_link.specs.Kept.{TakesAtMost};
@@ -15,15 +15,9 @@ ghost use Rattle.wasm_machine.specs.inner.Calls.{IsEntered, IsNotEntered, MayCal
 use crate::host_calls::call_host;
 use wasm_link::{Callee, Linked};
 use wasm_module::Instr;
-use wasm_stack::{Place, Stack};
+use wasm_stack::{MOST_FRAMES, Place, Stack};
 use wasm_steps::{Host, Trap};
 use wasm_store::{FuncTable, Pages};
-
-/// How many frames there are at most.
-const MOST_FRAMES: usize = 1_000;
-
-/// How many locals and operands stand together at most.
-const MOST_VALUES: usize = 65_536;
 
 /// Enters a function whose end leads to `here`. The frames are counted before the room is looked at.
 #[inline]
@@ -37,10 +31,9 @@ fn enter_function<'a>(
 ) -> Result<Place<'a>, Trap>
     requires there { params ≤ length (held stack.old).operands }
     requires results { results ≤ 1 }
-    requires within { size (running no_ops (held stack.old)) ≤ most_values }
     requires levels { frame_count (held stack.old).levels < most_frames
         → size (running no_ops (held stack.old)) + more ≤ most_values
-        → length (held stack.old).levels < 201000 }
+        → length (held stack.old).levels < most_controls }
     ensures inside { MatchResult result (λ place. ops_at place ≡ items_view body.entry.now)
         (λ _. held stack.new ≡ held stack.old) }
     ensures entered { MatchResult result
@@ -50,10 +43,9 @@ fn enter_function<'a>(
     if stack.frame_count() >= MOST_FRAMES {
         return Err(Trap::CallDepth);
     }
-    if more > MOST_VALUES - stack.size() {
+    if !stack.call(here, params, more, results == 1) {
         return Err(Trap::StackFull);
     }
-    let _room = stack.call(here, params, more, results == 1);
     Ok(Place { code: body })
 }
 
@@ -130,5 +122,12 @@ pub(crate) fn call_by_index<'a, H: Host>(
         return Err(Trap::WrongType);
     }
     stack.discard(1);
-    call_function(linked, stack, pages, arguments, host, here, func)
+    match call_function(linked, stack, pages, arguments, host, here, func) {
+        Ok(place) => Ok(place),
+        Err(trap) => {
+            // A trap leaves the stack as it was: the index goes back to its place.
+            stack.push_within(entry);
+            Err(trap)
+        }
+    }
 }

@@ -123,8 +123,8 @@ pub(crate) fn execute<'a, H: Host>(
         Instr::I64Const(number) => onward(i64_const(stack, *number), here),
         Instr::Numeric(op) => onward(numeric(stack, *op), here),
         // A linked module has no floats.
-        Instr::FloatMemory { .. } => Err(Trap::Unreachable),
-        Instr::FloatConst(_) => Err(Trap::Unreachable),
-        Instr::FloatPlain(_) => Err(Trap::Unreachable),
+        Instr::FloatMemory { .. } => unreachable!(),
+        Instr::FloatConst(_) => unreachable!(),
+        Instr::FloatPlain(_) => unreachable!(),
     }
 }

@@ -1,5 +1,6 @@
 // Calls of the host.
-ghost use Rattle.std.specs.Prelude.{◌≡◌, ◌+◌, ◌-◌, ◌<◌, ◌≤◌, ◌++◌, length, take, reverse, vec_capacity, MatchResult};
+ghost use Rattle.std.specs.Prelude.{◌≡◌, ◌+◌, ◌-◌, ◌<◌, ◌≤◌, ◌++◌, length, take, reverse, vec_capacity};
+ghost use Rattle.std.specs.Prelude.{MatchResult};
 ghost use Rattle.wasm_steps.specs.Program.{most_values};
 ghost use Rattle.wasm_steps.specs.Threads.{arity, size};
 ghost use Rattle.wasm_steps.specs.Steps.{argument as argument_of, answered};
@@ -10,12 +11,9 @@ ghost use Rattle.wasm_stack.specs.Standing.{held};
 ghost use Rattle.wasm_machine.specs.inner.Calls.{arguments_of, IsAnswered};
 
 use wasm_module::{FuncType, ValType};
-use wasm_stack::Stack;
+use wasm_stack::{MOST_VALUES, Stack};
 use wasm_steps::{Host, Trap};
 use wasm_store::Pages;
-
-/// How many locals and operands stand together at most.
-const MOST_VALUES: usize = 65_536;
 
 /// An operand as a host gets it: an i32 with its sign carried on.
 fn argument(kind: ValType, operand: u64) -> i64
@@ -50,11 +48,11 @@ fn push_answer(stack: &mut Stack<'_>, kind: Option<ValType>, answer: i64)
         ≡ record (held stack.old) { operands = answered kind answer ++ (held stack.old).operands } }
 {
     let value = answer.cast_unsigned();
-    let _room = match kind {
-        None => true,
-        Some(ValType::I32 | ValType::F32) => stack.push(value & 0xffff_ffff),
-        Some(ValType::I64 | ValType::F64) => stack.push(value),
-    };
+    match kind {
+        None => {}
+        Some(ValType::I32 | ValType::F32) => stack.push_within(value & 0xffff_ffff),
+        Some(ValType::I64 | ValType::F64) => stack.push_within(value),
+    }
 }
 
 /// Calls the host with the top operands. A result for which there is no room traps before the host is asked.
@@ -72,7 +70,8 @@ pub(crate) fn call_host<H: Host>(
     requires room { length kind.now.params ≤ vec_capacity arguments.old }
     ensures answered { MatchResult result
         (λ _. IsAnswered H.answers kind.now call (held stack.old)
-        (held stack.new) pages.old pages.new host.old host.new) (λ trap. (trap ≡ Trap.StackFull)
+        (held stack.new) pages.old pages.new host.old host.new)
+        (λ trap. (trap ≡ Trap.StackFull) × (held stack.new ≡ held stack.old) × (pages.new ≡ pages.old)
         × (host.new ≡ host.old)) }
     ensures fits { MatchResult result
         (λ _. size (running no_ops (held stack.old)) - length kind.now.params + arity kind.now.result

@@ -63,10 +63,12 @@ impl<'a> Instance<'a> {
         self.stack.reset();
         let linked: &'a Linked = self.linked;
         let Callee::Defined { more, body, .. } = linked.callee(func) else {
-            return Outcome::Finished { used: 0 };
+            unreachable!()
         };
         let outside = Place { code: &[] };
-        let _room = self.stack.call(outside, 0, more, false);
+        if !self.stack.call(outside, 0, more, false) {
+            unreachable!()
+        }
         run_from(
             linked,
             &mut self.stack,

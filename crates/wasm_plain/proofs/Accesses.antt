@@ -75,11 +75,15 @@ load_done {h} {new} {first} {s} {memory} op align offset address value access n 
 
 pub load_stopped : {h : Held} {first s : Store} {memory : Memory} (op align offset address : ℕ) (access : Access)
     → IsNext (load op align offset) h first → s.memory ≡ memory → load_of op ≡ Some access → address ≡ get_or h.operands 0 0 + offset
-    → length memory.bytes < address + access.bytes → IsStopped (load op align offset) h s traps.MemoryBounds
+    → length memory.bytes < address + access.bytes → IsStopped (load op align offset) h s traps.MemoryBounds h s
 load_stopped {h} {first} {s} {memory} op align offset address access n same known at past =
     let f = has_address op align offset n in
     let place = get_or h.operands 0 0 + offset in
-    inl (fails_load access known (top_of h.operands f.there) (subst (λ (m : Memory). length m.bytes < place + access.bytes) (sym same) (omega (arith, past, at))))
+    record {
+      cause = inl (fails_load access known (top_of h.operands f.there) (subst (λ (m : Memory). length m.bytes < place + access.bytes) (sym same) (omega (arith, past, at))));
+      held = refl;
+      stored = refl;
+    }
 
 -- ---- stores
 
@@ -117,13 +121,21 @@ store_done {h} {new} {first} {s} {memory} {after} op align offset address value 
       store = λ base rest p q. record { globals = q.globals; table = q.table };
     })
 
-pub store_stopped : {h : Held} {first s : Store} {memory : Memory} (op align offset address width : ℕ) (access : Access)
+-- a memory that is as it was
+stored_again : (s : Store) (memory after : Memory) → s.memory ≡ memory → after ≡ memory → record s { memory = after } ≡ s
+stored_again s memory after same unchanged = ap (λ (m : Memory). record s { memory = m }) (unchanged ∙ sym same)
+
+pub store_stopped : {h : Held} {first s : Store} {memory after : Memory} (op align offset address width : ℕ) (access : Access)
     → IsNext (store op align offset) h first → s.memory ≡ memory → store_of op ≡ Some access → address ≡ get_or h.operands 1 0 + offset
-    → width ≡ access.bytes → length memory.bytes < address + width → IsStopped (store op align offset) h s traps.MemoryBounds
-store_stopped {h} {first} {s} {memory} op align offset address width access n same known at wide past =
+    → width ≡ access.bytes → length memory.bytes < address + width → after ≡ memory → IsStopped (store op align offset) h s traps.MemoryBounds h (record s { memory = after })
+store_stopped {h} {first} {s} {memory} {after} op align offset address width access n same known at wide past unchanged =
     let f = has_address_below op align offset n in
     let place = get_or h.operands 1 0 + offset in
-    inl (fails_store access known (top_two_of h.operands f.there) (subst (λ (m : Memory). length m.bytes < place + access.bytes) (sym same) (omega (arith, past, at, wide))))
+    record {
+      cause = inl (fails_store access known (top_two_of h.operands f.there) (subst (λ (m : Memory). length m.bytes < place + access.bytes) (sym same) (omega (arith, past, at, wide))));
+      held = refl;
+      stored = stored_again s memory after same unchanged;
+    }
 
 -- ---- the size
 
@@ -140,8 +152,12 @@ size_done {h} {new} {s} {memory} pages same is small room e =
       store = λ base rest p q. q;
     })
 
-pub size_stopped : {h : Held} {s : Store} → most_values ≤ size (running no_ops h) → IsStopped memory_size h s traps.StackFull
-size_stopped {h} {s} full = inr (refl, record { result = data_of (pushed (page_count s.memory) h) s; does = does_memory_size; full = omega (arith, full) })
+pub size_stopped : {h new : Held} {s : Store} → most_values ≤ size (running no_ops h) → new ≡ h → IsStopped memory_size h s traps.StackFull new s
+size_stopped {h} {new} {s} full same = record {
+  cause = inr (refl, record { result = data_of (pushed (page_count s.memory) h) s; does = does_memory_size; full = omega (arith, full) });
+  held = same;
+  stored = refl;
+}
 
 -- ---- growths
 

@@ -12,7 +12,7 @@ use Rattle.wasm_steps.specs.declared.outcome.Trap.TheVariants as traps
 use Rattle.wasm_soundness.specs.Typed.{AreValues, IsTyped, IsTypedStore}
 use Rattle.wasm_soundness.specs.Ready.{Offers, given}
 use Rattle.wasm_stack.specs.Held.{Held, running, pushed, replaced}
-use Rattle.wasm_plain.specs.Done.{data_of, IsDone, IsStopped}
+use Rattle.wasm_plain.specs.Done.{data_of, IsDone, IsRun}
 
 -- ---- lists
 
@@ -88,8 +88,8 @@ module _ (op : Op) (old : Held) (store : Store) where
       → MatchResult answer (λ _. (size (running no_ops old) < most_values) × (new ≡ pushed value old)) (λ trap. (trap ≡ traps.StackFull) × (most_values ≤ size (running no_ops old)) × (new ≡ old))
       → Does op (data_of old store) (data_of (pushed value old) store)
       → Gives op 0 (value ∷ []) old store
-      → MatchResult answer (λ _. IsDone op old store new store) (IsStopped op old store)
+      → IsRun op old store answer new store
   done_pushed answer new value e does gives =
       MatchResult-weaker answer e
       (λ _ p. subst (λ (z : Held). IsDone op old store z store) (sym p.1) (done_in store 0 (value ∷ []) does (omega (arith, p.0)) gives (λ base rest typed stored. stored)))
-      (λ trap p. inr (p.0, record { result = data_of (pushed value old) store; does = does; full = omega (arith, p.1) }))
+      (λ trap p. record { cause = inr (p.0, record { result = data_of (pushed value old) store; does = does; full = omega (arith, p.1) }); held = p.2; stored = refl })

@@ -11,7 +11,7 @@ use Rattle.wasm_soundness.specs.Typed.{IsValue, no_values, next_value}
 use Rattle.wasm_soundness.proofs.Plain.{offers_global_get, offers_global_set}
 use Rattle.wasm_soundness.proofs.Values.{one_value}
 use Rattle.wasm_stack.specs.Held.{Held, running, pushed, without}
-use Rattle.wasm_plain.specs.Done.{data_of, IsNext, IsDone, IsStopped}
+use Rattle.wasm_plain.specs.Done.{data_of, IsNext, IsDone, IsRun}
 use Rattle.wasm_plain.proofs.Doing.{first_of_all, shrunk, done_in, done_pushed}
 
 module _ {global : ℕ} {old : Held} {before : Store} where
@@ -21,7 +21,7 @@ module _ {global : ℕ} {old : Held} {before : Store} where
   pub get_done : (globals : List ℕ) → before.globals ≡ globals → IsNext (global_get global) old before
       → (store : Store) → store.globals ≡ globals → {T : Type 0} (answer : Result T Trap) (new : Held) (value : ℕ) → value ≡ get_or globals global 0
       → MatchResult answer (λ _. (size (running no_ops old) < most_values) × (new ≡ pushed value old)) (λ trap. (trap ≡ traps.StackFull) × (most_values ≤ size (running no_ops old)) × (new ≡ old))
-      → MatchResult answer (λ _. IsDone (global_get global) old store new store) (IsStopped (global_get global) old store)
+      → IsRun (global_get global) old store answer new store
   get_done globals same n store is answer new value said e =
       let at : value ≡ get_or store.globals global 0 = said ∙ ap (λ z. get_or z global 0) (sym is) in
       let within : global < length store.globals = subst (λ (z : List ℕ). global < length z) (sym is) (get_found globals same n) in

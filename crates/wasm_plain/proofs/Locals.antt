@@ -10,7 +10,7 @@ use Rattle.wasm_steps.specs.declared.outcome.Trap.TheVariants as traps
 use Rattle.wasm_soundness.specs.Typed.{IsValue, no_values, next_value}
 use Rattle.wasm_soundness.proofs.Plain.{offers_local_get, sets_local, tees_local}
 use Rattle.wasm_stack.specs.Held.{Held, running, pushed, without, with_local}
-use Rattle.wasm_plain.specs.Done.{data_of, IsNext, IsDone, IsStopped}
+use Rattle.wasm_plain.specs.Done.{data_of, IsNext, IsDone, IsRun}
 use Rattle.wasm_plain.proofs.Doing.{first_of_all, done_pushed}
 
 module _ {local : ℕ} {old : Held} {before : Store} where
@@ -19,7 +19,7 @@ module _ {local : ℕ} {old : Held} {before : Store} where
 
   pub get_done : IsNext (local_get local) old before → (store : Store) {T : Type 0} (answer : Result T Trap) (new : Held) (value : ℕ) → value ≡ get_or old.locals local 0
       → MatchResult answer (λ _. (size (running no_ops old) < most_values) × (new ≡ pushed value old)) (λ trap. (trap ≡ traps.StackFull) × (most_values ≤ size (running no_ops old)) × (new ≡ old))
-      → MatchResult answer (λ _. IsDone (local_get local) old store new store) (IsStopped (local_get local) old store)
+      → IsRun (local_get local) old store answer new store
   get_done n store answer new value said e =
       done_pushed (local_get local) old store answer new value e
       (does_local_get {held = data_of old store} {local = local} {a = value} (slice_get-get_or old.locals local 0 (get_found n) ∙ ap Some (sym said)))

@@ -19,7 +19,7 @@ use Rattle.wasm_soundness.specs.Ready.{pending, Offers}
 use Rattle.wasm_soundness.proofs.Plain.{offers_i32_const, offers_i64_const, offers_numeric}
 use Rattle.wasm_soundness.proofs.Values.{one_value, two_values}
 use Rattle.wasm_stack.specs.Held.{Held, running, pushed, replaced}
-use Rattle.wasm_plain.specs.Done.{data_of, IsNext, IsDone, IsStopped}
+use Rattle.wasm_plain.specs.Done.{data_of, IsNext, IsDone, IsStopped, IsRun}
 use Rattle.wasm_plain.proofs.Doing.{first_of_all, two_of_all, Gives, done_replaced, done_pushed}
 use Rattle.wasm_plain.proofs.Signatures.{Takes, takes_unary, takes_binary, takes_test, takes_compare, takes_convert, compares_first, grouped}
 
@@ -158,23 +158,29 @@ module _ {op : ℕ} {old : Held} {before : Store} (n : IsNext (numeric op) old b
       two_done n store new value t.1 (t.2.wide value narrow wide) e
       (does_binary {held = data_of old store} {a = a} {b = b} {c = value} {below = drop 2 old.operands} group (two_on_top old.operands a b top under (two_found n t.1).0) (sym said))
 
-  pub divides_by_zero : IsBinary op → (a b : ℕ) → b ≡ get_or old.operands 0 0 → a ≡ get_or old.operands 1 0 → None ≡ binary_value op a b → b ≡ 0 → IsStopped (numeric op) old store traps.DivideByZero
-  divides_by_zero group a b top under said zero =
-      inl (fails_by_zero {held = data_of old store} {a = a} {below = drop 2 old.operands} group
-      (two_on_top old.operands a 0 (sym zero ∙ top) under (binary_found n group).0)
-      (ap (λ z. binary_value op a z) (sym zero) ∙ sym said))
+  pub divides_by_zero : IsBinary op → (a b : ℕ) → b ≡ get_or old.operands 0 0 → a ≡ get_or old.operands 1 0 → None ≡ binary_value op a b → b ≡ 0 → new ≡ old → IsStopped (numeric op) old store traps.DivideByZero new store
+  divides_by_zero group a b top under said zero same = record {
+    cause = inl (fails_by_zero {held = data_of old store} {a = a} {below = drop 2 old.operands} group
+        (two_on_top old.operands a 0 (sym zero ∙ top) under (binary_found n group).0)
+        (ap (λ z. binary_value op a z) (sym zero) ∙ sym said));
+    held = same;
+    stored = refl;
+  }
 
-  pub overflows : IsBinary op → (a b : ℕ) → b ≡ get_or old.operands 0 0 → a ≡ get_or old.operands 1 0 → None ≡ binary_value op a b → IsOverflow op a b → IsStopped (numeric op) old store traps.Overflow
-  overflows group a b top under said least =
-      inl (fails_overflow {held = data_of old store} {a = a} {b = b} {below = drop 2 old.operands} group
-      (two_on_top old.operands a b top under (binary_found n group).0) (overflow_not_zero op a b least) (sym said))
+  pub overflows : IsBinary op → (a b : ℕ) → b ≡ get_or old.operands 0 0 → a ≡ get_or old.operands 1 0 → None ≡ binary_value op a b → IsOverflow op a b → new ≡ old → IsStopped (numeric op) old store traps.Overflow new store
+  overflows group a b top under said least same = record {
+    cause = inl (fails_overflow {held = data_of old store} {a = a} {b = b} {below = drop 2 old.operands} group
+        (two_on_top old.operands a b top under (binary_found n group).0) (overflow_not_zero op a b least) (sym said));
+    held = same;
+    stored = refl;
+  }
 
 -- ---- constants
 
 module _ (old : Held) (store : Store) {T : Type 0} (answer : Result T Trap) (new : Held) (number : ℤ) (value : ℕ) where
   pub i32_const_done : value ≡ cast_unsigned w32 number → value < 2 ^ 32
       → MatchResult answer (λ _. (size (running no_ops old) < most_values) × (new ≡ pushed value old)) (λ trap. (trap ≡ traps.StackFull) × (most_values ≤ size (running no_ops old)) × (new ≡ old))
-      → MatchResult answer (λ _. IsDone (i32_const number) old store new store) (IsStopped (i32_const number) old store)
+      → IsRun (i32_const number) old store answer new store
   i32_const_done said fits e =
       done_pushed (i32_const number) old store answer new value e
       (subst (λ z. Does (i32_const number) (data_of old store) (data_of (pushed z old) store)) (sym said) (does_i32_const {held = data_of old store} {number = number}))
@@ -182,7 +188,7 @@ module _ (old : Held) (store : Store) {T : Type 0} (answer : Result T Trap) (new
 
   pub i64_const_done : value ≡ cast_unsigned w64 number → value < 2 ^ 64
       → MatchResult answer (λ _. (size (running no_ops old) < most_values) × (new ≡ pushed value old)) (λ trap. (trap ≡ traps.StackFull) × (most_values ≤ size (running no_ops old)) × (new ≡ old))
-      → MatchResult answer (λ _. IsDone (i64_const number) old store new store) (IsStopped (i64_const number) old store)
+      → IsRun (i64_const number) old store answer new store
   i64_const_done said fits e =
       done_pushed (i64_const number) old store answer new value e
       (subst (λ z. Does (i64_const number) (data_of old store) (data_of (pushed z old) store)) (sym said) (does_i64_const {held = data_of old store} {number = number}))

@@ -1,5 +1,5 @@
 -- What running a plain instruction does to the stack and the store, and what it finds there.
-use Rattle.std.specs.Prelude.{◌≡◌, ◌<◌, ◌≤◌, ◌⊎◌}
+use Rattle.std.specs.Prelude.{◌≡◌, ◌<◌, ◌≤◌, ◌⊎◌, Result, MatchResult}
 use Rattle.wasm_module.specs.Syntax.{Op, Ops, next, no_ops}
 use Rattle.wasm_validate.specs.Context.{Context}
 use Rattle.wasm_steps.specs.Program.{Store, most_values}
@@ -38,7 +38,15 @@ pub record IsFull (op : Op) (old : Held) (before : Store) : Type 0 where
   pub full : most_values
       < size (running no_ops (record old { operands = result.operands; locals = result.locals }))
 
--- The instruction trapped.
-abbrev pub IsStopped : Op → Held → Store → Trap → Type 0
-IsStopped op old before trap =
-    Fails op (data_of old before) trap ⊎ ((trap ≡ traps.StackFull) × IsFull op old before)
+-- The instruction trapped, and changed nothing.
+pub record IsStopped (op : Op) (old : Held) (before : Store) (trap : Trap) (new : Held)
+    (after : Store) : Type 0 where
+  pub cause : Fails op (data_of old before) trap ⊎ ((trap ≡ traps.StackFull) × IsFull op old before)
+  pub held : new ≡ old
+  pub stored : after ≡ before
+
+-- What an instruction that may trap leaves: it was run, or it trapped.
+abbrev pub IsRun : {A : Type 0} → Op → Held → Store → Result A Trap → Held → Store → Type 0
+IsRun op old before result new after =
+    MatchResult result (λ _. IsDone op old before new after)
+    (λ trap. IsStopped op old before trap new after)

@@ -1,6 +1,8 @@
 // The instructions on the memory.
-ghost use Rattle.std.specs.Prelude.{◌≡◌, ◌+◌, ◌^◌, ◌<◌, ◌≤◌, IfSome, MatchOption, MatchResult, length, option_map};
-ghost use Rattle.wasm_module.specs.Syntax.{load as op_load, store as op_store, memory_size as op_memory_size, memory_grow as op_memory_grow};
+ghost use Rattle.std.specs.Prelude.{◌≡◌, ◌+◌, ◌^◌, ◌<◌, ◌≤◌, IfSome, MatchOption, length};
+ghost use Rattle.std.specs.Prelude.{option_map};
+ghost use Rattle.wasm_module.specs.Syntax.{load as op_load, store as op_store, memory_size as op_memory_size};
+ghost use Rattle.wasm_module.specs.Syntax.{memory_grow as op_memory_grow};
 ghost use Rattle.wasm_validate.specs.Operations.{Access, load_of, store_of};
 ghost use Rattle.wasm_store.specs.Bytes.{IsWidth, le_number};
 ghost use Rattle.wasm_store.specs.Memory.{span};
@@ -8,7 +10,7 @@ ghost use Rattle.wasm_steps.specs.Program.{Store};
 ghost use Rattle.wasm_steps.specs.Plain.{loaded, signed_32, signed_64};
 ghost use Rattle.wasm_soundness.specs.Typed.{IsValue};
 ghost use Rattle.wasm_stack.specs.Standing.{held};
-ghost use Rattle.wasm_plain.specs.Done.{IsNext, IsDone, IsStopped};
+ghost use Rattle.wasm_plain.specs.Done.{IsNext, IsDone, IsRun};
 
 use wasm_stack::Stack;
 use wasm_steps::Trap;
@@ -31,9 +33,7 @@ pub fn load(
     requires { (store : Store) × (store.memory ≡ pages.now) × IsNext (op_load op align offset)
         (held stack.old) store }
     ensures { (store : Store) → store.memory ≡ pages.now
-        → MatchResult result
-        (λ _. IsDone (op_load op align offset) (held stack.old) store (held stack.new) store)
-        (IsStopped (op_load op align offset) (held stack.old) store) }
+        → IsRun (op_load op align offset) (held stack.old) store result (held stack.new) store }
 {
     let address = stack.operand(0) + u64::from(offset);
     let Some(value) = value_at(pages, op, address) else {
@@ -130,9 +130,8 @@ pub fn store(
     requires { (store : Store) × (store.memory ≡ pages.old) × IsNext (op_store op align offset)
         (held stack.old) store }
     ensures { (store : Store) → store.memory ≡ pages.old
-        → MatchResult result
-        (λ _. IsDone (op_store op align offset) (held stack.old) store (held stack.new)
-        (record store { memory = pages.new })) (IsStopped (op_store op align offset) (held stack.old) store) }
+        → IsRun (op_store op align offset) (held stack.old) store result (held stack.new)
+        (record store { memory = pages.new }) }
 {
     let value = stack.operand(0);
     let address = stack.operand(1) + u64::from(offset);
@@ -166,8 +165,7 @@ fn stored_width(op: u8) -> u8
 pub fn memory_size(stack: &mut Stack<'_>, pages: &Pages) -> Result<(), Trap>
     requires { (store : Store) × (store.memory ≡ pages.now) × IsNext op_memory_size (held stack.old) store }
     ensures { (store : Store) → store.memory ≡ pages.now
-        → MatchResult result (λ _. IsDone op_memory_size (held stack.old) store (held stack.new) store)
-        (IsStopped op_memory_size (held stack.old) store) }
+        → IsRun op_memory_size (held stack.old) store result (held stack.new) store }
 {
     if !stack.push(u64::from(pages.size())) {
         return Err(Trap::StackFull);

@@ -1,7 +1,9 @@
 // The instructions on variables of WebAssembly Core 1.0, chapter 4.4.3.
-ghost use Rattle.std.specs.Prelude.{◌≡◌, MatchResult};
-ghost use Rattle.wasm_module.specs.Syntax.{local_get as local_get_op, local_set as local_set_op, local_tee as local_tee_op, global_get as global_get_op, global_set as global_set_op};
-ghost use Rattle.wasm_plain.specs.Done.{IsNext, IsDone, IsStopped};
+ghost use Rattle.std.specs.Prelude.{◌≡◌};
+ghost use Rattle.wasm_module.specs.Syntax.{local_get as local_get_op, local_set as local_set_op};
+ghost use Rattle.wasm_module.specs.Syntax.{local_tee as local_tee_op, global_get as global_get_op};
+ghost use Rattle.wasm_module.specs.Syntax.{global_set as global_set_op};
+ghost use Rattle.wasm_plain.specs.Done.{IsNext, IsDone, IsRun};
 ghost use Rattle.wasm_stack.specs.Standing.{held};
 ghost use Rattle.wasm_steps.specs.Program.{Store};
 
@@ -15,8 +17,7 @@ use wasm_store::GlobalValues;
 pub fn local_get(stack: &mut Stack<'_>, local: u32) -> Result<(), Trap>
     requires { (store : Store) × IsNext (local_get_op local) (held stack.old) store }
     ensures { (store : Store)
-        → MatchResult result (λ _. IsDone (local_get_op local) (held stack.old) store (held stack.new) store)
-        (IsStopped (local_get_op local) (held stack.old) store) }
+        → IsRun (local_get_op local) (held stack.old) store result (held stack.new) store }
 {
     let value = stack.local(local);
     push(stack, value)
@@ -49,9 +50,7 @@ pub fn global_get(stack: &mut Stack<'_>, globals: &GlobalValues, global: u32) ->
     requires { (store : Store) × (store.globals ≡ globals.now) × IsNext (global_get_op global)
         (held stack.old) store }
     ensures { (store : Store) → store.globals ≡ globals.now
-        → MatchResult result
-        (λ _. IsDone (global_get_op global) (held stack.old) store (held stack.new) store)
-        (IsStopped (global_get_op global) (held stack.old) store) }
+        → IsRun (global_get_op global) (held stack.old) store result (held stack.new) store }
 {
     let value = globals.get(global);
     push(stack, value)

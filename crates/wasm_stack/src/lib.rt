@@ -5,5 +5,6 @@ mod control;
 mod place;
 mod stack;
 
+pub use call_frames::{MOST_VALUES, MOST_WAITING as MOST_FRAMES};
 pub use place::Place;
 pub use stack::{MOST_CONTROLS, Stack};

@@ -1,21 +1,26 @@
 // The stack of a thread.
-ghost use Rattle.std.specs.Prelude.{◌≡◌, ◌+◌, ◌<◌, ◌≤◌, ◌↔◌, length, take, reverse, slice_index, IfOk, IsTrue, MatchOption, [], if◌then◌else◌};
+ghost use Rattle.std.specs.Prelude.{◌≡◌, ◌+◌, ◌<◌, ◌≤◌, ◌↔◌, length, take, reverse, slice_index, IfOk};
+ghost use Rattle.std.specs.Prelude.{IsTrue, MatchOption, [], if◌then◌else◌};
 ghost use Rattle.wasm_module.specs.Syntax.{Ops, no_ops};
 ghost use Rattle.wasm_steps.specs.Program.{most_frames, most_values};
 ghost use Rattle.wasm_steps.specs.Threads.{Leaves, Branches, frame_count, size};
 ghost use Rattle.wasm_soundness.specs.Ready.{CanBranch, open_labels};
-ghost use Rattle.wasm_stack.specs.Held.{Held, running, nothing, pushed, without, replaced, with_local, opened, called, IsAtEnd};
+ghost use Rattle.wasm_stack.specs.Held.{Held, running, nothing, pushed, without, replaced, with_local};
+ghost use Rattle.wasm_stack.specs.Held.{opened, called, most_controls, IsAtEnd};
 ghost use Rattle.wasm_stack.specs.Standing.{held};
 ghost use Rattle.wasm_stack.specs.View.{ops_at, rest_of, count};
 
 use crate::control::Control;
 use crate::place::Place;
-use call_frames::Values;
+use call_frames::{MOST_WAITING as MOST_FRAMES, Values};
 use std::alloc::{AllocError, Global};
 use std::marker::Model;
 
-/// How many blocks and frames stand at most: in each of 1,000 functions 200 blocks, and the frame.
-pub const MOST_CONTROLS: usize = 201_000;
+/// How many levels a function makes at most: 200 blocks, and its frame.
+const LABELS_A_FRAME: usize = 201;
+
+/// How many blocks and frames stand at most.
+pub const MOST_CONTROLS: usize = MOST_FRAMES * LABELS_A_FRAME;
 
 /// What a thread holds beside the instructions that it runs: operands, locals, open blocks and frames. All
 /// room is reserved when it is made.
@@ -117,6 +122,17 @@ impl<'a> Stack<'a> {
         self.values.push(value)
     }
 
+    /// Pushes an operand for which there is room.
+    #[inline]
+    pub fn push_within(&mut self, value: u64)
+        requires { size (running no_ops (held self.old)) < most_values }
+        ensures { held self.new ≡ pushed value (held self.old) }
+    {
+        if !self.push(value) {
+            unreachable!()
+        }
+    }
+
     /// Takes the top operands away, so many.
     #[inline]
     pub fn discard(&mut self, count: usize)
@@ -159,7 +175,7 @@ impl<'a> Stack<'a> {
     /// for a loop's, which leads behind the loop's instruction.
     #[inline]
     pub fn enter(&mut self, again: Place<'a>, is_loop: bool, has_result: bool)
-        requires { length (held self.old).levels < MOST_CONTROLS }
+        requires { length (held self.old).levels < most_controls }
         ensures { held self.new ≡ opened (count has_result) (ops_at again.entry) (rest_of is_loop again.entry)
             (held self.old) }
     {
@@ -178,7 +194,8 @@ impl<'a> Stack<'a> {
     pub fn call(&mut self, rest: Place<'a>, params: usize, more: usize, has_result: bool) -> bool
         requires params { params ≤ length (held self.old).operands }
         requires frames { frame_count (held self.old).levels < most_frames }
-        requires levels { length (held self.old).levels < MOST_CONTROLS }
+        requires levels { size (running no_ops (held self.old)) + more ≤ most_values
+            → length (held self.old).levels < most_controls }
         ensures room { IsTrue result ↔ (size (running no_ops (held self.old)) + more ≤ most_values) }
         ensures called { held self.new
             ≡ (if result then called params more (count has_result) (ops_at rest.entry) (held self.old)

@@ -1,5 +1,6 @@
 -- What calls do to a thread, the memory and the host.
-use Rattle.std.specs.Prelude.{◌≡◌, ◌⊎◌, ℕ, ℤ, ◌+◌, ◌<◌, ◌≤◌, List, ◌++◌, length, map, drop, take, reverse, zip, Result, MatchResult, IfOk}
+use Rattle.std.specs.Prelude.{◌≡◌, ◌⊎◌, ℕ, ℤ, ◌+◌, ◌<◌, ◌≤◌, List, ◌++◌, length, map, drop, take, reverse}
+use Rattle.std.specs.Prelude.{zip, Result, MatchResult, IfOk}
 use Rattle.wasm_module.specs.Syntax.{Ops}
 use Rattle.wasm_module.specs.declared.types.ValType.{ValType}
 use Rattle.wasm_module.specs.declared.types.FuncType.{FuncType}
@@ -52,7 +53,8 @@ CallRuns H found rest old before host result new memory later = (code : Ops) →
     MatchResult result
     (λ place. Calls H found rest (state_of code old before host)
     (state_of (ops_at place) new (record before { memory = memory }) later))
-    (λ trap. CallFails found (state_of code old before host) trap × (later ≡ host))
+    (λ trap. CallFails found (state_of code old before host) trap × (new ≡ old) × (memory ≡ before.memory)
+    × (later ≡ host))
 
 -- It leads to a typed thread.
 abbrev pub CallIsTyped : Function → Ops → Held → Result Place Trap → Held → Type 0

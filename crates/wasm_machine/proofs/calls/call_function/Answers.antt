@@ -1,4 +1,4 @@
-use Rattle.std.proofs.Common.{◌∙◌}
+use Rattle.std.proofs.Common.{sym, ◌∙◌}
 use Rattle.wasm_module.specs.View.{items_view}
 use Rattle.wasm_stack.specs.Standing.{held}
 use Rattle.wasm_stack.specs.View.{ops_at}
@@ -18,7 +18,7 @@ returns-in-Ok-clause-runs g c = λ found before known memory code.
 pub returns-in-Err-clause-runs : goal.returns-in-Err-clause-runs
 returns-in-Err-clause-runs g c = λ found before known memory code.
     let callee = c.in-Imported.ensures in
-    (host_refused found c.in-Imported.kind.now c.in-Imported.call code (held c.args.stack.now) before c.args.host.now c.in-Err.trap (same_found known callee.1 ∙ callee.2) c.in-Err.ensures.answered.0 c.in-Err.ensures.fits, c.in-Err.ensures.answered.1)
+    (host_refused found c.in-Imported.kind.now c.in-Imported.call code (held c.args.stack.now) before c.args.host.now c.in-Err.trap (same_found known callee.1 ∙ callee.2) c.in-Err.ensures.answered.0 c.in-Err.ensures.fits, c.in-Err.ensures.answered.1, c.in-Err.ensures.answered.2 ∙ sym memory, c.in-Err.ensures.answered.3)
 
 pub returns-in-Defined-clause-runs : goal.returns-in-Defined-clause-runs
 returns-in-Defined-clause-runs g c = λ found before known memory code.

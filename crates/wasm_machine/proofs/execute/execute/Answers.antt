@@ -37,7 +37,7 @@ call_function-requires-clause-ready g c = λ found known.
 
 pub returns-in-Unreachable-clause-executes : goal.returns-in-Unreachable-clause-executes
 returns-in-Unreachable-clause-executes g c =
-    arm_stopped (program_of c.args.linked.now) unreachable (instr_view c.args.instr.now) (ops_at c.args.here) (held c.args.stack.now) (store_view c.args.stored.now) c.args.host.now _ (ap instr_view c.in-Unreachable.is ∙ view_unreachable) (inl fails_unreachable)
+    arm_stopped (program_of c.args.linked.now) unreachable (instr_view c.args.instr.now) (ops_at c.args.here) (held c.args.stack.now) (held c.args.stack.now) (store_view c.args.stored.now) (store_view c.args.stored.now) c.args.host.now _ (ap instr_view c.in-Unreachable.is ∙ view_unreachable) (record { cause = inl fails_unreachable; held = refl; stored = refl })
 
 pub returns-in-Nop-clause-executes : goal.returns-in-Nop-clause-executes
 returns-in-Nop-clause-executes g c =
@@ -140,14 +140,14 @@ pub returns-in-Numeric-clause-executes : goal.returns-in-Numeric-clause-executes
 returns-in-Numeric-clause-executes g c =
     arm_onward (program_of c.args.linked.now) g.H.Host.answers (base_of c.args.linked.now) (numeric c.in-Numeric.op) (instr_view c.args.instr.now) c.args.here (held c.args.stack.now) _ (store_view c.args.stored.now) _ c.args.host.now c.numeric.result c.onward-in-Numeric.result (ap instr_view c.in-Numeric.is ∙ view_numeric c.in-Numeric.op) c.requires.sound (c.numeric.ensures (store_view c.args.stored.now)) c.onward-in-Numeric.ensures
 
-pub returns-in-FloatMemory-clause-executes : goal.returns-in-FloatMemory-clause-executes
-returns-in-FloatMemory-clause-executes g c =
+pub unreachable-requires : goal.unreachable-requires
+unreachable-requires g c =
     absurd (no_float_memory (running (ops_at c.args.here) (held c.args.stack.now)) _ _ _ (typed_as (ap instr_view c.in-FloatMemory.is ∙ view_float_memory _ _ _) c.requires.sound))
 
-pub returns-in-FloatConst-clause-executes : goal.returns-in-FloatConst-clause-executes
-returns-in-FloatConst-clause-executes g c =
+pub unreachable-requires-in-FloatConst : goal.unreachable-requires-in-FloatConst
+unreachable-requires-in-FloatConst g c =
     absurd (no_float_const (running (ops_at c.args.here) (held c.args.stack.now)) _ (typed_as (ap instr_view c.in-FloatConst.is ∙ view_float_const _) c.requires.sound))
 
-pub returns-in-FloatPlain-clause-executes : goal.returns-in-FloatPlain-clause-executes
-returns-in-FloatPlain-clause-executes g c =
+pub unreachable-requires-in-FloatPlain : goal.unreachable-requires-in-FloatPlain
+unreachable-requires-in-FloatPlain g c =
     absurd (no_float_plain (running (ops_at c.args.here) (held c.args.stack.now)) _ (typed_as (ap instr_view c.in-FloatPlain.is ∙ view_float_plain _) c.requires.sound))

@@ -38,7 +38,7 @@ loop-instr-preserved-in_default g c =
 pub returns-then-used-fuel-clause-ends : goal.returns-then-used-fuel-clause-ends
 returns-then-used-fuel-clause-ends g c =
     let i = c.loop-instr.invariant in
-    spent (ops_at c.loop-instr.here) (ops_at c.next.new.self) (instr_view c.in-Some.instr.now) (held c.loop-instr.stack) (store_view c.loop-instr.stored) (store_view c.loop-instr.stored) c.loop-instr.host c.loop-instr.used c.args.fuel i.within c.if-used-fuel.true i.so_far c.in-Some.ensures.left
+    spent (ops_at c.loop-instr.here) (ops_at c.next.new.self) (instr_view c.in-Some.instr.now) (held c.loop-instr.stack) (store_view c.loop-instr.stored) c.loop-instr.host c.loop-instr.used c.args.fuel i.within c.if-used-fuel.true i.so_far c.in-Some.ensures.left
 
 pub loop-instr-smaller : goal.loop-instr-smaller
 loop-instr-smaller g c =
@@ -58,4 +58,4 @@ loop-instr-preserved g c =
 pub returns-in-Err-clause-ends : goal.returns-in-Err-clause-ends
 returns-in-Err-clause-ends g c =
     let i = c.loop-instr.invariant in
-    trapped (ops_at c.loop-instr.here) (next (instr_view c.in-Some.instr.now) (ops_at c.next.new.self)) (held c.loop-instr.stack) (store_view c.loop-instr.stored) (store_view c.execute.new.stored) c.loop-instr.host c.execute.new.host c.loop-instr.used c.args.fuel c.in-Err.trap c.if-used-fuel.false i.so_far c.in-Some.ensures.left c.in-Err.ensures.executes
+    trapped (ops_at c.loop-instr.here) (next (instr_view c.in-Some.instr.now) (ops_at c.next.new.self)) (held c.loop-instr.stack) (held c.execute.new.stack) (store_view c.loop-instr.stored) (store_view c.execute.new.stored) c.loop-instr.host c.execute.new.host c.loop-instr.used c.args.fuel c.in-Err.trap c.if-used-fuel.false i.so_far c.in-Some.ensures.left c.in-Err.ensures.executes

@@ -10,7 +10,7 @@ use Rattle.wasm_plain.proofs.memories.memory_size.Goals as goal
 pub returns-then-not-push : goal.returns-then-not-push
 returns-then-not-push c store same =
     let full : most_values ≤ size (running no_ops (held c.args.stack.now)) = grind (arith, told_false c.if-not-push.ensures.room) in
-    size_stopped full
+    size_stopped full c.if-not-push.ensures.pushed
 
 pub returns : goal.returns
 returns c store same =

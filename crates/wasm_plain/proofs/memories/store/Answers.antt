@@ -23,7 +23,7 @@ returns-then-not-store c store same =
     let f = has_address_below c.args.op c.args.align c.args.offset c.requires.2 in
     let at : c.operand.result + c.from.result ≡ get_or (held c.args.stack.now).operands 1 0 + c.args.offset = ap₂ (λ a b. a + b) c.operand.ensures c.from.ensures in
     let past : length c.args.pages.now.bytes < c.operand.result + c.from.result + c.stored_width.result = grind (arith, told_false c.if-not-store.ensures.range) in
-    store_stopped c.args.op c.args.align c.args.offset (c.operand.result + c.from.result) c.stored_width.result f.access c.requires.2 same f.known at (c.stored_width.ensures.access f.access f.known) past
+    store_stopped c.args.op c.args.align c.args.offset (c.operand.result + c.from.result) c.stored_width.result f.access c.requires.2 same f.known at (c.stored_width.ensures.access f.access f.known) past (c.if-not-store.ensures.unchanged refl)
 
 pub returns : goal.returns
 returns c store same =

@@ -1,4 +1,4 @@
-use Rattle.std.proofs.Common.{arith}
+use Rattle.std.proofs.Common.{refl, arith}
 use Rattle.wasm_stack.specs.Standing.{held}
 use Rattle.wasm_plain.proofs.Results.{binary_found, binary_done, divides_by_zero, overflows}
 use Rattle.wasm_plain.proofs.numbers.binary.Goals as goal
@@ -24,8 +24,8 @@ returns-in-Ok c = λ store.
 
 pub returns-in-Err-DivideByZero : goal.returns-in-Err-DivideByZero
 returns-in-Err-DivideByZero c = λ store.
-    divides_by_zero c.requires.is_next.1 store (held c.args.stack.now) c.requires.group c.operand-first.result c.operand-second.result c.operand-second.ensures c.operand-first.ensures c.in-Err-DivideByZero.ensures.value (c.in-Err-DivideByZero.ensures.by_zero c.in-Err-DivideByZero.field-0-is).1
+    divides_by_zero c.requires.is_next.1 store (held c.args.stack.now) c.requires.group c.operand-first.result c.operand-second.result c.operand-second.ensures c.operand-first.ensures c.in-Err-DivideByZero.ensures.value (c.in-Err-DivideByZero.ensures.by_zero c.in-Err-DivideByZero.field-0-is).1 refl
 
 pub returns-in-Err-Overflow : goal.returns-in-Err-Overflow
 returns-in-Err-Overflow c = λ store.
-    overflows c.requires.is_next.1 store (held c.args.stack.now) c.requires.group c.operand-first.result c.operand-second.result c.operand-second.ensures c.operand-first.ensures c.in-Err-Overflow.ensures.value (c.in-Err-Overflow.ensures.overflow c.in-Err-Overflow.field-0-is)
+    overflows c.requires.is_next.1 store (held c.args.stack.now) c.requires.group c.operand-first.result c.operand-second.result c.operand-second.ensures c.operand-first.ensures c.in-Err-Overflow.ensures.value (c.in-Err-Overflow.ensures.overflow c.in-Err-Overflow.field-0-is) refl

@@ -1,8 +1,8 @@
-use Rattle.std.proofs.Common.{◌≡◌, ℕ, MatchResult, sym, subst, inl, inr, arith}
+use Rattle.std.proofs.Common.{◌≡◌, ℕ, sym, subst, inl, inr, arith}
 use Rattle.wasm_module.specs.Syntax.{numeric}
 use Rattle.wasm_steps.specs.Program.{Store}
 use Rattle.wasm_stack.specs.Standing.{held}
-use Rattle.wasm_plain.specs.Done.{IsNext, IsDone, IsStopped}
+use Rattle.wasm_plain.specs.Done.{IsNext, IsRun}
 use Rattle.wasm_plain.proofs.Results.{must_convert}
 use Rattle.wasm_plain.proofs.numbers.numeric.Goals as goal
 
@@ -19,5 +19,5 @@ returns-in_default c =
     let left : c.args.op ≡ 0xad = elim kind [ inl e ↦ omega (arith, e) | inr h ↦ omega (arith, h) ] in
     let old = held c.args.stack.now in
     let new = held c.convert-in_default.new.stack in
-    let P : ℕ → Type 0 = λ n. (store : Store) → MatchResult c.convert-in_default.result (λ _. IsDone (numeric n) old store new store) (IsStopped (numeric n) old store) in
+    let P : ℕ → Type 0 = λ n. (store : Store) → IsRun (numeric n) old store c.convert-in_default.result new store in
     subst P (sym left) c.convert-in_default.ensures

@@ -1,9 +1,10 @@
 use Rattle.std.proofs.Common.{◌≡◌, ◌<◌, ◌≤◌, IsTrue, List, ◌∷◌, length, reverse, refl, sym, ap, ◌∙◌, subst, arith}
 use Rattle.std.proofs.lemmas.List.{length-reverse}
 use Rattle.wasm_module.specs.Syntax.{no_ops}
+use Rattle.wasm_steps.specs.Program.{most_frames}
 use Rattle.wasm_steps.specs.Threads.{frame_count, size}
 use Rattle.call_frames.specs.Stack as frames
-use Rattle.wasm_stack.specs.Held.{running, called}
+use Rattle.wasm_stack.specs.Held.{running, called, most_controls}
 use Rattle.wasm_stack.specs.Standing.{Standing, held}
 use Rattle.wasm_stack.specs.View.{held_of, below, floor_of, count, ops_at}
 use Rattle.wasm_stack.specs.declared.control.Control.{Control}
@@ -15,7 +16,7 @@ pub enter-requires-clause-depth : goal.enter-requires-clause-depth
 enter-requires-clause-depth c =
     let i = c.self.inside in
     let controls = reverse i.controls.items in
-    let few = subst (λ (z : Standing). frame_count (held z).levels < 1000) (sym c.self.view_is) c.requires.frames in
+    let few = subst (λ (z : Standing). frame_count (held z).levels < most_frames) (sym c.self.view_is) c.requires.frames in
     let e = frames_counted controls (length i.values.operands) i.values.waiting i.depth (below (floor_of controls) i.values.operands) c.self.invariant.controls in
     omega (arith, few, e)
 
@@ -30,7 +31,10 @@ pub push_reserved-requires : goal.push_reserved-requires
 push_reserved-requires c =
     let i = c.self.inside in
     let controls = reverse i.controls.items in
-    let few = subst (λ (z : Standing). length (held z).levels < 201000) (sym c.self.view_is) c.requires.levels in
+    let o = size_held controls i.values i.depth no_ops c.self.invariant.controls in
+    let s : size (running no_ops (held c.args.self.now)) ≡ frames.size i.values = sym (ap (λ (z : Standing). size (running no_ops (held z))) c.self.view_is) ∙ o in
+    let fits = c.requires.levels (omega (arith, s, c.enter.ensures.room.0 c.if-not-enter.false)) in
+    let few = subst (λ (z : Standing). length (held z).levels < most_controls) (sym c.self.view_is) fits in
     let e = levels_counted controls (length i.values.operands) i.values.waiting i.depth (below (floor_of controls) i.values.operands) c.self.invariant.controls in
     omega (arith, few, length-reverse i.controls.items, c.self.invariant.room, i.controls.ok)
 

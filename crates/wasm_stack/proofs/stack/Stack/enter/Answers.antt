@@ -1,6 +1,6 @@
 use Rattle.std.proofs.Common.{◌≡◌, ◌<◌, List, ◌∷◌, length, reverse, sym, ap, ◌∙◌, subst, arith}
 use Rattle.std.proofs.lemmas.List.{length-reverse}
-use Rattle.wasm_stack.specs.Held.{opened}
+use Rattle.wasm_stack.specs.Held.{opened, most_controls}
 use Rattle.wasm_stack.specs.Standing.{Standing, held}
 use Rattle.wasm_stack.specs.View.{held_of, below, floor_of, count, ops_at, rest_of}
 use Rattle.wasm_stack.specs.declared.control.Control.{Control}
@@ -12,7 +12,7 @@ pub push_reserved-requires : goal.push_reserved-requires
 push_reserved-requires c =
     let i = c.self.inside in
     let controls = reverse i.controls.items in
-    let few = subst (λ (z : Standing). length (held z).levels < 201000) (sym c.self.view_is) c.requires in
+    let few = subst (λ (z : Standing). length (held z).levels < most_controls) (sym c.self.view_is) c.requires in
     let e = levels_counted controls (length i.values.operands) i.values.waiting i.depth (below (floor_of controls) i.values.operands) c.self.invariant.controls in
     omega (arith, few, length-reverse i.controls.items, c.self.invariant.room, i.controls.ok)
 
