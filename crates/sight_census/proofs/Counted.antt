@@ -1,15 +1,11 @@
 -- One more room, and one more object, is counted.
-use Rattle.std.proofs.Common.{◌≡◌, ℕ, zero, suc, ◌+◌, ◌<◌, ◌≤◌, Bool, true, false, cond, List, [], ◌∷◌, ◌++◌, map, length, take, Some, None, option_map, refl, sym, ap, ◌∙◌, arith}
+use Rattle.std.proofs.Common.{◌≡◌, ℕ, zero, suc, ◌+◌, ◌<◌, List, [], ◌∷◌, ◌++◌, map, length, take, Some, None, option_map, refl, sym, ap, ◌∙◌, arith}
 use Rattle.std.specs.Prelude.{slice_get}
-use Rattle.std.specs.List.{count_by}
 use Rattle.std.proofs.lemmas.List.{map-append}
-use Rattle.std.proofs.lemmas.List.Sums.{sum_by_push}
-use mir.Val.{bool_byte}
 use Rattle.object_store.specs.declared.object.Object.{Object}
-use Rattle.world_rules.specs.World.{Placed}
 use Rattle.visible_view.specs.Sights.{SeenRoom, Sight}
 use Rattle.visible_view.specs.Fields.{objects_at}
-use Rattle.sight_census.specs.Censuses.{is_controller_of, told_in, told_of}
+use Rattle.sight_census.specs.Censuses.{told_in, told_of}
 use Rattle.sight_census.specs.declared.told.Told.{Told}
 
 -- Within a list something is read.
@@ -27,16 +23,6 @@ read_next shows (x ∷ xs) (suc place) y is =
     let more : suc place + 1 ≡ suc (place + 1) = omega arith in
     (rest.0, ap (λ n. take n (x ∷ xs)) more ∙ ap (λ zs. x ∷ zs) rest.1, rest.2)
 
--- What is true counts 1, and what is not counts nothing.
-pub truth_is : (holds : Bool) → bool_byte holds ≡ cond holds 1 0
-truth_is true = refl
-truth_is false = refl
-
--- With one more at most, as many are found at most as places were looked at.
-pub few_more : (more found place : ℕ) (holds : Bool) → more ≡ found + cond holds 1 0 → found ≤ place → more ≤ place + 1
-few_more more found place true is few = omega arith
-few_more more found place false is few = omega arith
-
 module _ (sight : Sight) (place : ℕ) where
   -- what is counted of one more room
   pub told_more : (rooms : List Told) (objects : List Object) → rooms ≡ map (told_in sight) (take place sight.rooms)
@@ -46,15 +32,3 @@ module _ (sight : Sight) (place : ℕ) where
       let next = read_next (λ (seen : SeenRoom). objects_at sight seen.index) sight.rooms place objects read in
       (λ i. before i ++ told_of sight.account.player (next.2 i) ∷ [])
       ∙ sym (ap (map (told_in sight)) next.1 ∙ map-append (told_in sight) (take place sight.rooms) (next.0 ∷ []))
-
-  abbrev is_his : Object → Bool
-  is_his object = is_controller_of sight.account.player object
-
-  -- One more object is a controller of the player, or is none.
-  pub controllers_more : (found : ℕ) (object : Object) → found ≡ count_by (λ placed. is_his placed.object) (take place sight.objects)
-      → Some object ≡ option_map (λ (placed : Placed). placed.object) (slice_get sight.objects place)
-      → found + cond {A = ℕ} (is_his object) 1 0 ≡ count_by (λ placed. is_his placed.object) (take (place + 1) sight.objects)
-  controllers_more found object before read =
-      let next = read_next (λ (placed : Placed). placed.object) sight.objects place object read in
-      (λ i. before i + cond {A = ℕ} (is_his (next.2 i)) 1 0)
-      ∙ sym (ap (count_by (λ placed. is_his placed.object)) next.1 ∙ sum_by_push (λ placed. cond {A = ℕ} (is_his placed.object) 1 0) (take place sight.objects) next.0)

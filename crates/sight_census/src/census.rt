@@ -1,17 +1,15 @@
 // What is counted of all that a player sees.
 ghost use Rattle.std.specs.Prelude.{◌≡◌, IfOk, option_map, slice_get};
-ghost use Rattle.sight_census.specs.Censuses.{census_of, is_controller_of};
+ghost use Rattle.sight_census.specs.Censuses.{census_of};
 
 use crate::NoMemory;
 use crate::told::Told;
-use game_tables::is_controller;
-use object_store::Object;
 use std::alloc::Global;
 use std::marker::Model;
 use visible_view::View;
 
 /// What is counted of what a player sees: room by room what he holds for creeps and what is built there, and
-/// how many controllers he owns. It is made once a run, by three looks at each object that is seen.
+/// how many controllers he owns. It is made once a run, by two looks at each object that is seen.
 #[derive(Drop)]
 pub struct Census {
     rooms: Vec<Told>,
@@ -33,7 +31,7 @@ impl Census {
     {
         Ok(Census {
             rooms: tell_rooms(alloc, view)?,
-            controllers: count_controllers(view),
+            controllers: view.controllers(),
         })
     }
 
@@ -64,25 +62,4 @@ fn tell_rooms(alloc: Global, view: &View) -> Result<Vec<Told>, NoMemory>
         }
     }
     Ok(rooms)
-}
-
-// How many controllers of the player are seen.
-fn count_controllers(view: &View) -> u32
-    ensures { result ≡ (census_of view.now).controllers }
-{
-    let player = view.account().player;
-    let mut found = 0;
-    for place in 0..view.count() {
-        if let Some(object) = view.object(place) {
-            found += u32::from(is_controller_of(object, player));
-        }
-    }
-    found
-}
-
-// Whether it is a controller that the player owns.
-fn is_controller_of(object: &Object, player: u32) -> bool
-    ensures { result ≡ is_controller_of player object.now }
-{
-    is_controller(object.kind) && object.owner == player
 }

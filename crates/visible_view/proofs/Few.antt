@@ -22,10 +22,10 @@ use Rattle.object_store.specs.Tables.{IsOnTile}
 use Rattle.world_rules.specs.Sound.{IsSound, IsSoundRoom}
 use Rattle.world_rules.specs.World.{Placed, World, placed, placed_from, listed_room, listing_of, world_of}
 use Rattle.world_rules.proofs.Entries.{Entries}
-use Rattle.visible_view.specs.inner.Gathered.{is_seen, from_each, room_if_seen, sites_at}
+use Rattle.visible_view.specs.inner.Gathered.{is_seen, from_each, room_if_seen}
 use Rattle.visible_view.specs.Sights.{SeenRoom}
 use Rattle.object_store.proofs.Moved.{all_from_within}
-use Rattle.visible_view.proofs.Seen.{rises_from_sorted, entry_at, moved, stands, sites_stored, is_site_entry}
+use Rattle.visible_view.proofs.Seen.{rises_from_sorted, entry_at, moved, stands, counted_at, counted_stored, counts_entry}
 
 -- ---- what may share a tile
 
@@ -181,8 +181,8 @@ module _ (stored : Stored) (sound : IsSound stored) (few : length stored.rooms �
       let same = length_permutation listed (entries world.objects) (moved stored sound) in
       omega (arith, length-map (entries world.objects) code)
 
-  pub few_sites : (player : ℕ) → sum_by (sites_at player) stored.rooms < 2 ^ 32
-  few_sites player = omega (arith, few_listed, sites_stored player 0 stored.rooms, count_by-le-length (is_site_entry player) listed)
+  pub few_counted : (counts : Object → Bool) → sum_by (counted_at counts) stored.rooms < 2 ^ 32
+  few_counted counts = omega (arith, few_listed, counted_stored counts 0 stored.rooms, count_by-le-length (counts_entry counts) listed)
 
 -- no more rooms are seen than there are
 pub few_rooms : (player index : ℕ) (rooms : List Room) → length (from_each (room_if_seen player) index rooms) ≤ length rooms

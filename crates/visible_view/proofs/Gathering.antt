@@ -13,7 +13,7 @@ use Rattle.object_store.proofs.Accounts.{all_push}
 use Rattle.object_store.proofs.Rising.{Rises, all_weaker}
 use Rattle.game_tables.specs.Kinds.{is_building, is_controller, is_creep, is_site}
 use Rattle.visible_view.specs.Sights.{SeenRoom, gives_sight}
-use Rattle.visible_view.specs.inner.Gathered.{shown_room, is_seen, is_site_of, from_each, kept_objects, objects_if_seen, room_if_seen, sites_at, KeepsRoomIf, IsAdded, IsGathered}
+use Rattle.visible_view.specs.inner.Gathered.{shown_room, is_controller_of, is_seen, is_site_of, from_each, kept_objects, objects_if_seen, room_if_seen, controllers_at, sites_at, KeepsRoomIf, IsAdded, IsGathered}
 use Rattle.visible_view.specs.declared.gather.RoomInView.{RoomInView}
 use Rattle.visible_view.specs.declared.gather.Gathered.{Gathered}
 
@@ -145,6 +145,7 @@ gathered_more player index taken room old new place so added =
           ∙ sym (from_each_push (room_if_seen player) 0 taken room ∙ ap (λ (n : ℕ). from_each (room_if_seen player) 0 taken ++ room_if_seen player n room) (omega arith));
       flags = added.flags ∙ ap (λ (flags : List Bool). flags ++ is_seen player room ∷ []) so.flags ∙ sym (map-append (is_seen player) taken (room ∷ []));
       sites = added.sites ∙ ap (λ (n : ℕ). n + sites_at player room) so.sites ∙ sym (sum_by_push (sites_at player) taken room);
+      controllers = added.controllers ∙ ap (λ (n : ℕ). n + controllers_at player room) so.controllers ∙ sym (sum_by_push (controllers_at player) taken room);
       rising = rising_more index room (is_seen player room) old.rooms.items new.rooms.items below so.rising added.rooms;
       below = subst (λ (n : ℕ). AllByRecursion (λ (r : RoomInView). r.index < n) new.rooms.items) (ap suc place ∙ sym (grown taken room)) (below_more index room (is_seen player room) old.rooms.items new.rooms.items below added.rooms);
       tables = tables_more player index taken room old.rooms.items new.rooms.items place below so.tables added.rooms;
@@ -160,15 +161,16 @@ none_seen player (o ∷ objects) none =
       | false ↦ λ is. none_seen player objects is
     ] none
 
-pub none_sited : (player : ℕ) (objects : List Object) → list_any (λ (o : Object). o.owner == player) objects ≡ false → count_by (is_site_of player) objects ≡ 0
-none_sited player [] none = refl
-none_sited player (o ∷ objects) none =
-    let all = sum_by-cons (λ (p : Object). cond {A = ℕ} (is_site_of player p) 1 0) o objects in
-    elim (o.owner == player) as (λ b. (o.owner == player) ≡ b → (b || list_any (λ (p : Object). p.owner == player) objects) ≡ false → count_by (is_site_of player) (o ∷ objects) ≡ 0) [
+-- nothing is counted that is his alone
+none_counted : (player : ℕ) (kinds : Object → Bool) (objects : List Object) → list_any (λ (o : Object). o.owner == player) objects ≡ false → count_by (λ (o : Object). kinds o && (o.owner == player)) objects ≡ 0
+none_counted player kinds [] none = refl
+none_counted player kinds (o ∷ objects) none =
+    let all = sum_by-cons (λ (p : Object). cond {A = ℕ} (kinds p && (p.owner == player)) 1 0) o objects in
+    elim (o.owner == player) as (λ b. (o.owner == player) ≡ b → (b || list_any (λ (p : Object). p.owner == player) objects) ≡ false → count_by (λ (p : Object). kinds p && (p.owner == player)) (o ∷ objects) ≡ 0) [
       | true ↦ λ same is. absurd (cc)
       | false ↦ λ other is. (
-          let zeroth : cond {A = ℕ} (is_site_of player o) 1 0 ≡ 0 = ap (λ (b : Bool). cond {A = ℕ} (is_site o.kind && b) 1 0) other ∙ neither (is_site o.kind) in
-          let rest = none_sited player objects is in
+          let zeroth : cond {A = ℕ} (kinds o && (o.owner == player)) 1 0 ≡ 0 = ap (λ (b : Bool). cond {A = ℕ} (kinds o && b) 1 0) other ∙ neither (kinds o) in
+          let rest = none_counted player kinds objects is in
           omega arith
           )
     ] refl none
@@ -176,3 +178,9 @@ none_sited player (o ∷ objects) none =
     neither : (b : Bool) → cond {A = ℕ} (b && false) 1 0 ≡ 0
     neither true = refl
     neither false = refl
+
+pub none_sited : (player : ℕ) (objects : List Object) → list_any (λ (o : Object). o.owner == player) objects ≡ false → count_by (is_site_of player) objects ≡ 0
+none_sited player objects none = none_counted player (λ (o : Object). is_site o.kind) objects none
+
+pub none_controlled : (player : ℕ) (objects : List Object) → list_any (λ (o : Object). o.owner == player) objects ≡ false → count_by (is_controller_of player) objects ≡ 0
+none_controlled player objects none = none_counted player (λ (o : Object). is_controller o.kind) objects none

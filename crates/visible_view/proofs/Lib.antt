@@ -3,3 +3,4 @@ pub mod Seen
 pub mod Told
 pub mod Tables
 pub mod Few
+pub mod Places

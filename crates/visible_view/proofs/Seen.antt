@@ -11,13 +11,13 @@ use Rattle.std.specs.FinMap.Entries.{by_order, put, below_all}
 use Rattle.std.proofs.lemmas.Bool.{eq-eqb, ne_eqb}
 use Rattle.std.proofs.lemmas.List.{length-map, nil_from_length}
 use Rattle.std.proofs.lemmas.List.Folds.{list_any-append}
-use Rattle.std.proofs.lemmas.List.Sums.{count_by-le-length, length-filter, sum_by-append, sum_by-cons}
+use Rattle.std.proofs.lemmas.List.Sums.{sum_by-append, sum_by-cons}
 use Rattle.std.proofs.lemmas.List.Sorted.{IsPermutation-cons, IsPermutation-middle, IsPermutation-refl, IsPermutation-trans, length_permutation, list_any-IsPermutation, sum_by-IsPermutation}
 use Rattle.object_store.specs.declared.account.Account.{Account}
 use Rattle.object_store.specs.declared.object.Object.{Object}
 use Rattle.object_store.specs.declared.world.Room.{Room}
 use Rattle.object_store.specs.Stored.{Stored}
-use Rattle.object_store.proofs.Rising.{Rises, rises-filter}
+use Rattle.object_store.proofs.Rising.{Rises}
 use Rattle.object_store.specs.declared.standing.Standing.{Standing}
 use Rattle.world_rules.specs.World.{Placed, World, shown, placed, placed_from, listed_room, listing_of, world_of, framed_from}
 use Rattle.world_rules.proofs.Lifting.{frames_stored}
@@ -26,11 +26,12 @@ use Rattle.world_rules.specs.Sound.{IsSound}
 use Rattle.world_rules.proofs.Entries.{Entries, times, times_cons, no_times}
 use Rattle.world_rules.proofs.Same.{once}
 use Rattle.visible_view.specs.Sights.{SeenRoom, Sight, sight_of, gives_sight, sees_room, seen_rooms, seen_objects, site_count}
-use Rattle.world_roster.specs.Rosters.{id_in, shown_entry}
+use Rattle.world_roster.specs.Rosters.{shown_entry}
 use Rattle.world_roster.proofs.Known.{find_as}
-use Rattle.visible_view.specs.inner.Gathered.{shown_room, is_flagged, is_seen, is_site_of, from_each, room_if_seen, sites_at}
+use Rattle.visible_view.specs.inner.Gathered.{shown_room, controllers_at, is_controller_of, is_flagged, is_seen, is_site_of, from_each, room_if_seen, sites_at}
 use Rattle.visible_view.specs.declared.gather.RoomInView.{RoomInView}
-use Rattle.object_store.proofs.Moved.{find_only}
+use Rattle.object_store.proofs.Moved.{all_from_within, find_only}
+use Rattle.game_tables.specs.Kinds.{is_building, is_controller, is_creep}
 
 -- ---- the entries of a map that is made of entries whose keys stand once
 
@@ -128,22 +129,55 @@ rooms_stored world player index (room ∷ rooms) tells =
     ∙ ap (λ (more : List SeenRoom). if is_seen player room then shown ∷ more else more) rest
     ∙ elim (is_seen player room) as (λ b. (if b then shown ∷ from_each (room_if_seen player) (suc index) rooms else from_each (room_if_seen player) (suc index) rooms) ≡ (if b then shown ∷ [] else []) ++ from_each (room_if_seen player) (suc index) rooms) [ true ↦ refl | false ↦ refl ]
 
-abbrev pub is_site_entry : ℕ → ℕ × Placed → Bool
-is_site_entry player entry = is_site_of player entry.1.object
+module _ (counts : Object → Bool) where
+  abbrev pub counts_entry : ℕ × Placed → Bool
+  counts_entry entry = counts entry.1.object
 
-sites_here : (player index : ℕ) (objects : List Object) → count_by (is_site_entry player) (map (entry_at index) objects) ≡ count_by (is_site_of player) objects
-sites_here player index [] = refl
-sites_here player index (object ∷ objects) =
-    sum_by-cons (λ e. cond {A = ℕ} (is_site_entry player e) 1 0) (entry_at index object) (map (entry_at index) objects)
-    ∙ ap (λ (n : ℕ). cond {A = ℕ} (is_site_of player object) 1 0 + n) (sites_here player index objects)
-    ∙ sym (sum_by-cons (λ o. cond {A = ℕ} (is_site_of player o) 1 0) object objects)
+  abbrev pub counted_at : Room → ℕ
+  counted_at room = count_by counts room.table.objects
 
-pub sites_stored : (player index : ℕ) (rooms : List Room) → count_by (is_site_entry player) (placed_from index (map listed_room rooms)) ≡ sum_by (sites_at player) rooms
-sites_stored player index [] = refl
-sites_stored player index (room ∷ rooms) =
-    sum_by-append (λ e. cond {A = ℕ} (is_site_entry player e) 1 0) (map (entry_at index) room.table.objects) (placed_from (suc index) (map listed_room rooms))
-    ∙ (λ i. sites_here player index room.table.objects i + sites_stored player (suc index) rooms i)
-    ∙ sym (sum_by-cons (sites_at player) room rooms)
+  counted_here : (index : ℕ) (objects : List Object) → count_by counts_entry (map (entry_at index) objects) ≡ count_by counts objects
+  counted_here index [] = refl
+  counted_here index (object ∷ objects) =
+      sum_by-cons (λ e. cond {A = ℕ} (counts_entry e) 1 0) (entry_at index object) (map (entry_at index) objects)
+      ∙ ap (λ (n : ℕ). cond {A = ℕ} (counts object) 1 0 + n) (counted_here index objects)
+      ∙ sym (sum_by-cons (λ o. cond {A = ℕ} (counts o) 1 0) object objects)
+
+  pub counted_stored : (index : ℕ) (rooms : List Room) → count_by counts_entry (placed_from index (map listed_room rooms)) ≡ sum_by counted_at rooms
+  counted_stored index [] = refl
+  counted_stored index (room ∷ rooms) =
+      sum_by-append (λ e. cond {A = ℕ} (counts_entry e) 1 0) (map (entry_at index) room.table.objects) (placed_from (suc index) (map listed_room rooms))
+      ∙ (λ i. counted_here index room.table.objects i + counted_stored (suc index) rooms i)
+      ∙ sym (sum_by-cons counted_at room rooms)
+
+  -- Among the objects of rooms that are seen all are counted, where they stand in such rooms alone.
+  counted_seen : (seen : ℕ → Bool) (es : Entries) → AllByRecursion (λ e. counts_entry e ≡ true → seen e.1.room ≡ true) es
+      → count_by (λ (p : Placed). counts p.object) (map (λ (e : ℕ × Placed). e.1) (filter (λ (e : ℕ × Placed). seen e.1.room) es)) ≡ count_by counts_entry es
+  counted_seen seen [] all = refl
+  counted_seen seen (e ∷ es) all =
+      let later : List Placed = map (λ (f : ℕ × Placed). f.1) (filter (λ (f : ℕ × Placed). seen f.1.room) es) in
+      let rest : count_by (λ (p : Placed). counts p.object) later ≡ count_by counts_entry es = counted_seen seen es all.1 in
+      let here = sum_by-cons (λ e. cond {A = ℕ} (counts_entry e) 1 0) e es in
+      elim (seen e.1.room) as (λ b. (counts e.1.object ≡ true → b ≡ true) → count_by (λ (p : Placed). counts p.object) (map (λ (f : ℕ × Placed). f.1) (cond b (e ∷ filter (λ (f : ℕ × Placed). seen f.1.room) es) (filter (λ (f : ℕ × Placed). seen f.1.room) es))) ≡ count_by counts_entry (e ∷ es)) [
+        | true ↦ λ holds. sum_by-cons (λ (p : Placed). cond {A = ℕ} (counts p.object) 1 0) e.1 later ∙ ap (λ (n : ℕ). cond {A = ℕ} (counts e.1.object) 1 0 + n) rest ∙ sym here
+        | false ↦ λ holds. rest ∙ none_here (counts e.1.object) (count_by counts_entry es) holds ∙ sym here
+      ] all.0
+    where
+      none_here : (b : Bool) (n : ℕ) → (b ≡ true → false ≡ true) → n ≡ cond {A = ℕ} b 1 0 + n
+      none_here true n holds = let not : false ≡ true = holds refl in absurd (cc)
+      none_here false n holds = omega arith
+
+any_within : {X : Type 0} (test : X → Bool) (xs : List X) (x : X) → Contains xs x → test x ≡ true → list_any test xs ≡ true
+any_within test xs x within passes = any_at test xs within.0 x within.1 (ap test within.2 ∙ passes)
+  where
+    any_at : {X : Type 0} (test : X → Bool) (xs : List X) (k : ℕ) (x : X) → k < length xs → test (get_or xs k x) ≡ true → list_any test xs ≡ true
+    any_at test [] k x within passes = absurd (omega arith)
+    any_at test (first ∷ xs) zero x within passes = ap (λ (b : Bool). b || list_any test xs) passes
+    any_at test (first ∷ xs) (suc k) x within passes = ap (λ (b : Bool). test first || b) (any_at test xs k x (omega arith) passes) ∙ or_true (test first)
+      where
+        or_true : (b : Bool) → (b || true) ≡ true
+        or_true true = refl
+        or_true false = refl
 
 -- ---- entries that rise
 
@@ -209,29 +243,47 @@ module _ (stored : Stored) (sound : IsSound stored) where
     rooms_seen = ap (seen_rooms world player) (frames_stored stored) ∙ rooms_stored world player 0 stored.rooms told
 
     pub sites_seen : site_count world player ≡ sum_by (sites_at player) stored.rooms
-    sites_seen = sum_by-IsPermutation (λ e. cond {A = ℕ} (is_site_entry player e) 1 0) all (entries world.objects) moved ∙ sites_stored player 0 stored.rooms
+    sites_seen = sum_by-IsPermutation (λ e. cond {A = ℕ} (counts_entry (is_site_of player) e) 1 0) all (entries world.objects) moved ∙ counted_stored (is_site_of player) 0 stored.rooms
+
+    -- Where the player owns a controller he sees.
+    owned_seen : (e : ℕ × Placed) → Contains (entries world.objects) e → is_controller_of player e.1.object ≡ true → sees_room world player e.1.room ≡ true
+    owned_seen e within owned = any_within (sees player e.1.room) (entries world.objects) e within (gives e.1.room e.1.object owned)
+      where
+        own : (b c d : Bool) → (b && c) ≡ true → (c && (d || b)) ≡ true
+        own true true true is = refl
+        own true true false is = refl
+        own true false d is = absurd (cc)
+        own false c d is = absurd (cc)
+
+        gives : (room : ℕ) (object : Object) → is_controller_of player object ≡ true → ((room == room) && gives_sight player object) ≡ true
+        gives room object owned = ap (λ (b : Bool). b && gives_sight player object) (eq-eqb room room refl) ∙ own (is_controller object.kind) (object.owner == player) (is_creep object.kind || is_building object.kind) owned
 
     abbrev in_sight : ℕ × Placed → Bool
     in_sight e = sees_room world player e.1.room
 
-    module _ (listed : List Standing) (are : map shown_entry listed ≡ entries world.objects) (rises : Rises id_in listed) (seen : List Standing) (is : seen ≡ filter (is_flagged (map (is_seen player) stored.rooms)) listed) where
-      in_view : seen ≡ filter (λ s. sees_room world player s.room) listed
-      in_view = is ∙ (λ i. filter (λ s. seen_by_index s.room i) listed)
+    module _ (listed : List Standing) (are : map shown_entry listed ≡ entries world.objects) where
+      pub listed_few : length listed ≡ length all
+      listed_few = omega (arith, ap length are, length-map listed shown_entry, length_permutation _ _ moved)
 
-      pub objects_rise : Rises id_in seen
-      objects_rise = subst (Rises id_in) (sym is) (rises-filter id_in (is_flagged (map (is_seen player) stored.rooms)) listed rises)
+      module _ (objects : List Placed) (is : objects ≡ map shown (filter (is_flagged (map (is_seen player) stored.rooms)) listed)) where
+        in_view : objects ≡ map shown (filter (λ s. sees_room world player s.room) listed)
+        in_view = is ∙ (λ i. map shown (filter (λ s. seen_by_index s.room i) listed))
 
-      pub objects_seen : map shown seen ≡ seen_objects world player
-      objects_seen = ap (map shown) in_view ∙ filter_shown (sees_room world player) listed ∙ ap (λ (es : Entries). map (λ (e : ℕ × Placed). e.1) (filter in_sight es)) are
+        pub objects_seen : objects ≡ seen_objects world player
+        objects_seen = in_view ∙ filter_shown (sees_room world player) listed ∙ ap (λ (es : Entries). map (λ (e : ℕ × Placed). e.1) (filter in_sight es)) are
 
-      -- what is in view is the player's sight
-      pub sight_seen : (account : Account) → account.player ≡ player → (rooms : List RoomInView) (sites : ℕ) → map shown_room rooms ≡ from_each (room_if_seen player) 0 stored.rooms → sites ≡ sum_by (sites_at player) stored.rooms
-          → ◌≡◌ {A = Sight} (record { tick = stored.tick; account = account; sites = sites; rooms = map shown_room rooms; objects = map shown seen }) (sight_of world account)
-      sight_seen account mine rooms sites rooms_are sites_are =
-          let sites_told = sites_are ∙ sym sites_seen ∙ ap (site_count world) (sym mine) in
-          let rooms_told = rooms_are ∙ sym rooms_seen ∙ ap (λ (n : ℕ). seen_rooms world n (entries world.rooms)) (sym mine) in
-          let objects_told = objects_seen ∙ ap (seen_objects world) (sym mine) in
-          λ i. record { tick = stored.tick; account = account; sites = sites_told i; rooms = rooms_told i; objects = objects_told i }
+        pub controllers_seen : count_by (λ (p : Placed). is_controller_of player p.object) objects ≡ sum_by (controllers_at player) stored.rooms
+        controllers_seen =
+            ap (count_by (λ (p : Placed). is_controller_of player p.object)) objects_seen
+            ∙ counted_seen (is_controller_of player) (sees_room world player) (entries world.objects) (all_from_within (λ e. is_controller_of player e.1.object ≡ true → sees_room world player e.1.room ≡ true) (entries world.objects) owned_seen)
+            ∙ sum_by-IsPermutation (λ e. cond {A = ℕ} (counts_entry (is_controller_of player) e) 1 0) all (entries world.objects) moved
+            ∙ counted_stored (is_controller_of player) 0 stored.rooms
 
-      pub objects_few : length seen ≤ length all
-      objects_few = omega (arith, ap length is, length-filter (is_flagged (map (is_seen player) stored.rooms)) listed, count_by-le-length (is_flagged (map (is_seen player) stored.rooms)) listed, ap length are, length-map listed shown_entry, length_permutation _ _ moved)
+        -- what is in view is the player's sight
+        pub sight_seen : (account : Account) → account.player ≡ player → (rooms : List RoomInView) (sites : ℕ) → map shown_room rooms ≡ from_each (room_if_seen player) 0 stored.rooms → sites ≡ sum_by (sites_at player) stored.rooms
+            → ◌≡◌ {A = Sight} (record { tick = stored.tick; account = account; sites = sites; rooms = map shown_room rooms; objects = objects }) (sight_of world account)
+        sight_seen account mine rooms sites rooms_are sites_are =
+            let sites_told = sites_are ∙ sym sites_seen ∙ ap (site_count world) (sym mine) in
+            let rooms_told = rooms_are ∙ sym rooms_seen ∙ ap (λ (n : ℕ). seen_rooms world n (entries world.rooms)) (sym mine) in
+            let objects_told = objects_seen ∙ ap (seen_objects world) (sym mine) in
+            λ i. record { tick = stored.tick; account = account; sites = sites_told i; rooms = rooms_told i; objects = objects_told i }

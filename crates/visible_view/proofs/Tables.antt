@@ -13,7 +13,6 @@ use Rattle.object_store.specs.declared.object.Object.{Object}
 use Rattle.object_store.specs.declared.standing.Standing.{Standing}
 use Rattle.object_store.specs.declared.world.Room.{Room}
 use Rattle.object_store.specs.Stored.{Stored}
-use Rattle.object_store.proofs.Rising.{Rises}
 use Rattle.world_rules.specs.World.{Placed, World, shown, placed, listing_of, world_of}
 use Rattle.world_rules.specs.RoomParts.{objects_in, standing_in}
 use Rattle.world_rules.specs.Sound.{IsSound}
@@ -22,7 +21,7 @@ use Rattle.world_rules.proofs.Keys.{keyed, joined, entries_of_sorted, table_sort
 use Rattle.world_rules.proofs.Lifting.{found_in_room, found_in_table}
 use Rattle.world_rules.proofs.Parts.{get_objects_in, only}
 use Rattle.world_rules.proofs.Same.{once, tables_at}
-use Rattle.world_roster.specs.Rosters.{id_in, shown_entry}
+use Rattle.world_roster.specs.Rosters.{shown_entry}
 use Rattle.visible_view.specs.Sights.{sees_room, sight_of}
 use Rattle.visible_view.specs.Fields.{objects_at}
 use Rattle.visible_view.specs.inner.Gathered.{is_flagged, is_seen, kept_objects, objects_if_seen, HaveTables}
@@ -155,10 +154,10 @@ module _ (stored : Stored) (sound : IsSound stored) where
         (λ i. cond (sees i) (table_objects k (Some room) is i) [])
         ∙ elim (is_seen player room) as (λ b. cond b room.table.objects [] ≡ unwrap_or (if b then Some room.table.objects else None) []) [ true ↦ refl | false ↦ refl ]
 
-    pub tables_seen : (listed : List Standing) (are : map shown_entry listed ≡ entries world.objects) (rises : Rises id_in listed) (seen : List Standing) (is : seen ≡ filter (is_flagged (map (is_seen player) stored.rooms)) listed) (rooms : List RoomInView)
-        → ((k : ℕ) → kept_objects k rooms ≡ option_and_then (objects_if_seen player) (slice_get stored.rooms k)) → HaveTables rooms (map shown seen)
-    tables_seen listed are rises seen is rooms have k =
-        ap (placed_at k) (objects_seen stored sound player listed are rises seen is)
+    pub tables_seen : (listed : List Standing) (are : map shown_entry listed ≡ entries world.objects) (objects : List Placed) (is : objects ≡ map shown (filter (is_flagged (map (is_seen player) stored.rooms)) listed)) (rooms : List RoomInView)
+        → ((k : ℕ) → kept_objects k rooms ≡ option_and_then (objects_if_seen player) (slice_get stored.rooms k)) → HaveTables rooms objects
+    tables_seen listed are objects is rooms have k =
+        ap (placed_at k) (objects_seen stored sound player listed are objects is)
         ∙ shown_all (sees_room world player) k (entries world.objects)
         ∙ tables_as k (slice_get stored.rooms k) refl
         ∙ ap (λ (found : Option (List Object)). unwrap_or found []) (sym (have k))

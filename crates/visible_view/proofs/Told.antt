@@ -9,9 +9,8 @@ use Rattle.std.proofs.lemmas.List.Elements.{All-from_recursion}
 use Rattle.object_store.specs.declared.account.Account.{Account}
 use Rattle.object_store.specs.Stored.{find_account}
 use Rattle.object_store.specs.declared.object.Object.{Object}
-use Rattle.object_store.specs.declared.standing.Standing.{Standing}
 use Rattle.object_store.proofs.Rising.{Rises, absent_there}
-use Rattle.world_rules.specs.World.{Placed, shown}
+use Rattle.world_rules.specs.World.{Placed}
 use Rattle.game_tables.specs.Kinds.{is_controller}
 use Rattle.object_store.specs.Controllers.{controller_among}
 use Rattle.visible_view.specs.Sights.{SeenRoom, Sight}
@@ -30,7 +29,7 @@ find_shown index (room ∷ rooms) =
     elim (room.index == index) as (λ b. cond b (Some (shown_room room)) (find (λ (r : SeenRoom). r.index == index) (map shown_room rooms)) ≡ option_map shown_room (cond b (Some room) (find (λ r. index_in r == index) rooms))) [ true ↦ refl | false ↦ rest ]
 
 -- The place of a number in a rising list of which others are told.
-place_at : {X Y : Type 0} (key : X → ℕ) (tell : Y → X) (n : ℕ) (ys : List Y) (i : ℕ) (d : Y) → Rises (λ y. key (tell y)) ys → i < length ys → key (tell (get_or ys i d)) ≡ n → place_by key n (map tell ys) ≡ Some i
+pub place_at : {X Y : Type 0} (key : X → ℕ) (tell : Y → X) (n : ℕ) (ys : List Y) (i : ℕ) (d : Y) → Rises (λ y. key (tell y)) ys → i < length ys → key (tell (get_or ys i d)) ≡ n → place_by key n (map tell ys) ≡ Some i
 place_at key tell n [] i d rises within here = absurd (omega arith)
 place_at key tell n (first ∷ ys) zero d rises within here = rw (eq-eqb (key (tell first)) n here) refl
 place_at key tell n (first ∷ ys) (suc i) d rises within here =
@@ -38,7 +37,7 @@ place_at key tell n (first ∷ ys) (suc i) d rises within here =
     let apart : key (tell first) ≡ n → ⊥ = λ same. omega arith in
     rw (ne_eqb (key (tell first)) n apart) (ap (option_map suc) (place_at key tell n ys i d rises.1 (omega arith) here))
 
-place_absent : {X Y : Type 0} (key : X → ℕ) (tell : Y → X) (n : ℕ) (ys : List Y) → find (λ y. key (tell y) == n) ys ≡ None → place_by key n (map tell ys) ≡ None
+pub place_absent : {X Y : Type 0} (key : X → ℕ) (tell : Y → X) (n : ℕ) (ys : List Y) → find (λ y. key (tell y) == n) ys ≡ None → place_by key n (map tell ys) ≡ None
 place_absent key tell n [] absent = refl
 place_absent key tell n (first ∷ ys) absent =
     elim (cases_eq (key (tell first)) n) [
@@ -81,7 +80,7 @@ abbrev pub among : Option RoomInView → List Object
 among found = unwrap_or (option_map (λ (room : RoomInView). room.room.now.table.objects) found) []
 
 -- The objects of a room are those of its table, where it is kept, and none else.
-pub objects_told : (index : ℕ) (rooms : List RoomInView) (objects : List Standing) (sight : Sight) → HaveTables rooms (map shown objects) → map shown objects ≡ sight.objects → (found : Option RoomInView)
+pub objects_told : (index : ℕ) (rooms : List RoomInView) (objects : List Placed) (sight : Sight) → HaveTables rooms objects → objects ≡ sight.objects → (found : Option RoomInView)
     → found ≡ find (λ room. index_in room == index) rooms → objects_at sight index ≡ among found
 objects_told index rooms objects sight have same found is =
     ap (λ (ps : List Placed). map (λ (p : Placed). p.object) (filter (λ (p : Placed). p.room == index) ps)) (sym same)
@@ -104,7 +103,7 @@ find_read (first ∷ rooms) (suc place) room rises is =
     rw (ne_eqb first.index room.index (λ same. omega (arith, same, above))) (find_read rooms place room rises.1 is)
 
 -- The objects of a room that is kept are those of its table.
-pub kept_told : (rooms : List RoomInView) (objects : List Standing) (sight : Sight) → Rises index_in rooms → HaveTables rooms (map shown objects) → map shown objects ≡ sight.objects → (place : ℕ) (room : RoomInView) → slice_get rooms place ≡ Some room
+pub kept_told : (rooms : List RoomInView) (objects : List Placed) (sight : Sight) → Rises index_in rooms → HaveTables rooms objects → objects ≡ sight.objects → (place : ℕ) (room : RoomInView) → slice_get rooms place ≡ Some room
     → objects_at sight room.index ≡ room.room.now.table.objects
 kept_told rooms objects sight rises have same place room is =
     objects_told room.index rooms objects sight have same (Some room) (sym (find_read rooms place room rises is))

@@ -1,5 +1,6 @@
 -- What a module is told of what its player sees.
-use Rattle.std.specs.Prelude.{ℕ, suc, ◌+◌, ◌-◌, ◌*◌, ◌==◌, ◌&&◌, nat_lt, if◌then◌else◌, List, [], ◌∷◌, length, map, Option, Some, None, option_map, option_and_then, slice_get}
+use Rattle.std.specs.Prelude.{ℕ, suc, ◌+◌, ◌-◌, ◌*◌, ◌==◌, ◌&&◌, nat_lt, if◌then◌else◌, List, [], ◌∷◌, length}
+use Rattle.std.specs.Prelude.{map, Option, Some, None, option_map, option_and_then, slice_get}
 use Rattle.std.specs.List.{filter, find}
 use Rattle.game_tables.specs.Bodies.{part_hits}
 use Rattle.game_tables.specs.Kinds.{hits_max, is_controller}

@@ -57,6 +57,12 @@ pub record Sight : Type 0 where
   pub rooms : List SeenRoom
   pub objects : List Placed
 
+-- how many controllers the player owns, each of which stands in a room that he sees
+abbrev pub controller_count : Sight → ℕ
+controller_count sight =
+    count_by (λ placed. is_controller placed.object.kind && (placed.object.owner == sight.account.player))
+    sight.objects
+
 -- what the player of this account sees
 abbrev pub sight_of : World → Account → Sight
 sight_of world account = record {

@@ -1,2 +1,3 @@
 -- Definitions that private functions and proofs cite alone.
 pub mod Gathered
+pub mod Places

@@ -1,9 +1,11 @@
 // What a player sees, gathered room by room.
 ghost use Rattle.std.specs.Prelude.{◌≡◌, ◌+◌, ◌<◌, ◌≤◌, ◌^◌, ◌++◌, [], ◌∷◌, length, OnOk, IfOk};
-ghost use Rattle.std.specs.List.{count_by, filter, list_any};
+ghost use Rattle.std.specs.List.{count_by, list_any};
 ghost use Rattle.game_tables.specs.Limits.{most_rooms};
 ghost use Rattle.visible_view.specs.Sights.{gives_sight as giving_sight};
-ghost use Rattle.visible_view.specs.inner.Gathered.{is_flagged as flagged, is_site_of, IsAdded, IsGathered};
+ghost use Rattle.visible_view.specs.inner.Gathered.{is_flagged as flagged, is_controller_of, is_site_of};
+ghost use Rattle.visible_view.specs.inner.Gathered.{IsAdded, IsGathered};
+ghost use Rattle.visible_view.specs.inner.Places.{flagged_from};
 
 use crate::NoMemory;
 use game_tables::{is_building, is_controller, is_creep, is_site};
@@ -18,12 +20,13 @@ pub struct RoomInView<'a> {
 }
 
 /// What is seen of some rooms: those that are seen in rising index, a flag for each room whether it
-/// is seen, and the number of the player's sites in all rooms.
+/// is seen, and the numbers of the player's sites and controllers in all rooms.
 #[derive(Drop)]
 pub struct Gathered<'a> {
     pub rooms: Vec<RoomInView<'a>>,
     pub flags: Vec<bool>,
     pub sites: u64,
+    pub controllers: u64,
 }
 
 /// Gathers what a player sees of the rooms.
@@ -35,6 +38,7 @@ pub fn gather<'a>(alloc: Global, rooms: &'a [Room], player: u32) -> Result<Gathe
         rooms: Vec::new(alloc),
         flags: Vec::new(alloc),
         sites: 0,
+        controllers: 0,
     };
     for (index, room) in rooms.iter().enumerate() {
         gathered.add(index as u32, room, player)?;
@@ -42,21 +46,19 @@ pub fn gather<'a>(alloc: Global, rooms: &'a [Room], player: u32) -> Result<Gathe
     Ok(gathered)
 }
 
-/// The objects of the rooms that are flagged, in the order of all.
-pub fn flagged_objects<'a>(
-    alloc: Global,
-    all: &[Standing<'a>],
-    flags: &[bool],
-) -> Result<Vec<Standing<'a>>, NoMemory>
-    ensures { IfOk result (λ seen. seen.items ≡ filter (flagged flags.now) all.now) }
+/// The places of the objects whose rooms are flagged, in rising order. Memory is taken once, for as many
+/// as there are objects.
+pub fn flagged_places(alloc: Global, all: &[Standing], flags: &[bool]) -> Result<Vec<u32>, NoMemory>
+    requires { length all.now < 2 ^ 32 }
+    ensures { IfOk result (λ places. places.items ≡ flagged_from flags.now 0 all.now) }
 {
-    let mut seen = Vec::new(alloc);
-    for standing in all {
+    let mut places = Vec::with_capacity(alloc, all.len())?;
+    for (place, standing) in all.iter().enumerate() {
         if is_flagged(flags, standing) {
-            seen.push(*standing)?;
+            places.push_reserved(place as u32);
         }
     }
-    Ok(seen)
+    Ok(places)
 }
 
 fn is_flagged(flags: &[bool], standing: &Standing) -> bool
@@ -66,14 +68,17 @@ fn is_flagged(flags: &[bool], standing: &Standing) -> bool
 }
 
 impl<'a> Gathered<'a> {
-    // Adds what is seen of a room, and the player's sites there.
+    // Adds what is seen of a room, and the player's sites and controllers there.
     fn add(&mut self, index: u32, room: &'a Room, player: u32) -> Result<(), NoMemory>
-        requires { self.old.sites < 2 ^ 63 }
+        requires sites { self.old.sites < 2 ^ 63 }
+        requires controllers { self.old.controllers < 2 ^ 63 }
         ensures added { OnOk result (IsAdded player index room.now self.old self.new) }
-        ensures few { OnOk result (self.new.sites < self.old.sites + 2 ^ 32) }
+        ensures few_sites { OnOk result (self.new.sites < self.old.sites + 2 ^ 32) }
+        ensures few_controllers { OnOk result (self.new.controllers < self.old.controllers + 2 ^ 32) }
     {
         let found = tally(&room.table, player);
         self.sites += found.sites;
+        self.controllers += found.controllers;
         self.flags.push(found.is_seen)?;
         if found.is_seen {
             self.rooms.push(RoomInView { index, room })?;
@@ -87,6 +92,7 @@ impl<'a> Gathered<'a> {
 struct Tallied {
     is_seen: bool,
     sites: u64,
+    controllers: u64,
 }
 
 fn gives_sight(object: &Object, player: u32) -> bool
@@ -96,11 +102,12 @@ fn gives_sight(object: &Object, player: u32) -> bool
         && (is_creep(object.kind) || is_building(object.kind) || is_controller(object.kind))
 }
 
-// Whether the player sees a room, and how many sites he has there.
+// Whether the player sees a room, and how many sites and controllers he has there.
 fn tally(table: &RoomTable, player: u32) -> Tallied
     ensures seen { result.is_seen ≡ list_any (giving_sight player) table.now.objects }
     ensures sites { result.sites ≡ count_by (is_site_of player) table.now.objects }
-    ensures few { result.sites < 2 ^ 32 }
+    ensures controllers { result.controllers ≡ count_by (is_controller_of player) table.now.objects }
+    ensures few { (result.sites < 2 ^ 32) × (result.controllers < 2 ^ 32) }
 {
     if table.has_owner(player) {
         tally_objects(table.objects(), player)
@@ -108,6 +115,7 @@ fn tally(table: &RoomTable, player: u32) -> Tallied
         Tallied {
             is_seen: false,
             sites: 0,
+            controllers: 0,
         }
     }
 }
@@ -116,15 +124,20 @@ fn tally_objects(objects: Objects<'_>, player: u32) -> Tallied
     requires { length objects < 2 ^ 32 }
     ensures seen { result.is_seen ≡ list_any (giving_sight player) objects.entry }
     ensures sites { result.sites ≡ count_by (is_site_of player) objects.entry }
-    ensures few { result.sites ≤ length objects.entry }
+    ensures controllers { result.controllers ≡ count_by (is_controller_of player) objects.entry }
+    ensures few { (result.sites ≤ length objects.entry) × (result.controllers ≤ length objects.entry) }
 {
     let mut found = Tallied {
         is_seen: false,
         sites: 0,
+        controllers: 0,
     };
     for object in objects {
-        found.is_seen |= gives_sight(object, player);
-        found.sites += u64::from(is_site(object.kind) && object.owner == player);
+        if object.owner == player {
+            found.is_seen |= gives_sight(object, player);
+            found.sites += u64::from(is_site(object.kind));
+            found.controllers += u64::from(is_controller(object.kind));
+        }
     }
     found
 }

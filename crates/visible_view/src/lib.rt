@@ -3,6 +3,7 @@
 
 mod field;
 mod gather;
+mod listed;
 mod view;
 
 pub use std::alloc::AllocError as NoMemory;

@@ -1,5 +1,6 @@
 // What a player sees of the world, made once for a run and asked at every host call.
-ghost use Rattle.std.specs.Prelude.{◌≡◌, ◌==◌, ◌≤◌, ◌<◌, ◌^◌, [], length, map, slice_get, Option, Some, None, option_map, IfSome, IfNone, IfOk};
+ghost use Rattle.std.specs.Prelude.{◌≡◌, ◌==◌, ◌≤◌, ◌<◌, ◌^◌, [], length, map, slice_get, Option, Some, None};
+ghost use Rattle.std.specs.Prelude.{option_map, IfSome, IfNone, IfOk};
 ghost use Rattle.std.specs.List.{find};
 ghost use Rattle.std.specs.Option.{unwrap_or};
 ghost use Rattle.std.specs.List.Sorted.{IsPartitionPoint};
@@ -10,14 +11,16 @@ ghost use Rattle.object_store.specs.Stores.{capacity_as};
 ghost use Rattle.object_store.proofs.Rising.{Rises};
 ghost use Rattle.world_rules.specs.Sound.{IsSound};
 ghost use Rattle.world_rules.specs.World.{shown, world_of};
-ghost use Rattle.world_roster.specs.Rosters.{id_in};
-ghost use Rattle.visible_view.specs.Sights.{sight_of};
-ghost use Rattle.visible_view.specs.Fields.{controller_at, field_at, field_of as told_field, ground_at, objects_at, place_of, room_at, room_place as place_of_room};
+ghost use Rattle.visible_view.specs.Sights.{controller_count, sight_of};
+ghost use Rattle.visible_view.specs.Fields.{controller_at, field_at, field_of as told_field, ground_at};
+ghost use Rattle.visible_view.specs.Fields.{objects_at, place_of, room_at, room_place as place_of_room};
 ghost use Rattle.visible_view.specs.inner.Gathered.{index_in};
+ghost use Rattle.visible_view.specs.inner.Places.{objects_of};
 
 use crate::NoMemory;
 use crate::field::{ground_of, part_field};
-use crate::gather::{RoomInView, flagged_objects, gather};
+use crate::gather::{RoomInView, flagged_places, gather};
+use crate::listed::{Listed, position_of, standing_at};
 use game_tables::hits_max;
 use object_store::{
     Account, Ground, Object, RoomName, RoomTable, Standing, Terrain, World, capacity,
@@ -29,7 +32,8 @@ use world_roster::Roster;
 /// What a player sees of a world: the rooms in which a creep, a building or a controller of his
 /// stands, with all that is in them, his account, and the number of his sites in all rooms.
 ///
-/// It is made once a run and refers to the world. Its calls take no memory. One by an id or by a
+/// It is made once a run and refers to the world, of whose objects, as they are listed once a tick, it
+/// keeps only the places of those that are seen. Its calls take no memory. One by an id or by a
 /// room's index halves what is seen until it is found; one by a place takes always the same time,
 /// but for a capacity, which asks for the room's controller or counts a creep's live parts.
 #[derive(Drop)]
@@ -37,15 +41,17 @@ pub struct View<'a> {
     tick: u64,
     account: &'a Account,
     sites: u32,
+    controllers: u32,
     rooms: Vec<RoomInView<'a>>,
-    objects: Vec<Standing<'a>>,
+    listed: Listed<'a>,
+    places: Vec<u32>,
 }
 
 impl<'a> Model for View<'a> {
     ghost use Rattle.std.specs.Prelude.{map};
-    ghost use Rattle.world_rules.specs.World.{shown};
     ghost use Rattle.visible_view.specs.Sights.{Sight};
-    ghost use Rattle.visible_view.specs.inner.Gathered.{shown_room, IsKept};
+    ghost use Rattle.visible_view.specs.inner.Gathered.{shown_room};
+    ghost use Rattle.visible_view.specs.inner.Places.{all_of, at_places, IsKept};
 
     ghost Value = { Sight };
 
@@ -54,10 +60,11 @@ impl<'a> Model for View<'a> {
       account = v.account.now;
       sites = v.sites;
       rooms = map shown_room v.rooms.items;
-      objects = map shown v.objects.items;
+      objects = at_places (all_of v.listed) v.places.items;
     } };
 
-    ghost invariant = { λ v. IsKept v.rooms.items v.objects.items };
+    ghost invariant = { λ v. IsKept v.account.now.player v.controllers v.rooms.items (all_of v.listed)
+        v.places.items };
 }
 
 impl<'a> View<'a> {
@@ -71,15 +78,15 @@ impl<'a> View<'a> {
             × (view ≡ sight_of (world_of world.now) account)) }
     {
         let roster = Roster::of(alloc, world)?;
-        View::among(alloc, world, &roster, player)
+        View::by(alloc, world, Listed::Own(roster), player)
     }
 
     /// What the player sees, by the world's objects in rising id, as they are listed once for all
-    /// players. It takes one pass over them.
+    /// players. It takes one pass over them, and keeps their places alone.
     pub fn among(
         alloc: Global,
         world: &'a World,
-        roster: &Roster<'a>,
+        roster: &'a Roster<'a>,
         player: u32,
     ) -> Result<View<'a>, NoMemory>
         requires account { HasAccount player world.now.accounts }
@@ -90,15 +97,35 @@ impl<'a> View<'a> {
             (λ view. (account : Account) × (find_account player world.now.accounts ≡ Some account)
             × (view ≡ sight_of (world_of world.now) account)) }
     {
+        View::by(alloc, world, Listed::Lent(roster), player)
+    }
+
+    // What the player sees, by the world's objects.
+    fn by(
+        alloc: Global,
+        world: &'a World,
+        listed: Listed<'a>,
+        player: u32,
+    ) -> Result<View<'a>, NoMemory>
+        requires account { HasAccount player world.now.accounts }
+        requires sound { IsSound world.now }
+        requires rooms { length world.now.rooms ≤ most_rooms }
+        requires listed { objects_of listed ≡ (world_of world.now).objects }
+        ensures { IfOk result
+            (λ view. (account : Account) × (find_account player world.now.accounts ≡ Some account)
+            × (view ≡ sight_of (world_of world.now) account)) }
+    {
         let account = world.account(player).unwrap();
         let seen = gather(alloc, world.room_list(), player)?;
-        let objects = flagged_objects(alloc, roster.list(), &seen.flags)?;
+        let places = flagged_places(alloc, listed.list(), &seen.flags)?;
         Ok(View {
             tick: world.tick(),
             account,
             sites: seen.sites as u32,
+            controllers: seen.controllers as u32,
             rooms: seen.rooms,
-            objects,
+            listed,
+            places,
         })
     }
 
@@ -123,11 +150,18 @@ impl<'a> View<'a> {
         self.sites
     }
 
+    /// How many controllers the player owns. He sees each of them.
+    pub fn controllers(&self) -> u32
+        ensures { result ≡ controller_count self.now }
+    {
+        self.controllers
+    }
+
     /// The number of objects.
     pub fn count(&self) -> u32
         ensures { result ≡ length self.now.objects }
     {
-        self.objects.len() as u32
+        self.places.len() as u32
     }
 
     /// The object at a place among those that are seen, from 0 on, in rising id.
@@ -135,24 +169,25 @@ impl<'a> View<'a> {
         ensures { option_map (λ object. object.now) result ≡ option_map (λ placed. placed.object)
             (slice_get self.now.objects index) }
     {
-        let placed = self.objects.get(index as usize)?;
-        Some(placed.object)
+        let standing = self.standing(index)?;
+        Some(standing.object)
     }
 
     /// The object at a place, with its room.
     pub fn standing(&self, index: u32) -> Option<Standing<'_>>
         ensures { option_map (λ standing. shown standing) result ≡ slice_get self.now.objects index }
     {
-        self.objects.get(index as usize).copied()
+        let place = *self.places.get(index as usize)?;
+        standing_at(self.listed.list(), place)
     }
 
     /// The place of an object of this id.
     pub fn find(&self, id: u64) -> Option<u32>
         ensures { result ≡ place_of id self.now.objects }
     {
-        let place = object_place(&self.objects, id);
-        match self.objects.get(place) {
-            Some(placed) if placed.object.id == id => Some(place as u32),
+        let index = position_of(self.listed.list(), &self.places, id) as u32;
+        match self.standing(index) {
+            Some(standing) if standing.object.id == id => Some(index),
             _ => None,
         }
     }
@@ -235,8 +270,8 @@ impl<'a> View<'a> {
     pub fn field(&self, index: u32, field: u32) -> Option<u64>
         ensures { result ≡ field_at self.now index field }
     {
-        let placed = self.objects.get(index as usize)?;
-        self.field_of(placed, field)
+        let placed = self.standing(index)?;
+        self.field_of(&placed, field)
     }
 
     fn field_of(&self, placed: &Standing, field: u32) -> Option<u64>
@@ -280,16 +315,6 @@ impl<'a> View<'a> {
     {
         room_of(&self.rooms, room)?.room.table.controller()
     }
-}
-
-// The place of an id among the objects, or where it would be.
-fn object_place(objects: &[Standing], id: u64) -> usize
-    requires { Rises id_in objects.now }
-    ensures within { result ≤ length objects.now }
-    ensures between { IsPartitionPoint (λ placed. placed.object.now.id < id)
-        (λ placed. id ≤ placed.object.now.id) objects.now result }
-{
-    objects.partition_point(|placed| placed.object.id < id)
 }
 
 // The place of an index among the rooms, or where it would be.

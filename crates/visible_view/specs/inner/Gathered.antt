@@ -1,13 +1,14 @@
 -- What is gathered of the stored rooms for a player, room by room. For private clauses.
-use Rattle.std.specs.Prelude.{◌≡◌, ℕ, suc, ◌+◌, ◌^◌, ◌<◌, ◌==◌, ◌&&◌, Bool, true, false, if◌then◌else◌, List, [], ◌∷◌, ◌++◌, length, map, slice_get, slice_index_or, Option, Some, None, option_map, option_and_then}
+use Rattle.std.specs.Prelude.{◌≡◌, ℕ, suc, ◌+◌, ◌<◌, ◌==◌, ◌&&◌, Bool, true, false, if◌then◌else◌, List}
+use Rattle.std.specs.Prelude.{[], ◌∷◌, ◌++◌, length, map, slice_get, slice_index_or, Option, Some, None}
+use Rattle.std.specs.Prelude.{option_map, option_and_then}
 use Rattle.std.specs.List.{AllByRecursion, count_by, filter, find, list_any, sum_by}
 use Rattle.std.specs.Option.{unwrap_or}
 use Rattle.object_store.specs.declared.object.Object.{Object}
 use Rattle.object_store.specs.declared.standing.Standing.{Standing}
 use Rattle.object_store.specs.declared.world.Room.{Room}
-use Rattle.game_tables.specs.Kinds.{is_site}
-use Rattle.world_rules.specs.World.{Placed, shown}
-use Rattle.world_roster.specs.Rosters.{id_in}
+use Rattle.game_tables.specs.Kinds.{is_controller, is_site}
+use Rattle.world_rules.specs.World.{Placed}
 use Rattle.visible_view.specs.Sights.{SeenRoom, gives_sight}
 use Rattle.visible_view.specs.declared.gather.RoomInView.{RoomInView}
 use Rattle.visible_view.specs.declared.gather.Gathered.{Gathered}
@@ -31,6 +32,10 @@ is_seen player room = list_any (gives_sight player) room.table.objects
 abbrev pub is_site_of : ℕ → Object → Bool
 is_site_of player object = is_site object.kind && (object.owner == player)
 
+-- It is a controller of the player.
+abbrev pub is_controller_of : ℕ → Object → Bool
+is_controller_of player object = is_controller object.kind && (object.owner == player)
+
 -- what is taken of rooms, from an index on
 abbrev pub from_each : {A : Type 0} → (ℕ → Room → List A) → ℕ → List Room → List A
 from_each taken index [] = []
@@ -49,6 +54,10 @@ room_if_seen player index room =
 -- the player's sites in a room
 abbrev pub sites_at : ℕ → Room → ℕ
 sites_at player room = count_by (is_site_of player) room.table.objects
+
+-- the player's controllers in a room
+abbrev pub controllers_at : ℕ → Room → ℕ
+controllers_at player room = count_by (is_controller_of player) room.table.objects
 
 -- the objects of a room that is kept
 abbrev pub kept_objects : ℕ → List RoomInView → Option (List Object)
@@ -83,24 +92,15 @@ pub record IsAdded (player index : ℕ) (room : Room) (old new : Gathered) : Typ
   pub rooms : KeepsRoomIf (is_seen player room) index room old.rooms.items new.rooms.items
   pub flags : new.flags.items ≡ old.flags.items ++ is_seen player room ∷ []
   pub sites : new.sites ≡ old.sites + sites_at player room
+  pub controllers : new.controllers ≡ old.controllers + controllers_at player room
 
 -- All that is seen of these rooms is gathered.
 pub record IsGathered (player : ℕ) (rooms : List Room) (gathered : Gathered) : Type 0 where
   pub shown : map shown_room gathered.rooms.items ≡ from_each (room_if_seen player) 0 rooms
   pub flags : gathered.flags.items ≡ map (is_seen player) rooms
   pub sites : gathered.sites ≡ sum_by (sites_at player) rooms
+  pub controllers : gathered.controllers ≡ sum_by (controllers_at player) rooms
   pub rising : Rises index_in gathered.rooms.items
   pub below : AllByRecursion (λ room. room.index < length rooms) gathered.rooms.items
   pub tables : (index : ℕ) → kept_objects index gathered.rooms.items
       ≡ option_and_then (objects_if_seen player) (slice_get rooms index)
-
--- ---- what a view keeps
-
--- The rooms rise by their index and the objects by their id, their numbers fit, and the objects are those of
--- the rooms' tables.
-pub record IsKept (rooms : List RoomInView) (objects : List Standing) : Type 0 where
-  pub places : Rises index_in rooms
-  pub ids : Rises id_in objects
-  pub few_rooms : length rooms < 2 ^ 32
-  pub few_objects : length objects < 2 ^ 32
-  pub tables : HaveTables rooms (map shown objects)

@@ -14,5 +14,6 @@ loop-index-preserved c =
     let more : take (index + 1) rooms ≡ take index rooms ++ room ∷ [] = take_more rooms index room c.loop-index-test.true ∙ ap (λ (r : Room). take index rooms ++ r ∷ []) (sym c.index-rooms-index.is) in
     record {
       gathered = subst (λ (taken : List Room). IsGathered c.args.player taken c.add.new.self) (sym more) (gathered_more c.args.player index (take index rooms) room c.loop-index.gathered c.add.new.self (sym place) c.loop-index.invariant.gathered c.in_ok-add.ensures.added);
-      few = omega (arith, c.in_ok-add.ensures.few);
+      few_sites = omega (arith, c.in_ok-add.ensures.few_sites);
+      few_controllers = omega (arith, c.in_ok-add.ensures.few_controllers);
     }

@@ -13,4 +13,5 @@ returns-in_ok-push-2-clause-added c =
       rooms = subst (λ b. KeepsRoomIf b c.args.index room old.rooms.items c.push-then-found.new.self.items) (sym seen) (record { kept = record { index = c.args.index; room = c.args.room }; last = c.in_ok-push-2.ensures.items; place = refl; stored = refl });
       flags = c.in_ok-push.ensures.items ∙ ap (λ b. old.flags.items ++ b ∷ []) found.ensures.seen;
       sites = ap (λ n. old.sites + n) found.ensures.sites;
+      controllers = ap (λ n. old.controllers + n) found.ensures.controllers;
     }

@@ -1,33 +1,41 @@
-use Rattle.std.proofs.Common.{ap, ◌∙◌}
-use Rattle.std.proofs.lemmas.Bool.{both_ways}
-use Rattle.std.proofs.lemmas.List.{get_or_default}
-use Rattle.std.specs.Option.{is_some}
-use Rattle.visible_view.specs.Sights.{Sight}
-use Rattle.world_roster.specs.Rosters.{id_in}
+use Rattle.std.proofs.Common.{◌≡◌, ◌<◌, ◌≤◌, Some, None, List, option_map, sym, ap, subst, ◌∙◌}
+use Rattle.std.specs.Prelude.{slice_get}
+use Rattle.std.specs.List.Sorted.{IsPartitionPoint}
 use Rattle.world_rules.specs.World.{Placed, shown}
-use Rattle.visible_view.proofs.Told.{place_found, place_missing}
+use Rattle.visible_view.specs.Sights.{Sight}
+use Rattle.visible_view.specs.Fields.{place_of}
+use Rattle.visible_view.specs.inner.Places.{all_of, id_at}
+use Rattle.visible_view.proofs.Places.{find_missed, find_read, id_if}
 use Rattle.visible_view.proofs.view.View.find.Goals as goal
+
+none_some : {X : Type 0} {x : X} → None ≡ Some x → ⊥
+none_some e = cc
 
 pub returns-in-Some : goal.returns-in-Some
 returns-in-Some c =
-    let view = c.args.self.now in
-    let listed = c.deref-2 in
-    place_found (λ (p : Placed). p.object.id) shown c.args.id c.self.inside.objects.items view.objects (ap (λ (s : Sight). s.objects) c.self.view_is) c.self.invariant.ids c.object_place-place.result listed.result.now listed.ensures.value c.in-Some.placed.now c.in-Some.ensures.lookup.0 c.in-Some.ensures.lookup.1 c.if-placed-id.true
+    let index = c.position_of-index.result in
+    let objects = ap (λ (s : Sight). s.objects) c.self.view_is in
+    let read = ap (λ (ps : List Placed). slice_get ps index) objects ∙ sym c.in-Some.ensures in
+    find_read (all_of c.self.inside.listed) c.self.inside.places.items c.self.invariant.below c.self.invariant.ids c.args.id index (shown c.in-Some.standing) read c.if-standing-id.true
+    ∙ ap (place_of c.args.id) objects
 
 pub returns-in_default : goal.returns-in_default
 returns-in_default c =
-    let view = c.args.self.now in
-    let seen = c.deref in
-    let listed = c.deref-2 in
-    let place = c.object_place-place in
-    place_missing (λ (p : Placed). p.object.id) shown c.args.id c.self.inside.objects.items view.objects (ap (λ (s : Sight). s.objects) c.self.view_is) c.self.invariant.ids place.result listed.result.now listed.ensures.value seen.result.now seen.ensures.value place.ensures.within place.ensures.between
-    (λ d within here. c.if-placed-id.false (ap id_in (c.in-Some.ensures.lookup.1 ∙ get_or_default listed.result.now place.result c.in-Some.placed.now d within) ∙ here))
+    let index = c.position_of-index.result in
+    let all = all_of c.self.inside.listed in
+    let objects = ap (λ (s : Sight). s.objects) c.self.view_is in
+    let point = subst (λ (ps : List Placed). IsPartitionPoint (λ place. id_at ps place < c.args.id) (λ place. c.args.id ≤ id_at ps place) c.deref.result.now index) c.list.ensures.all c.position_of-index.ensures.between in
+    let read = ap (λ (ps : List Placed). slice_get ps index) objects ∙ sym c.in-Some.ensures in
+    find_missed all c.self.inside.places.items c.self.invariant.below c.self.invariant.ids c.args.id c.deref.result.now c.deref.ensures.value index c.position_of-index.ensures.within point
+    (λ placed is here. let same : Some placed ≡ Some (shown c.in-Some.standing) = sym is ∙ read in c.if-standing-id.false (sym (ap id_if same) ∙ here))
+    ∙ ap (place_of c.args.id) objects
 
 pub returns-in_default-2 : goal.returns-in_default-2
 returns-in_default-2 c =
-    let view = c.args.self.now in
-    let seen = c.deref in
-    let listed = c.deref-2 in
-    let place = c.object_place-place in
-    place_missing (λ (p : Placed). p.object.id) shown c.args.id c.self.inside.objects.items view.objects (ap (λ (s : Sight). s.objects) c.self.view_is) c.self.invariant.ids place.result listed.result.now listed.ensures.value seen.result.now seen.ensures.value place.ensures.within place.ensures.between
-    (λ d within here. both_ways (is_some c.get.result) (ap is_some c.in_default.is) (c.get.ensures.lookup.2 within))
+    let index = c.position_of-index.result in
+    let all = all_of c.self.inside.listed in
+    let objects = ap (λ (s : Sight). s.objects) c.self.view_is in
+    let point = subst (λ (ps : List Placed). IsPartitionPoint (λ place. id_at ps place < c.args.id) (λ place. c.args.id ≤ id_at ps place) c.deref.result.now index) c.list.ensures.all c.position_of-index.ensures.between in
+    find_missed all c.self.inside.places.items c.self.invariant.below c.self.invariant.ids c.args.id c.deref.result.now c.deref.ensures.value index c.position_of-index.ensures.within point
+    (λ placed is here. none_some (sym (ap (option_map shown) c.in_default.is) ∙ c.standing.ensures ∙ sym (ap (λ (ps : List Placed). slice_get ps index) objects) ∙ is))
+    ∙ ap (place_of c.args.id) objects
