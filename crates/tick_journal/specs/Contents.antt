@@ -83,14 +83,3 @@ tick_content entry =
 abbrev pub run_entry : PlayerRun → RunEntry
 run_entry run =
     record { player = run.player; outcome = run.outcome; used = run.used; intents = run.intents }
-
--- the record of a tick that holds every account and every room
-abbrev pub whole_record : List UploadEntry → List PlayerRun → Stored → TickRecord
-whole_record uploads runs world =
-    record {
-      tick = world.tick;
-      uploads = uploads;
-      runs = map run_entry runs;
-      accounts = world.accounts;
-      rooms = map (λ room. room.table) world.rooms;
-    }

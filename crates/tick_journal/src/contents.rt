@@ -1,15 +1,14 @@
 // The contents of frames, as bytes.
 ghost use Rattle.std.specs.Prelude.{◌≡◌, ◌++◌, IfOk, OnOk};
 ghost use Rattle.byteorder.specs.Endian.{little_bytes};
-ghost use Rattle.tick_journal.specs.Contents.{base_content, magic, tick_content as tick_bytes, whole_record};
+ghost use Rattle.tick_journal.specs.Contents.{base_content, magic, tick_content as tick_bytes};
 ghost use Rattle.tick_journal.specs.Numbers.{RecordFits, WorldFits};
 
 use crate::base::{MARK, VERSION, put_base_rooms};
 use crate::entries::{RunEntry, UploadEntry};
-use crate::parts::{put_accounts, put_player_runs, put_rooms, put_runs, put_tables, put_uploads};
+use crate::parts::{put_accounts, put_runs, put_tables, put_uploads};
 use crate::tick_record::TickRecord;
 use byte_fields::{put_u32, put_u64};
-use intent_book::PlayerRun;
 use object_store::{Account, Room, RoomTable, World};
 use std::alloc::{AllocError as NoMemory, Global};
 
@@ -71,15 +70,6 @@ fn run_size(intents: usize) -> usize {
 }
 
 // Reckons the bytes of runs.
-fn player_runs_size(runs: &[PlayerRun]) -> usize {
-    let mut bytes = 0usize;
-    for run in runs {
-        bytes = bytes.saturating_add(run_size(run.intents.as_slice().len()));
-    }
-    bytes
-}
-
-// Reckons the bytes of recorded runs.
 fn runs_size(runs: &[RunEntry]) -> usize {
     let mut bytes = 0usize;
     for run in runs {
@@ -118,33 +108,6 @@ pub fn write_base(alloc: Global, world: &World) -> Result<Vec<u8>, NoMemory>
     put_start(world.tick(), &mut out)?;
     put_base_rooms(world.room_list(), &mut out)?;
     put_accounts(world.account_list(), &mut out)?;
-    Ok(out)
-}
-
-/// The content of a tick's frame, with every account and every room of the world after it.
-pub fn tick_content(
-    alloc: Global,
-    uploads: &[UploadEntry],
-    runs: &[PlayerRun],
-    world: &World,
-) -> Result<Vec<u8>, NoMemory>
-    ensures { IfOk result (λ bytes. bytes.items ≡ tick_bytes (whole_record uploads.now runs.now world.now)) }
-{
-    let rooms = rooms_size(TICK_ROOM, world.room_list());
-    let accounts = accounts_size(world.account_list());
-    let entries = [
-        uploads_size(uploads),
-        player_runs_size(runs),
-        accounts,
-        rooms,
-    ];
-    let mut out = Vec::with_capacity(alloc, together(&entries))?;
-    out.push(b'T')?;
-    put_u64(&mut out, world.tick())?;
-    put_uploads(uploads, &mut out)?;
-    put_player_runs(runs, &mut out)?;
-    put_accounts(world.account_list(), &mut out)?;
-    put_rooms(world.room_list(), &mut out)?;
     Ok(out)
 }
 

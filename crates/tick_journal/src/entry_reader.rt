@@ -1,14 +1,17 @@
 // Uploads, runs and tables of a tick, read from the front of bytes. Where none are there, the cursor
 // may stand anywhere.
-ghost use Rattle.std.specs.Prelude.{◌≡◌, ◌≤◌, ◌<◌, ◌^◌, [], ◌∷◌, ◌↔◌, ℕ, List, IsTrue, IfOk, IfErr, IfSome, IfNone};
+ghost use Rattle.std.specs.Prelude.{◌≡◌, ◌≤◌, ◌<◌, ◌^◌, [], ◌∷◌, ◌↔◌, ℕ, List, IsTrue, IfOk, IfErr, IfSome};
+ghost use Rattle.std.specs.Prelude.{IfNone};
 ghost use Rattle.std.specs.List.{AllByRecursion};
 ghost use Rattle.intent_book.specs.declared.player_run.RunOutcome.{RunOutcome as Outcome};
 ghost use Rattle.world_bytes.specs.Forms.{intent_bytes, room_bytes};
 ghost use Rattle.world_bytes.specs.inner.Rows.{Leads, LeadsNone};
 ghost use Rattle.tick_journal.specs.Contents.{outcome_bytes, run_bytes, upload_bytes};
-ghost use Rattle.tick_journal.specs.TickForms.{AreCanonicalOf, HasRunForm, HasUploadForm, IsLasting, IsOutcome, IsRisingBy};
+ghost use Rattle.tick_journal.specs.TickForms.{AreCanonicalOf, HasRunForm, HasUploadForm, IsLasting};
+ghost use Rattle.tick_journal.specs.TickForms.{IsOutcome, IsRisingBy};
 ghost use Rattle.tick_journal.specs.inner.Lists.{listed};
-ghost use Rattle.tick_journal.specs.inner.Reading.{AreReadTables, HasModuleForm, HasRunsForm, HasUploadsForm, before, module_bytes, rank};
+ghost use Rattle.tick_journal.specs.inner.Reading.{AreReadTables, HasModuleForm, HasRunsForm, HasUploadsForm};
+ghost use Rattle.tick_journal.specs.inner.Reading.{before, module_bytes, rank};
 
 use crate::NoMemory;
 use crate::entries::{RunEntry, UploadEntry};

@@ -12,7 +12,7 @@ mod read_base;
 mod tick_reader;
 mod tick_record;
 
-pub use contents::{tick_content, write_base, write_tick};
+pub use contents::{write_base, write_tick};
 pub use entries::{RunEntry, UploadEntry};
 pub use laws::{bases_are_one, tick_contents_are_one};
 pub use read_base::read_base_form;

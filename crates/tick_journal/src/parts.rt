@@ -1,6 +1,6 @@
 // Uploads, runs, accounts and rooms of a tick, written to the end of bytes.
-ghost use Rattle.std.specs.Prelude.{◌≡◌, ◌++◌, map, OnOk};
-ghost use Rattle.tick_journal.specs.Contents.{outcome_bytes, run_bytes, run_entry, upload_bytes};
+ghost use Rattle.std.specs.Prelude.{◌≡◌, ◌++◌, OnOk};
+ghost use Rattle.tick_journal.specs.Contents.{outcome_bytes, run_bytes, upload_bytes};
 ghost use Rattle.tick_journal.specs.Numbers.{RunFits, UploadFits};
 ghost use Rattle.tick_journal.specs.inner.Lists.{listed, ListFits};
 ghost use Rattle.world_bytes.specs.Forms.{account_bytes, intent_bytes, room_bytes};
@@ -9,8 +9,8 @@ ghost use Rattle.world_bytes.specs.Numbers.{AccountFits, IntentFits, TableFits};
 use crate::NoMemory;
 use crate::entries::{RunEntry, UploadEntry};
 use byte_fields::{put_u32, put_u64};
-use intent_book::{Intent, PlayerRun, RunOutcome};
-use object_store::{Account, Room, RoomTable};
+use intent_book::{Intent, RunOutcome};
+use object_store::{Account, RoomTable};
 use world_bytes::{put_length, write_account, write_intent, write_room};
 
 // Writes an upload, with its bytes behind their number.
@@ -78,27 +78,10 @@ fn put_run(
     put_intents(intents, out)
 }
 
-/// Writes recorded runs behind their number.
+/// Writes runs behind their number.
 pub(crate) fn put_runs(runs: &[RunEntry], out: &mut Vec<u8>) -> Result<(), NoMemory>
     ensures written { OnOk result (out.new.items ≡ out.old.items ++ listed run_bytes runs.now) }
     ensures fits { OnOk result (ListFits RunFits runs.now) }
-{
-    put_length(runs.len() as u64, out)?;
-    'each: for run in runs {
-        put_run(
-            run.player,
-            run.outcome,
-            run.used,
-            run.intents.as_slice(),
-            out,
-        )?;
-    }
-    Ok(())
-}
-
-/// Writes runs without their memory texts, behind their number.
-pub(crate) fn put_player_runs(runs: &[PlayerRun], out: &mut Vec<u8>) -> Result<(), NoMemory>
-    ensures { OnOk result (out.new.items ≡ out.old.items ++ listed run_bytes (map run_entry runs.now)) }
 {
     put_length(runs.len() as u64, out)?;
     'each: for run in runs {
@@ -133,18 +116,6 @@ pub(crate) fn put_tables(tables: &[RoomTable], out: &mut Vec<u8>) -> Result<(), 
     put_length(tables.len() as u64, out)?;
     'each: for table in tables {
         write_room(table.index(), table, out)?;
-    }
-    Ok(())
-}
-
-/// Writes rooms without their names and terrains, behind their number.
-pub(crate) fn put_rooms(rooms: &[Room], out: &mut Vec<u8>) -> Result<(), NoMemory>
-    ensures { OnOk result
-        (out.new.items ≡ out.old.items ++ listed room_bytes (map (λ room. room.table) rooms.now)) }
-{
-    put_length(rooms.len() as u64, out)?;
-    'each: for room in rooms {
-        write_room(room.table.index(), &room.table, out)?;
     }
     Ok(())
 }

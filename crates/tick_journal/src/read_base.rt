@@ -1,13 +1,16 @@
 // The world that a journal begins with, read from the content of its first frame.
-ghost use Rattle.std.specs.Prelude.{◌≡◌, ◌<◌, ◌≤◌, ◌^◌, ◌↔◌, ℕ, List, [], length, map, IsTrue, IfOk, IfErr, OnOk};
+ghost use Rattle.std.specs.Prelude.{◌≡◌, ◌<◌, ◌≤◌, ◌^◌, ◌↔◌, ℕ, List, [], length, map, IsTrue, IfOk, IfErr};
+ghost use Rattle.std.specs.Prelude.{OnOk};
 ghost use Rattle.std.specs.List.{AllByRecursion};
 ghost use Rattle.object_store.specs.Stored.{Stored, AreRising};
 ghost use Rattle.room_terrain.specs.Names.{IsInRange, IsSideInRange};
 ghost use Rattle.room_terrain.specs.Tiles.{ground_number};
 ghost use Rattle.room_terrain.specs.declared.terrain.Ground.{Ground};
-ghost use Rattle.tick_journal.specs.BaseForms.{AreInPlace, HasBaseAccounts, HasBaseRoomForm, HasBaseRooms, SpellsBase};
+ghost use Rattle.tick_journal.specs.BaseForms.{AreInPlace, HasBaseAccounts, HasBaseRoomForm, HasBaseRooms};
+ghost use Rattle.tick_journal.specs.BaseForms.{SpellsBase};
 ghost use Rattle.tick_journal.specs.Contents.{base_room};
-ghost use Rattle.tick_journal.specs.inner.Base.{AreTiles, IsTick, accounts_row, base_room_row, base_rooms_row, name_row, side_row, start_row, terrain_row};
+ghost use Rattle.tick_journal.specs.inner.Base.{AreTiles, IsTick, accounts_row, base_room_row};
+ghost use Rattle.tick_journal.specs.inner.Base.{base_rooms_row, name_row, side_row, start_row, terrain_row};
 ghost use Rattle.tick_journal.specs.inner.Rows.{AreListed, list_row};
 ghost use Rattle.world_bytes.specs.inner.Rows.{Leads, LeadsNone};
 
@@ -60,7 +63,8 @@ fn read_side(from: &mut Cursor) -> Result<i32, BytesFault>
 // Reads the name of a room.
 fn read_name(from: &mut Cursor) -> Result<RoomName, BytesFault>
     ensures found { IfOk result (λ name. Leads IsInRange name_row from.old.0 name from.new.0) }
-    ensures malformed { IfErr result (λ e. e ≡ BytesFault.Malformed → LeadsNone IsInRange name_row from.old.0) }
+    ensures malformed { IfErr result (λ e. e ≡ BytesFault.Malformed
+        → LeadsNone IsInRange name_row from.old.0) }
 {
     let column = read_side(from)?;
     let row = read_side(from)?;

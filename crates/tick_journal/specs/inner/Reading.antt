@@ -6,7 +6,8 @@ use Rattle.game_tables.specs.Actions.{action_number}
 use Rattle.intent_book.specs.declared.intent.Intent.{Intent}
 use Rattle.object_store.specs.Tables.{Table, without_spare}
 use Rattle.world_bytes.specs.Forms.{HasIntentForm, HasRoomForm}
-use Rattle.tick_journal.specs.TickForms.{HasRunForm, HasTickForm, HasUploadForm, IsRisingBy, tick_as_read, most_kept}
+use Rattle.tick_journal.specs.TickForms.{HasRunForm, HasTickForm, HasUploadForm, IsRisingBy, tick_as_read}
+use Rattle.tick_journal.specs.TickForms.{most_kept}
 use Rattle.tick_journal.specs.declared.entries.RunEntry.{RunEntry}
 use Rattle.tick_journal.specs.declared.entries.UploadEntry.{UploadEntry}
 use Rattle.tick_journal.specs.declared.tick_record.TickRecord.{TickRecord}

@@ -1,8 +1,0 @@
-use Rattle.std.proofs.Common.{◌≡◌, ◌++◌, map, length, take}
-use Rattle.std.specs.List.{flat_map}
-use Rattle.byteorder.specs.Endian.{little_bytes}
-use Rattle.world_bytes.specs.Forms.{room_bytes}
-use Rattle.tick_journal.proofs.parts.put_rooms.Given as goal
-
-abbrev pub invariant-each : goal.invariant-each
-invariant-each l = l.out.items ≡ l.fn.out.items ++ (little_bytes 4 (length l.rooms) ++ flat_map room_bytes (map (λ room. room.table) (take l.room-index l.rooms)))
