@@ -2,6 +2,7 @@
 #![tactic(auto)]
 
 mod at;
+mod base;
 mod fault;
 mod journal;
 mod laws;
@@ -11,9 +12,11 @@ mod uploaded;
 mod walk;
 
 pub use at::{TickRecords, records, span, tick_at, world_at};
+pub use base::read_base;
 pub use fault::{AppendFault, AtFault, RecoverFault};
 pub use journal::Journal;
 pub use laws::bytes_stand_for_one_journal;
 pub use recovered::{Modules, Recovered, UploadCount, UploadCounts};
 pub use std::alloc::AllocError as NoMemory;
+pub use tick_journal::BytesFault;
 pub use walk::Walk;

@@ -12,14 +12,14 @@ ghost use Rattle.world_journal.specs.Journals.{KeepsRules};
 ghost use Rattle.world_journal.specs.declared.fault.RecoverFault.TheVariants.{DiskFault};
 
 use crate::NoMemory;
+use crate::base::read_base;
 use crate::fault::RecoverFault;
 use changed_rules::Census;
 use frame_log::{Behind, read_frame};
 use object_store::World;
 use record_follows::advance;
-use rule_check::keeps_rules;
 use std::alloc::Global;
-use tick_journal::{BytesFault, TickRecord, read_base_form, read_tick};
+use tick_journal::{BytesFault, TickRecord, read_tick};
 use world_io::Disk;
 
 // The bytes of a gate and of a content's length.
@@ -45,14 +45,11 @@ fn first_world(alloc: Global, content: &[u8]) -> Result<Option<(World, Census)>,
     ensures none { IfOk result (λ found. IfNone found
         ((world : Stored) → SpellsBase content.now world → KeepsRules world → ⊥)) }
 {
-    let world = match read_base_form(alloc, content) {
+    let world = match read_base(alloc, content) {
         Ok(world) => world,
         Err(BytesFault::Malformed) => return Ok(None),
         Err(BytesFault::Memory) => return Err(NoMemory),
     };
-    if !keeps_rules(alloc, &world)? {
-        return Ok(None);
-    }
     match Census::of(alloc, &world)? {
         Some(census) => Ok(Some((world, census))),
         None => Ok(None),
