@@ -142,8 +142,8 @@ fn a_failing_later_call_leaves_the_ticks_before(rt: HostRuntime) -> Result<(), F
     assert_eq!(rt; ended.status, Status::WriteFault);
     assert_eq!(rt; ended.printed.as_slice(), START);
     assert_eq!(rt; ended.journal.as_slice(), whole.journal.as_slice());
-    // The calls of the disk are its length twice; a write and a sync of the closed gate, of the world's frame and of
-    // its gate; and in each tick a write and a sync of the frame and of its gate.
+    // The calls of the disk are its length twice; a write and a sync of the closed gate, of the world's frame
+    // and of its gate; and in each tick a write and a sync of the frame and of its gate.
     for (call, printed) in [
         (1_u64, 0_usize),
         (2, 0),
@@ -165,7 +165,8 @@ fn a_failing_later_call_leaves_the_ticks_before(rt: HostRuntime) -> Result<(), F
     Ok(())
 }
 
-// Checks a module of 8 bytes. The reads and writes of these numbers fail. Answers whether anything was printed, too.
+// Checks a module of 8 bytes. The reads and writes of these numbers fail. Answers whether anything was
+// printed, too.
 fn check(alloc: Global, reads: Vec<u64>, writes: Vec<u64>) -> Result<(Status, bool), AllocError> {
     let mut words = Vec::new(alloc);
     for word in ["check", "m.wasm"] {

@@ -1,6 +1,6 @@
-// Calls that the built program doesn't make, or not with devices that fail, and adapters over files, of which no
-// clause tells: examples that are tests alone.
-// They stand in a crate of their own, so that the calls are not proved once more for them.
+// Calls that the built program doesn't make, or not with devices that fail, and adapters over files, of which
+// no clause tells: examples that are tests alone. They stand in a crate of their own, so that the calls are
+// not proved once more for them.
 #![tactic(auto)]
 
 #[cfg(test)]
@@ -9,6 +9,8 @@ mod device_tests;
 mod disk_tests;
 #[cfg(test)]
 mod file_tests;
+#[cfg(test)]
+mod player_tests;
 #[cfg(test)]
 mod tick_tests;
 #[cfg(test)]
