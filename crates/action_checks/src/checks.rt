@@ -3,7 +3,12 @@ ghost use Rattle.std.specs.Prelude.{◌≡◌, ◌==◌, [], ◌∷◌, option_m
 ghost use Rattle.std.specs.Option.{unwrap_or};
 ghost use Rattle.object_store.specs.Controllers.{is_anothers as is_anothers_room};
 ghost use Rattle.world_rules.specs.World.{shown};
-ghost use Rattle.world_rules.specs.Checks.{all_hold, amount_checks, is_amount_of as amount_of, are_near as near, checks, controller_around as around_controller, creep_checks, first_failing, further_checks, holds_least, holds_of, is_free_for as free_for, is_in_the_way, is_reachable, may_be_target as target_of, part_checks, reaches_itself as itself, takes_least, target_checks};
+ghost use Rattle.world_rules.specs.Checks.{all_hold, amount_checks, is_amount_of as amount_of};
+ghost use Rattle.world_rules.specs.Checks.{are_near as near, checks, controller_around as around_controller};
+ghost use Rattle.world_rules.specs.Checks.{creep_checks, first_failing, further_checks, holds_least};
+ghost use Rattle.world_rules.specs.Checks.{holds_of, is_free_for as free_for, is_in_the_way, is_reachable};
+ghost use Rattle.world_rules.specs.Checks.{may_be_target as target_of, part_checks, reaches_itself as itself};
+ghost use Rattle.world_rules.specs.Checks.{takes_least, target_checks};
 ghost use Rattle.action_checks.specs.Scenes.{scene_view};
 ghost use Rattle.action_checks.specs.inner.Passing.{Passes};
 

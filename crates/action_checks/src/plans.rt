@@ -1,5 +1,6 @@
 // The checks of sites, and of creeps that spawns make.
-ghost use Rattle.std.specs.Prelude.{◌≡◌, ◌<◌, ◌==◌, ◌&&◌, ◌||◌, ℕ, nat_lt, not, true, [], ◌∷◌, ◌++◌, List, option_map};
+ghost use Rattle.std.specs.Prelude.{◌≡◌, ◌<◌, ◌==◌, ◌&&◌, ◌||◌, ℕ, nat_lt, not, true, [], ◌∷◌, ◌++◌, List};
+ghost use Rattle.std.specs.Prelude.{option_map};
 ghost use Rattle.std.specs.List.{find};
 ghost use Rattle.std.specs.Option.{is_some};
 ghost use Rattle.game_tables.specs.Kinds.{needs_owned_room as needs_owned, obstructs as is_obstructing};
@@ -11,7 +12,9 @@ ghost use Rattle.object_store.specs.Stores.{site_kinds};
 ghost use Rattle.object_store.specs.declared.object.Object.{Object};
 ghost use Rattle.world_rules.specs.World.{shown};
 ghost use Rattle.world_rules.specs.Checks.{all_hold, first_failing};
-ghost use Rattle.world_rules.specs.Sites.{count_of, counted_number, has_creep, has_place, is_free_tile, is_inner, is_owners, of_kind, removal_checks, room_checks, site_checks, tile_checks};
+ghost use Rattle.world_rules.specs.Sites.{count_of, counted_number, has_creep, has_place, is_free_tile};
+ghost use Rattle.world_rules.specs.Sites.{is_inner, is_owners, of_kind, removal_checks, room_checks};
+ghost use Rattle.world_rules.specs.Sites.{site_checks, tile_checks};
 ghost use Rattle.world_rules.specs.Spawns.{is_body, is_payable, spawn_checks};
 ghost use Rattle.action_checks.specs.Plans.{held_for, plan_view, IsCounted, IsCountedFor};
 ghost use Rattle.action_checks.specs.inner.Passing.{Passes};

@@ -1,5 +1,6 @@
 // The text of a LEB128 number, and the number that it spells.
-ghost use Rattle.std.specs.Prelude.{◌≡◌, ℕ, ◌+◌, ◌-◌, ◌*◌, ◌^◌, ◌<◌, ◌≤◌, List, [], ◌∷◌, ◌++◌, ℤ, length, IfSome, IfNone};
+ghost use Rattle.std.specs.Prelude.{◌≡◌, ℕ, ◌+◌, ◌-◌, ◌*◌, ◌^◌, ◌<◌, ◌≤◌, List, [], ◌∷◌, ◌++◌, ℤ, length};
+ghost use Rattle.std.specs.Prelude.{IfSome, IfNone};
 ghost use Rattle.byte_fields.specs.Leb.{SpellsSigned, SpellsUnsigned};
 ghost use Rattle.byte_fields.specs.inner.Texts.{LebText};
 

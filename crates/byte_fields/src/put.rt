@@ -1,5 +1,6 @@
 // Fields written to the end of a vector of bytes.
-ghost use Rattle.std.specs.Prelude.{◌≡◌, ℕ, ◌+◌, ◌<◌, ◌≤◌, List, ◌++◌, length, take, OnOk, OnErr, vec_capacity, vec_len};
+ghost use Rattle.std.specs.Prelude.{◌≡◌, ℕ, ◌+◌, ◌<◌, ◌≤◌, List, ◌++◌, length, take, OnOk, OnErr};
+ghost use Rattle.std.specs.Prelude.{vec_capacity, vec_len};
 ghost use Rattle.byteorder.specs.Endian.{little_bytes};
 ghost use Rattle.byte_fields.specs.Front.{SpellsShortest};
 ghost use Rattle.byte_fields.specs.Leb.{SpellsSigned, SpellsUnsigned};

@@ -17,7 +17,8 @@ use Rattle.world_rules.specs.World.{World, world_of}
 use Rattle.visible_view.specs.Sights.{sight_of}
 use Rattle.host_calls.specs.Agreement.{IsRecorded}
 use Rattle.host_calls.specs.Desks.{Desk}
-use Rattle.host_calls.specs.Replies.{Reply, body_in, claim_reply, removal_reply, removal_wish, site_reply, site_wish, spawn_reply, spawn_wish, wish_of}
+use Rattle.host_calls.specs.Replies.{Reply, body_in, claim_reply, removal_reply, removal_wish, site_reply}
+use Rattle.host_calls.specs.Replies.{site_wish, spawn_reply, spawn_wish, wish_of}
 
 -- ---- what the rules check
 

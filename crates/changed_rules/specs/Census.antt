@@ -1,5 +1,6 @@
 -- The census of a world, and what is known of a world but for the rooms of some tables.
-use Rattle.std.specs.Prelude.{◌≡◌, ◌≢◌, ℕ, ◌<◌, ◌≤◌, ◌/◌, ◌%◌, ◌^◌, ◌==◌, ◌⊎◌, Bool, true, false, List, Some, length, map, slice_get, unwrap_or}
+use Rattle.std.specs.Prelude.{◌≡◌, ◌≢◌, ℕ, ◌<◌, ◌≤◌, ◌/◌, ◌%◌, ◌^◌, ◌==◌, ◌⊎◌, Bool, true, false, List, Some}
+use Rattle.std.specs.Prelude.{length, map, slice_get, unwrap_or}
 use Rattle.std.specs.List.{AllByRecursion, find}
 use Rattle.game_tables.specs.Kinds.{is_controller, may_have_owner}
 use Rattle.room_terrain.specs.declared.terrain.Ground.{Ground}

@@ -1,11 +1,13 @@
 // The census of a world.
-ghost use Rattle.std.specs.Prelude.{◌≡◌, ◌<◌, ℕ, nat_eq, [], IfOk, OnOk, MatchBool, MatchOption, Some, length, slice_get};
+ghost use Rattle.std.specs.Prelude.{◌≡◌, ◌<◌, ℕ, nat_eq, [], IfOk, OnOk, MatchBool, MatchOption, Some};
+ghost use Rattle.std.specs.Prelude.{length, slice_get};
 ghost use Rattle.std.specs.List.{AllByRecursion, IsDistinct};
 ghost use Rattle.object_store.specs.declared.world.Room.{Room};
 ghost use Rattle.object_store.specs.Stored.{Stored};
 ghost use Rattle.object_store.specs.Tables.{IsRising};
 ghost use Rattle.rule_check.specs.Kept.{KeepsObjectRules};
-ghost use Rattle.changed_rules.specs.Census.{ArePlaced, HasLeft, IsCensus, IsCensusApart, IsChanged, KeepsElsewhere, KeepsSerials, tally_of};
+ghost use Rattle.changed_rules.specs.Census.{ArePlaced, HasLeft, IsCensus, IsCensusApart, IsChanged};
+ghost use Rattle.changed_rules.specs.Census.{KeepsElsewhere, KeepsSerials, tally_of};
 ghost use Rattle.changed_rules.specs.inner.Parts.{Adds, AreFew, Drops, Enters, Exceeds, IsRefused};
 ghost use Rattle.changed_rules.specs.declared.counted.Counted.{Counted};
 

@@ -49,7 +49,8 @@ pub record IsRun (words : List Text) (world uploads journal : Text) (ticks : ℕ
 -- The words are those of a run.
 abbrev pub AreRun : List Text → Type 0
 AreRun words =
-    (world : Text) × (uploads : Text) × (journal : Text) × (ticks : ℕ) × IsRun words world uploads journal ticks
+    (world : Text) × (uploads : Text) × (journal : Text) × (ticks : ℕ)
+    × IsRun words world uploads journal ticks
 
 -- The words are those of a run of so many ticks.
 abbrev pub Asks : List Text → ℕ → Type 0

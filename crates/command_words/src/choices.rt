@@ -1,6 +1,8 @@
 // The choices of the program.
 ghost use Rattle.std.specs.Prelude.{◌≡◌};
-ghost use Rattle.command_words.specs.Choices.{run as run_of_words, check as check_of_words, replay as replay_of_words, show as show_of_words, gen as gen_of_words, demo as demo_of_words};
+ghost use Rattle.command_words.specs.Choices.{run as run_of_words, check as check_of_words};
+ghost use Rattle.command_words.specs.Choices.{replay as replay_of_words, show as show_of_words};
+ghost use Rattle.command_words.specs.Choices.{gen as gen_of_words, demo as demo_of_words};
 
 use crate::simple::Choice;
 

@@ -1,5 +1,5 @@
-// The bytes and texts that are kept of worlds, written and read with memory at hand: examples that are tests alone.
-// They stand in a crate of their own, so that the calls are not proved once more for them.
+// The bytes and texts that are kept of worlds, written and read with memory at hand: examples that are tests
+// alone. They stand in a crate of their own, so that the calls are not proved once more for them.
 #![tactic(auto)]
 
 #[cfg(test)]

@@ -2,7 +2,8 @@
 ghost use Rattle.std.specs.Prelude.{◌≡◌, ◌≤◌, List};
 ghost use Rattle.room_terrain.specs.declared.terrain.Ground.{Ground};
 ghost use Rattle.world_rules.specs.RoomParts.{table_part};
-ghost use Rattle.world_rules.specs.Claims.{claimed, claimed_for, controller_attacked, controller_hurt, live_claim, reserved, ticks_reserved};
+ghost use Rattle.world_rules.specs.Claims.{claimed, claimed_for, controller_attacked, controller_hurt};
+ghost use Rattle.world_rules.specs.Claims.{live_claim, reserved, ticks_reserved};
 ghost use Rattle.room_rules.specs.Calls.{IsReady, Keeps, KeepsTallies};
 
 use action_checks::parties;

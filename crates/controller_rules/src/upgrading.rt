@@ -3,7 +3,8 @@ ghost use Rattle.std.specs.Prelude.{◌≡◌, ◌<◌, ◌≤◌, ◌-◌, ℕ,
 ghost use Rattle.game_tables.specs.Levels.{total_for_next};
 ghost use Rattle.room_terrain.specs.declared.terrain.Ground.{Ground};
 ghost use Rattle.world_rules.specs.RoomParts.{table_part};
-ghost use Rattle.world_rules.specs.Claims.{points_gained, progressed, refreshed, risen, upgraded, work_taken, worked_on};
+ghost use Rattle.world_rules.specs.Claims.{points_gained, progressed, refreshed, risen, upgraded, work_taken};
+ghost use Rattle.world_rules.specs.Claims.{worked_on};
 ghost use Rattle.room_rules.specs.Calls.{IsReady, Keeps, KeepsTallies};
 
 use action_checks::parties;

@@ -1,5 +1,6 @@
 // Crossings over the whole world.
-ghost use Rattle.std.specs.Prelude.{◌≡◌, ◌<◌, ◌≤◌, ℕ, map, length, slice_get, Some, IfSome, IfNone, IsTrue, ◌↔◌};
+ghost use Rattle.std.specs.Prelude.{◌≡◌, ◌<◌, ◌≤◌, ℕ, map, length, slice_get, Some, IfSome, IfNone, IsTrue};
+ghost use Rattle.std.specs.Prelude.{◌↔◌};
 ghost use Rattle.room_terrain.specs.declared.terrain.Ground.TheVariants.{Wall};
 ghost use Rattle.object_store.specs.declared.world.Room.{Room};
 ghost use Rattle.object_store.specs.Tables.{IsOnTile, HasNoId, find_object};

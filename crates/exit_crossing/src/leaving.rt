@@ -6,8 +6,10 @@ ghost use Rattle.object_store.specs.Tables.{IsOnTile, IsRising};
 ghost use Rattle.object_store.specs.Stored.{Stored, HaveRisingTables};
 ghost use Rattle.object_store.specs.declared.world.Room.{Room};
 ghost use Rattle.world_rules.specs.World.{world_of};
-ghost use Rattle.world_rules.specs.Crossings.{crossers as crossers_in_world, is_crosser, is_edge as is_edge_number};
-ghost use Rattle.exit_crossing.specs.Crossing.{AreCrossers, AreIdsApart, crossers_of, rested_table, rested_room};
+ghost use Rattle.world_rules.specs.Crossings.{crossers as crossers_in_world, is_crosser};
+ghost use Rattle.world_rules.specs.Crossings.{is_edge as is_edge_number};
+ghost use Rattle.exit_crossing.specs.Crossing.{AreCrossers, AreIdsApart, crossers_of, rested_table};
+ghost use Rattle.exit_crossing.specs.Crossing.{rested_room};
 ghost use Rattle.exit_crossing.specs.inner.Resting.{rested_at};
 ghost use Rattle.exit_crossing.specs.inner.Leaving.{id_of, crossers_among};
 

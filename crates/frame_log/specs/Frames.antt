@@ -1,5 +1,5 @@
--- What the bytes of a log stand for. They are gate, frame, gate, frame and so on, up to a closed gate. A gate is one
--- byte: 0 is closed, and any other byte is open. What follows a closed gate is not read.
+-- What the bytes of a log stand for. They are gate, frame, gate, frame and so on, up to a closed gate. A gate
+-- is one byte: 0 is closed, and any other byte is open. What follows a closed gate is not read.
 use Rattle.std.specs.Prelude.{◌≡◌, ℕ, ◌<◌, ◌≤◌, ◌^◌, ◌⊎◌, List, [], ◌∷◌, ◌++◌, length, Option, Some, None, ⊤}
 use Rattle.byteorder.specs.Endian.{little_bytes}
 use Rattle.world_io.specs.Moments.{Moment, Rests}
@@ -40,8 +40,8 @@ IsEmptyOrFirst first image = IsEmpty image ⊎ Stands (first ∷ []) image
 
 -- ---- the disk between calls
 
--- A read gives a log of these contents, whose closed gate is at the place, and these bytes behind it; and a crash now
--- leaves what a read gives.
+-- A read gives a log of these contents, whose closed gate is at the place, and these bytes behind it; and a
+-- crash now leaves what a read gives.
 pub record HasClosed (contents : List (List ℕ)) (gate : ℕ) (rest : List ℕ) (seen : Option (List ℕ))
     (moments : List Moment) : Type 0 where
   pub front : List ℕ

@@ -4,5 +4,6 @@ ghost use Rattle.frame_log.specs.Frames.{Stands};
 
 /// The bytes of a log stand for one list of contents. The function does nothing.
 pub fn bytes_stand_for_one_list()
-    ensures { (bytes : List ℕ) (one other : List (List ℕ)) → Stands one bytes → Stands other bytes → one ≡ other }
+    ensures { (bytes : List ℕ) (one other : List (List ℕ))
+        → Stands one bytes → Stands other bytes → one ≡ other }
 {}

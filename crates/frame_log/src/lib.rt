@@ -1,5 +1,5 @@
-// A log of contents on a disk: gate, frame, gate, frame and so on, up to a closed gate. Whatever a crash leaves
-// stands for what stood before a call, or after it.
+// A log of contents on a disk: gate, frame, gate, frame and so on, up to a closed gate. Whatever a crash
+// leaves stands for what stood before a call, or after it.
 #![tactic(auto)]
 
 mod fault;

@@ -1,9 +1,11 @@
 // The log of a disk.
-ghost use Rattle.std.specs.Prelude.{◌≡◌, ◌≢◌, ◌↔◌, ℕ, ◌+◌, ◌<◌, ◌≤◌, ◌^◌, true, false, [], ◌∷◌, ◌++◌, List, length, Err, IfOk, IfErr, OnOk, OnErr};
+ghost use Rattle.std.specs.Prelude.{◌≡◌, ◌≢◌, ◌↔◌, ℕ, ◌+◌, ◌<◌, ◌≤◌, ◌^◌, true, false, [], ◌∷◌, ◌++◌, List};
+ghost use Rattle.std.specs.Prelude.{length, Err, IfOk, IfErr, OnOk, OnErr};
 ghost use Rattle.world_io.specs.Causes.{HasCause, Rose};
 ghost use Rattle.world_io.specs.Disk.{LengthIs, TellsAlike};
 ghost use Rattle.world_io.specs.Moments.{LeavesSince, Rests};
-ghost use Rattle.frame_log.specs.Frames.{HasClosed, HasContents, IsClosedAt, IsLog, IsBeforeOrAfter, IsEmpty, IsEmptyDisk, IsEmptyOrFirst, Stands, frame};
+ghost use Rattle.frame_log.specs.Frames.{HasClosed, HasContents, IsClosedAt, IsLog, IsBeforeOrAfter, IsEmpty};
+ghost use Rattle.frame_log.specs.Frames.{IsEmptyDisk, IsEmptyOrFirst, Stands, frame};
 ghost use Rattle.frame_log.specs.declared.fault.AppendFault.TheVariants.{DiskFault, Closed, Memory};
 
 use crate::fault::AppendFault;
@@ -35,7 +37,8 @@ impl Log {
         ensures rests { IfOk result (λ log. IsLog log.gate (D.seen disk.new) (D.moments disk.new)) }
         ensures gate { IfOk result (λ log. log.gate ≡ 9 + length first.now) }
         ensures is_open { IfOk result (λ log. log.is_closed ≡ false) }
-        ensures disk_fault { IfErr result (λ e. e ≡ DiskFault → Rose (D.faults disk.old) (D.faults disk.new)) }
+        ensures disk_fault { IfErr result (λ e. e ≡ DiskFault
+            → Rose (D.faults disk.old) (D.faults disk.new)) }
         ensures memory { IfErr result (λ e. e ≡ Memory → disk.new ≡ disk.old) }
         ensures never_closed { IfErr result (λ e. e ≢ Closed) }
         ensures steady { OnOk result (D.faults disk.new ≡ D.faults disk.old) }
@@ -107,7 +110,8 @@ impl Log {
             → LeavesSince (IsBeforeOrAfter contents content.now) (D.moments disk.old) (D.moments disk.new) }
         ensures done { OnOk result ((contents : List (List ℕ))
             → HasContents contents self.old.gate (D.seen disk.old) (D.moments disk.old)
-            → HasContents (contents ++ content.now ∷ []) self.new.gate (D.seen disk.new) (D.moments disk.new)) }
+            → HasContents (contents ++ content.now ∷ []) self.new.gate
+            (D.seen disk.new) (D.moments disk.new)) }
         ensures written { OnOk result ((front : List ℕ) → self.old.gate ≡ length front
             → Rests (front ++ 0 ∷ []) (D.seen disk.old) (D.moments disk.old)
             → Rests ((front ++ 1 ∷ frame content.now) ++ 0 ∷ []) (D.seen disk.new) (D.moments disk.new)) }
@@ -116,9 +120,11 @@ impl Log {
         ensures gate { OnOk result (self.new.gate ≡ self.old.gate + 9 + length content.now) }
         ensures is_open { OnOk result (self.new.is_closed ≡ false) }
         ensures disk_fault { IfErr result (λ e. e ≡ DiskFault
-            → Rose (D.faults disk.old) (D.faults disk.new) × (self.new ≡ record self.old { is_closed = true })) }
+            → Rose (D.faults disk.old) (D.faults disk.new)
+            × (self.new ≡ record self.old { is_closed = true })) }
         ensures closed { (result ≡ Err Closed) ↔ (self.old.is_closed ≡ true) }
-        ensures unchanged { IfErr result (λ e. e ≢ DiskFault → (disk.new ≡ disk.old) × (self.new ≡ self.old)) }
+        ensures unchanged { IfErr result (λ e. e ≢ DiskFault
+            → (disk.new ≡ disk.old) × (self.new ≡ self.old)) }
         ensures steady { OnOk result (D.faults disk.new ≡ D.faults disk.old) }
         ensures later { D.faults disk.old ≤ D.faults disk.new }
     {

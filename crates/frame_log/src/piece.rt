@@ -47,9 +47,11 @@ pub(crate) fn commit<D: Disk>(disk: &mut D, gate: u64, piece: &[u8]) -> Result<(
 /// Leaves a closed gate alone on a disk on which nothing was ever committed.
 pub(crate) fn clear<D: Disk>(disk: &mut D) -> Result<(), Failed>
     requires { IsEmptyDisk (D.seen disk.old) (D.moments disk.old) }
-    ensures each_moment { (bytes : List ℕ) → IsEmpty bytes → Rests bytes (D.seen disk.old) (D.moments disk.old)
+    ensures each_moment { (bytes : List ℕ) → IsEmpty bytes
+        → Rests bytes (D.seen disk.old) (D.moments disk.old)
         → LeavesSince IsEmpty (D.moments disk.old) (D.moments disk.new) }
-    ensures done { OnOk result ((bytes : List ℕ) → IsEmpty bytes → Rests bytes (D.seen disk.old) (D.moments disk.old)
+    ensures done { OnOk result ((bytes : List ℕ) → IsEmpty bytes
+        → Rests bytes (D.seen disk.old) (D.moments disk.old)
         → Rests (0 ∷ []) (D.seen disk.new) (D.moments disk.new)) }
     ensures alike { TellsAlike (D.seen disk.old) (D.seen disk.new) }
     ensures cause { HasCause (D.faults disk.old) (D.faults disk.new) result }

@@ -1,9 +1,11 @@
 -- The parts of a creep, by its body and its hits.
-use Rattle.std.specs.Prelude.{ℕ, ◌-◌, ◌*◌, ◌==◌, min, Bool, nat_lt, if◌then◌else◌, List, [], ◌∷◌, length, count_by, sum_by}
+use Rattle.std.specs.Prelude.{ℕ, ◌-◌, ◌*◌, ◌==◌, min, Bool, nat_lt, if◌then◌else◌, List, [], ◌∷◌, length}
+use Rattle.std.specs.Prelude.{count_by, sum_by}
 use Rattle.std.specs.List.{list_any}
 use Rattle.game_tables.specs.Numbers.{part_number}
 use Rattle.game_tables.specs.declared.kind.Part.{Part}
-use Rattle.game_tables.specs.declared.kind.Part.TheVariants.{Move, Work, Carry, Attack, RangedAttack, Tough, Heal, Claim}
+use Rattle.game_tables.specs.declared.kind.Part.TheVariants.{Move, Work, Carry, Attack, RangedAttack, Tough}
+use Rattle.game_tables.specs.declared.kind.Part.TheVariants.{Heal, Claim}
 
 -- the most parts of a body
 abbrev pub most_parts : ℕ

@@ -1,7 +1,10 @@
 -- The return codes of host calls.
 use Rattle.std.specs.Prelude.{ℤ, pos, neg_ℤ}
 use Rattle.game_tables.specs.declared.code.Code.{Code}
-use Rattle.game_tables.specs.declared.code.Code.TheVariants.{Done, NotOwner, Busy, NotFound, NotEnoughResources, InvalidTarget, Full, NotInRange, InvalidArgs, Tired, NoBodypart, RoomLevelNotEnough, GlobalLevelNotEnough}
+use Rattle.game_tables.specs.declared.code.Code.TheVariants.{Done, NotOwner, Busy, NotFound}
+use Rattle.game_tables.specs.declared.code.Code.TheVariants.{NotEnoughResources, InvalidTarget, Full}
+use Rattle.game_tables.specs.declared.code.Code.TheVariants.{NotInRange, InvalidArgs, Tired, NoBodypart}
+use Rattle.game_tables.specs.declared.code.Code.TheVariants.{RoomLevelNotEnough, GlobalLevelNotEnough}
 
 -- the number that a module gets
 abbrev pub code_number : Code → ℤ

@@ -1,9 +1,12 @@
 -- The numbers of kinds and parts, as byte forms and host calls give them.
 use Rattle.std.specs.Prelude.{ℕ}
 use Rattle.game_tables.specs.declared.kind.Kind.{Kind}
-use Rattle.game_tables.specs.declared.kind.Kind.TheVariants.{Source, Controller, Creep, Spawn, Extension, Storage, Container, Road, Pile, Site, Tower, Rampart, Wall, Tombstone}
+use Rattle.game_tables.specs.declared.kind.Kind.TheVariants.{Source, Controller, Creep, Spawn, Extension}
+use Rattle.game_tables.specs.declared.kind.Kind.TheVariants.{Storage, Container, Road, Pile, Site, Tower}
+use Rattle.game_tables.specs.declared.kind.Kind.TheVariants.{Rampart, Wall, Tombstone}
 use Rattle.game_tables.specs.declared.kind.Part.{Part}
-use Rattle.game_tables.specs.declared.kind.Part.TheVariants.{Move, Work, Carry, Attack, RangedAttack, Tough, Heal, Claim}
+use Rattle.game_tables.specs.declared.kind.Part.TheVariants.{Move, Work, Carry, Attack, RangedAttack, Tough}
+use Rattle.game_tables.specs.declared.kind.Part.TheVariants.{Heal, Claim}
 
 -- the number of a kind
 abbrev pub kind_number : Kind → ℕ

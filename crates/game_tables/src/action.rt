@@ -1,6 +1,7 @@
 // The actions of players.
 ghost use Rattle.std.specs.Prelude.{◌≡◌, IfSome, IfNone};
-ghost use Rattle.game_tables.specs.Actions.{action_number, dominates, drops_attack, drops_build, drops_dismantle, drops_repair, needed_part, max_range, is_target};
+ghost use Rattle.game_tables.specs.Actions.{action_number, dominates, drops_attack, drops_build};
+ghost use Rattle.game_tables.specs.Actions.{drops_dismantle, drops_repair, needed_part, max_range, is_target};
 ghost use Rattle.game_tables.specs.declared.action.Action.{Action};
 
 use crate::by_kind::is_building;

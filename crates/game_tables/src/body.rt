@@ -1,6 +1,8 @@
 // A creep's body.
-ghost use Rattle.std.specs.Prelude.{◌≡◌, ◌-◌, ◌<◌, ◌≤◌, [], ◌∷◌, ◌++◌, ◌↔◌, IsTrue, length, slice_get, option_copied};
-ghost use Rattle.game_tables.specs.Bodies.{body_cost, has_part, lifetime, live_count, live_parts, load_room, part_hits, most_parts};
+ghost use Rattle.std.specs.Prelude.{◌≡◌, ◌-◌, ◌<◌, ◌≤◌, [], ◌∷◌, ◌++◌, ◌↔◌, IsTrue, length, slice_get};
+ghost use Rattle.std.specs.Prelude.{option_copied};
+ghost use Rattle.game_tables.specs.Bodies.{body_cost, has_part, lifetime, live_count, live_parts, load_room};
+ghost use Rattle.game_tables.specs.Bodies.{part_hits, most_parts};
 
 use crate::kind::Part;
 use std::marker::Model;

@@ -1,6 +1,10 @@
 // What is true of an object by its kind.
 ghost use Rattle.std.specs.Prelude.{◌≡◌};
-ghost use Rattle.game_tables.specs.Kinds.{is_controller, is_creep, is_site, may_have_owner, stands_fixed, is_building, store_capacity, full_timer, built_hits, needs_owned_room, is_in_rules, hits_max, obstructs, is_owned, pile_decay, renewal_ticks, is_site_kind, source_capacity, build_total};
+ghost use Rattle.game_tables.specs.Kinds.{is_controller, is_creep, is_site, may_have_owner, stands_fixed};
+ghost use Rattle.game_tables.specs.Kinds.{is_building, store_capacity, full_timer, built_hits};
+ghost use Rattle.game_tables.specs.Kinds.{needs_owned_room, is_in_rules, hits_max, obstructs, is_owned};
+ghost use Rattle.game_tables.specs.Kinds.{pile_decay, renewal_ticks, is_site_kind, source_capacity};
+ghost use Rattle.game_tables.specs.Kinds.{build_total};
 
 use crate::body::Body;
 use crate::kind::Kind;

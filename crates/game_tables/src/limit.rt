@@ -1,6 +1,7 @@
 // How much there may be in a world.
 ghost use Rattle.std.specs.Prelude.{◌≡◌, ◌^◌};
-ghost use Rattle.game_tables.specs.Limits.{most_bucket, most_limit, most_memory, most_objects, most_players, most_points, most_rooms, most_sites, unit_instructions};
+ghost use Rattle.game_tables.specs.Limits.{most_bucket, most_limit, most_memory, most_objects, most_players};
+ghost use Rattle.game_tables.specs.Limits.{most_points, most_rooms, most_sites, unit_instructions};
 
 /// The most rooms.
 pub fn most_rooms() -> u32

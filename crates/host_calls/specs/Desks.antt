@@ -1,5 +1,6 @@
 -- The desk that answers a player's module: what it knows, and how it reads the arguments of a call.
-use Rattle.std.specs.Prelude.{ℕ, suc, zero, ◌+◌, ◌*◌, ◌%◌, ◌^◌, min, ℤ, pos, negsuc, nat_le, if◌then◌else◌, List, [], slice_get, Option, Some, None}
+use Rattle.std.specs.Prelude.{ℕ, suc, zero, ◌+◌, ◌*◌, ◌%◌, ◌^◌, min, ℤ, pos, negsuc, nat_le, if◌then◌else◌}
+use Rattle.std.specs.Prelude.{List, [], slice_get, Option, Some, None}
 use Rattle.std.specs.Option.{unwrap_or}
 use Rattle.std.specs.Int.{cast_signed, cast_unsigned, w32, w64}
 use Rattle.game_tables.specs.Limits.{most_limit}

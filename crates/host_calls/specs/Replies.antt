@@ -1,12 +1,19 @@
 -- What each call answers, and what it changes.
-use Rattle.std.specs.Prelude.{◌≡◌, ℕ, ◌+◌, ◌*◌, ◌==◌, ◌&&◌, nat_lt, ℤ, pos, ◌+ℤ◌, ◌*ℤ◌, nat_le, nat_eq, Bool, if◌then◌else◌, List, [], ◌∷◌, ◌++◌, length, Option, Some, None, option_map, option_and_then, slice_get}
+use Rattle.std.specs.Prelude.{◌≡◌, ℕ, ◌+◌, ◌*◌, ◌==◌, ◌&&◌, nat_lt, ℤ, pos, ◌+ℤ◌, ◌*ℤ◌, nat_le, nat_eq, Bool}
+use Rattle.std.specs.Prelude.{if◌then◌else◌, List, [], ◌∷◌, ◌++◌, length, Option, Some, None, option_map}
+use Rattle.std.specs.Prelude.{option_and_then, slice_get}
 use Rattle.std.specs.List.{find}
 use Rattle.std.specs.Option.{unwrap_or}
 use Rattle.game_tables.specs.Codes.{code_number}
 use Rattle.game_tables.specs.Bodies.{most_parts}
 use Rattle.game_tables.specs.Limits.{most_memory}
 use Rattle.game_tables.specs.declared.action.Action.{Action}
-use Rattle.game_tables.specs.declared.action.Action.TheVariants.{DropLoad, Transfer, Withdraw, Pickup, Heal, RangedHeal, Dismantle, Attack, Harvest, Repair, Build, RangedMassAttack, RangedAttack, Suicide, ClaimController, Upgrade, Reserve, AttackController, CreateSite, RemoveSite, SpawnCreep, Move}
+use Rattle.game_tables.specs.declared.action.Action.TheVariants.{DropLoad, Transfer, Withdraw, Pickup, Heal}
+use Rattle.game_tables.specs.declared.action.Action.TheVariants.{RangedHeal, Dismantle, Attack, Harvest}
+use Rattle.game_tables.specs.declared.action.Action.TheVariants.{Repair, Build, RangedMassAttack}
+use Rattle.game_tables.specs.declared.action.Action.TheVariants.{RangedAttack, Suicide, ClaimController}
+use Rattle.game_tables.specs.declared.action.Action.TheVariants.{Upgrade, Reserve, AttackController}
+use Rattle.game_tables.specs.declared.action.Action.TheVariants.{CreateSite, RemoveSite, SpawnCreep, Move}
 use Rattle.game_tables.specs.Numbers.{part_number}
 use Rattle.game_tables.specs.declared.kind.Part.{Part}
 use Rattle.game_tables.specs.declared.kind.Part.TheVariants as parts
@@ -29,7 +36,8 @@ use Rattle.wasm_store.specs.Memory.{Memory, span, written}
 use Rattle.host_calls.specs.declared.call.Call.{Call}
 use Rattle.host_calls.specs.declared.call.Call.TheVariants as call
 use Rattle.host_calls.specs.Calls.{call_at, row}
-use Rattle.host_calls.specs.Desks.{Desk, allowance, argument, as_answer, as_index, global_level, signed_32, unsigned_32}
+use Rattle.host_calls.specs.Desks.{Desk, allowance, argument, as_answer, as_index, global_level, signed_32}
+use Rattle.host_calls.specs.Desks.{unsigned_32}
 
 -- an answer, with the desk and the module's memory behind it
 pub record Reply : Type 0 where

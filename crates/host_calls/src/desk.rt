@@ -7,7 +7,12 @@ ghost use Rattle.std.specs.Prelude.{pos, option_map};
 ghost use Rattle.game_tables.specs.declared.action.Action.TheVariants.{ClaimController};
 ghost use Rattle.world_rules.specs.World.{shown};
 ghost use Rattle.action_checks.specs.Plans.{held_for};
-ghost use Rattle.host_calls.specs.Replies.{act_code, answers, body_in as body_read, claim_code, objects_around, or_code as or_else, read_reply, record_checks, removal_code as code_of_removal, removal_wish as wanted_removal, reply, reply_of, site_code as code_of_site, site_wish as wanted_site, spawn_code as code_of_creep, spawn_wish as wanted_creep, wish_of as wanted, write_reply};
+ghost use Rattle.host_calls.specs.Replies.{act_code, answers, body_in as body_read, claim_code};
+ghost use Rattle.host_calls.specs.Replies.{objects_around, or_code as or_else, read_reply, record_checks};
+ghost use Rattle.host_calls.specs.Replies.{removal_code as code_of_removal, removal_wish as wanted_removal};
+ghost use Rattle.host_calls.specs.Replies.{reply, reply_of, site_code as code_of_site};
+ghost use Rattle.host_calls.specs.Replies.{site_wish as wanted_site, spawn_code as code_of_creep};
+ghost use Rattle.host_calls.specs.Replies.{spawn_wish as wanted_creep, wish_of as wanted, write_reply};
 ghost use Rattle.host_calls.specs.inner.Wishes.{named, recorded};
 
 use crate::call::Call;

@@ -3,7 +3,8 @@ ghost use Rattle.std.specs.Prelude.{◌≡◌, ◌≤◌, option_map, option_and
 ghost use Rattle.sight_census.specs.Censuses.{census_of};
 ghost use Rattle.visible_view.specs.Fields.{room_at};
 ghost use Rattle.host_calls.specs.Desks.{Desk, as_index, signed_32};
-ghost use Rattle.host_calls.specs.Replies.{body_in, coordinate_of as coordinate, number_of as number, parts_of, removal_wish, site_wish, spawn_wish};
+ghost use Rattle.host_calls.specs.Replies.{body_in, coordinate_of as coordinate, number_of as number};
+ghost use Rattle.host_calls.specs.Replies.{parts_of, removal_wish, site_wish, spawn_wish};
 ghost use Rattle.host_calls.specs.inner.Wishes.{IsPlanIn};
 
 use crate::number::{id_of, index_32};

@@ -1,7 +1,8 @@
 // The numbers that pass between a module and its host.
 ghost use Rattle.std.specs.Prelude.{◌≡◌};
 ghost use Rattle.room_terrain.specs.declared.name.RoomName.{RoomName as NameOfRoom};
-ghost use Rattle.host_calls.specs.Desks.{argument as argument_at, as_answer, as_index, global_level, signed_32 as low_signed, unsigned_32 as low_unsigned};
+ghost use Rattle.host_calls.specs.Desks.{argument as argument_at, as_answer, as_index, global_level};
+ghost use Rattle.host_calls.specs.Desks.{signed_32 as low_signed, unsigned_32 as low_unsigned};
 ghost use Rattle.host_calls.specs.Replies.{name_number as number_of_name};
 
 use object_store::RoomName;

@@ -1,5 +1,6 @@
 -- What a record of a player's intents is.
-use Rattle.std.specs.Prelude.{◌≡◌, ℕ, Bool, not, ◌&&◌, ◌||◌, nat_eq, nat_lt, All, List, [], ◌∷◌, ◌++◌, filter, length, IsPermutation, IsSortedByKey}
+use Rattle.std.specs.Prelude.{◌≡◌, ℕ, Bool, not, ◌&&◌, ◌||◌, nat_eq, nat_lt, All, List, [], ◌∷◌, ◌++◌, filter}
+use Rattle.std.specs.Prelude.{length, IsPermutation, IsSortedByKey}
 use Rattle.std.specs.declared.cmp.Ordering.{Ordering}
 use Rattle.std.specs.Ordering.{nat_cmp, ordering_then}
 use Rattle.std.specs.List.{list_any}

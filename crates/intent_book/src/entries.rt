@@ -5,7 +5,8 @@
 // the server gives: so a player chooses his actions, and his actors only among those. A call that let
 // him choose an actor freely would let him choose keys that collide, and each look-up of his would
 // go through up to all entries of his record.
-ghost use Rattle.std.specs.Prelude.{◌≡◌, ℕ, ◌+◌, ◌<◌, ◌≤◌, ◌||◌, [], is_some, nat_lt, if◌then◌else◌, vec_capacity};
+ghost use Rattle.std.specs.Prelude.{◌≡◌, ℕ, ◌+◌, ◌<◌, ◌≤◌, ◌||◌, [], is_some, nat_lt, if◌then◌else◌};
+ghost use Rattle.std.specs.Prelude.{vec_capacity};
 ghost use Rattle.indexmap.specs.IndexMap.{index_map_len, spare, get, insert_entry, IsUnique, with_value_at};
 ghost use Rattle.intent_book.specs.inner.Numbered.{Finds, IsKept, intents, listed, lower as lowest};
 ghost use Rattle.intent_book.specs.Records.{entries_bound, place, place_eq};

@@ -1,5 +1,6 @@
 // What a player wants of a tick, and lists of it.
-ghost use Rattle.std.specs.Prelude.{◌≡◌, ◌↔◌, IsTrue, [], ◌∷◌, ◌++◌, length, slice_get, option_copied, OnOk, OnErr};
+ghost use Rattle.std.specs.Prelude.{◌≡◌, ◌↔◌, IsTrue, [], ◌∷◌, ◌++◌, length, slice_get, option_copied, OnOk};
+ghost use Rattle.std.specs.Prelude.{OnErr};
 ghost use Rattle.intent_book.specs.Records.{place};
 
 use game_tables::{Action, Body};

@@ -1,8 +1,10 @@
 // The record of what one player wants of a tick.
-ghost use Rattle.std.specs.Prelude.{◌≡◌, ◌≤◌, ◌↔◌, IsTrue, [], length, IfOk, if◌then◌else◌, slice_get, option_copied, IsPermutation, IsSortedByKey};
+ghost use Rattle.std.specs.Prelude.{◌≡◌, ◌≤◌, ◌↔◌, IsTrue, [], length, IfOk, if◌then◌else◌, slice_get};
+ghost use Rattle.std.specs.Prelude.{option_copied, IsPermutation, IsSortedByKey};
 ghost use Rattle.std.specs.List.{IsDistinct, list_any};
 ghost use Rattle.game_tables.specs.Actions.{action_number};
-ghost use Rattle.intent_book.specs.Records.{AreOf, accepts, entries_bound, place, place_eq, place_cmp, put_last, same_place};
+ghost use Rattle.intent_book.specs.Records.{AreOf, accepts, entries_bound, place, place_eq, place_cmp};
+ghost use Rattle.intent_book.specs.Records.{put_last, same_place};
 
 use crate::entries::{Entries, Kept, fresh, keep, next_kept, pour};
 use crate::intent::{Intent, Intents};

@@ -39,8 +39,8 @@ const RIGHT: Changed = Changed {
     bytes: 34,
 };
 
-// The record with these changes. Of the room there are two tables, of which the first counts, and of the player
-// two accounts.
+// The record with these changes. Of the room there are two tables, of which the first counts, and of the
+// player two accounts.
 fn record(alloc: Global, changed: Changed) -> Result<TickRecord, AllocError> {
     let pile = pile(changed.id, changed.x, changed.energy, changed.owner);
     let first = RoomTable::of(alloc, changed.index, 3, vec![in alloc; pile]?)?;
@@ -131,8 +131,8 @@ fn each_field_of_a_record_is_tested(rt: HostRuntime) -> Result<(), Fail> {
         Changed { sender: 8, ..RIGHT },
         // (no module)
         Changed { bytes: 33, ..RIGHT },
-        // (no tile, a pile of nothing, one that somebody owns, an id that was not given, and one that is there
-        // twice)
+        // (no tile, a pile of nothing, one that somebody owns, an id that was not given, and one that is
+        // there twice)
         Changed { x: 50, ..RIGHT },
         Changed { energy: 0, ..RIGHT },
         Changed { owner: 7, ..RIGHT },

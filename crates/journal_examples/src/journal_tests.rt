@@ -1,4 +1,5 @@
-// A journal on a disk in memory: what is written is read back, and each answer once, but those for want of memory.
+// A journal on a disk in memory: what is written is read back, and each answer once, but those for want of
+// memory.
 use crate::journals::{FIRST, disk_of, journal_of, record_of};
 use crate::worlds::{PARTS, TRAPPED, world_of};
 use std::alloc::Global;

@@ -1,6 +1,6 @@
-// Records of ticks, the journals that keep them, and worlds that go on from them, with memory at hand: examples that
-// are tests alone.
-// They stand in a crate of their own, so that the calls are not proved once more for them.
+// Records of ticks, the journals that keep them, and worlds that go on from them, with memory at hand:
+// examples that are tests alone. They stand in a crate of their own, so that the calls are not proved once
+// more for them.
 #![tactic(auto)]
 
 #[cfg(test)]

@@ -1,4 +1,5 @@
-// Worlds that go on from a journal: its modules are linked again and run, and the journal takes the next record.
+// Worlds that go on from a journal: its modules are linked again and run, and the journal takes the next
+// record.
 ghost use Rattle.std.specs.Prelude.{IsTrue, IfOk};
 ghost use Rattle.hosted_tick.specs.Hosting.{IsHosted};
 ghost use Rattle.world_rules.specs.Sound.{HaveSerials};

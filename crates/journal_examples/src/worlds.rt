@@ -17,8 +17,8 @@ pub const TRAPPED: [u8; 35] = [
     0, 10, 5, 1, 3, 0, 0, 11,
 ];
 
-/// What differs between the worlds: of the second room the serial of its next object and the energy of its pile, and
-/// of player 9 the bucket and the memory text.
+/// What differs between the worlds: of the second room the serial of its next object and the energy of its
+/// pile, and of player 9 the bucket and the memory text.
 #[derive(Clone, Copy)]
 pub struct Parts {
     pub next: u32,

@@ -5,9 +5,12 @@ ghost use Rattle.std.specs.List.{filter, list_any, prefix_len};
 ghost use Rattle.std.specs.List.Sorted.{IsStrictlySortedBy};
 ghost use Rattle.world_rules.specs.World.{world_of};
 ghost use Rattle.world_rules.specs.Sound.{IsSound};
-ghost use Rattle.world_rules.specs.Intents.{acts_for, fits, last_of_each, may_act as can_act, names_tile, overrules as does_overrule, room_of, undropped};
+ghost use Rattle.world_rules.specs.Intents.{acts_for, fits, last_of_each, may_act as can_act, names_tile};
+ghost use Rattle.world_rules.specs.Intents.{overrules as does_overrule, room_of, undropped};
 ghost use Rattle.kept_entries.specs.Turns.{AreKept, in_turn};
-ghost use Rattle.kept_entries.specs.inner.Choosing.{Makes, Runs, StandFor, by_action, by_actor, entry_cmp, has_actor_of, key as key_of, object_in, overrules_it, room_in};
+ghost use Rattle.kept_entries.specs.inner.Choosing.{Makes, Runs, StandFor, by_action, by_actor, entry_cmp};
+ghost use Rattle.kept_entries.specs.inner.Choosing.{has_actor_of, key as key_of, object_in, overrules_it};
+ghost use Rattle.kept_entries.specs.inner.Choosing.{room_in};
 
 use crate::NoMemory;
 use game_tables::{Action, Kind, dominates};

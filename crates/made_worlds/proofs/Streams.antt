@@ -5,7 +5,7 @@ use Rattle.std.proofs.lemmas.Bool.{cases_lt}
 use Rattle.std.proofs.lemmas.List.FromFn.{length-map-range_with_len}
 use Rattle.std.proofs.lemmas.Option.{slice_get_past}
 use Rattle.byte_fields.specs.Front.{SpellsShortest}
-use Rattle.upload_stream.specs.Streams.{Upload, UploadList, UploadsFrom, entry_bytes}
+use Rattle.upload_stream.specs.Streams.{Upload, UploadList, stream_bytes}
 use Rattle.wasm_module.specs.Sections.{Spells}
 use Rattle.wasm_encode.proofs.Whole.{whole_one}
 use Rattle.world_rules.proofs.Same.{same_lists}
@@ -43,13 +43,6 @@ players_stream rooms text bytes shortest listed = record {
 
 -- ---- one stream
 
-one_text : (least : ℕ) (bytes other : List ℕ) (list : List Upload)
-    → UploadsFrom least bytes list → UploadsFrom least other list → bytes ≡ other
-one_text least bytes other [] first second = first ∙ sym second
-one_text least bytes other (upload ∷ later) first second =
-    first.1.spells ∙ ap (λ rest. entry_bytes upload ++ rest) (one_text upload.tick first.0 second.0 later first.2 second.2)
-    ∙ sym second.1.spells
-
 same_upload : (player : ℕ) (one other : Upload) → UploadsModule player one → UploadsModule player other → one ≡ other
 same_upload player one other first second =
     let tick : one.tick ≡ other.tick = first.tick ∙ sym second.tick in
@@ -78,5 +71,4 @@ pub one_stream : (rooms : ℕ) (bytes more : List ℕ)
     → IsPlayersStream rooms bytes → IsPlayersStream rooms more → bytes ≡ more
 one_stream rooms bytes more one other =
     let same : one.uploads ≡ other.uploads = same_lists one.uploads other.uploads (same_at rooms bytes more one other) in
-    one_text 0 bytes more other.uploads
-    (subst (λ (list : List Upload). UploadList bytes list) same one.listed) other.listed
+    one.listed.spells ∙ (ap stream_bytes same ∙ sym other.listed.spells)

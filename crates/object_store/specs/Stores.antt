@@ -5,7 +5,8 @@ use Rattle.game_tables.specs.Bodies.{load_room}
 use Rattle.game_tables.specs.Kinds.{source_capacity, store_capacity}
 use Rattle.game_tables.specs.Numbers.{kind_number}
 use Rattle.game_tables.specs.declared.kind.Kind.{Kind}
-use Rattle.game_tables.specs.declared.kind.Kind.TheVariants.{Source, Creep, Spawn, Extension, Storage, Container, Road}
+use Rattle.game_tables.specs.declared.kind.Kind.TheVariants.{Source, Creep, Spawn, Extension, Storage}
+use Rattle.game_tables.specs.declared.kind.Kind.TheVariants.{Container, Road}
 use Rattle.object_store.specs.Controllers.{is_taken, level_of}
 use Rattle.object_store.specs.declared.object.Object.{Object}
 

@@ -1,5 +1,6 @@
 -- The objects of a room as they are stored.
-use Rattle.std.specs.Prelude.{◌≡◌, ℕ, ◌<◌, ◌≤◌, ◌==◌, ◌&&◌, nat_lt, nat_le, max, if◌then◌else◌, List, [], ◌∷◌, ◌++◌, map, Bool, false, Option, Some, None, not}
+use Rattle.std.specs.Prelude.{◌≡◌, ℕ, ◌<◌, ◌≤◌, ◌==◌, ◌&&◌, nat_lt, nat_le, max, if◌then◌else◌, List, [], ◌∷◌}
+use Rattle.std.specs.Prelude.{◌++◌, map, Bool, false, Option, Some, None, not}
 use Rattle.std.specs.List.{AllByRecursion, find, filter, list_any}
 use Rattle.std.specs.FinMap.{remove}
 use Rattle.game_tables.specs.Kinds.{obstructs, stands_fixed}

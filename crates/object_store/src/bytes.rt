@@ -1,5 +1,6 @@
 // Lists of bytes.
-ghost use Rattle.std.specs.Prelude.{◌≡◌, ◌↔◌, IsTrue, [], ◌∷◌, ◌++◌, length, slice_get, option_copied, IfOk, OnOk, OnErr};
+ghost use Rattle.std.specs.Prelude.{◌≡◌, ◌↔◌, IsTrue, [], ◌∷◌, ◌++◌, length, slice_get, option_copied, IfOk};
+ghost use Rattle.std.specs.Prelude.{OnOk, OnErr};
 
 use std::alloc::{AllocError, Global};
 use std::marker::Model;

@@ -1,9 +1,14 @@
 // The objects of one room.
-ghost use Rattle.std.specs.Prelude.{◌≡◌, ◌==◌, ◌<◌, ◌≤◌, ◌+◌, ◌-◌, ◌*◌, ◌^◌, [], ◌↔◌, IsTrue, length, max, slice_get, option_copied, option_map, vec_capacity, Some, None, IfSome, IfNone, IfOk, OnOk, OnErr};
+ghost use Rattle.std.specs.Prelude.{◌≡◌, ◌==◌, ◌<◌, ◌≤◌, ◌+◌, ◌-◌, ◌*◌, ◌^◌, [], ◌↔◌, IsTrue, length, max};
+ghost use Rattle.std.specs.Prelude.{slice_get, option_copied, option_map, vec_capacity, Some, None, IfSome};
+ghost use Rattle.std.specs.Prelude.{IfNone, IfOk, OnOk, OnErr};
 ghost use Rattle.std.specs.List.{HoldsAt, list_any};
 ghost use Rattle.std.specs.Map.Iter.{ShowsInOrder, deref};
 ghost use Rattle.object_store.specs.declared.object.Object.{Object};
-ghost use Rattle.object_store.specs.Tables.{Table, IsRising, IsOnTile, HasId, HasNoId, AreTalliesOf, cover_of, find_object, find_from, greatest_id, is_barred, is_obstructed, is_site_free, with_object, with_new, removed, first_on, first_on_from};
+ghost use Rattle.object_store.specs.Tables.{Table, IsRising, IsOnTile, HasId, HasNoId, AreTalliesOf};
+ghost use Rattle.object_store.specs.Tables.{cover_of, find_object, find_from, greatest_id, is_barred};
+ghost use Rattle.object_store.specs.Tables.{is_obstructed, is_site_free, with_object, with_new, removed};
+ghost use Rattle.object_store.specs.Tables.{first_on, first_on_from};
 ghost use Rattle.object_store.specs.Tallies.{damaged, healed, no_tallies, tally_of};
 ghost use Rattle.object_store.specs.inner.Kept.{is_kind_on};
 ghost use Rattle.object_store.specs.inner.Owners.{Covers};

@@ -1,14 +1,18 @@
 // The slots of a room's objects, and their order by rising id.
-ghost use Rattle.std.specs.Prelude.{◌≡◌, ◌==◌, ◌&&◌, ◌<◌, ◌≤◌, ◌+◌, ◌^◌, ◌⊎◌, ℕ, EachIndex, length, map, nat_le, option_map, replicate, slice_index_or, vec_capacity, Some, IfSome, IfNone, IfOk};
+ghost use Rattle.std.specs.Prelude.{◌≡◌, ◌==◌, ◌&&◌, ◌<◌, ◌≤◌, ◌+◌, ◌^◌, ◌⊎◌, ℕ, EachIndex, length, map};
+ghost use Rattle.std.specs.Prelude.{nat_le, option_map, replicate, slice_index_or, vec_capacity, Some};
+ghost use Rattle.std.specs.Prelude.{IfSome, IfNone, IfOk};
 ghost use Rattle.std.specs.List.{AllByRecursion, HoldsAt, list_any, range_with_len};
 ghost use Rattle.std.specs.List.Sorted.{IsPartitionPoint};
 ghost use Rattle.game_tables.specs.Numbers.{kind_number};
-ghost use Rattle.object_store.specs.Tables.{IsRising, HasId, HasNoId, first_on, first_on_from, is_on as is_tile};
+ghost use Rattle.object_store.specs.Tables.{IsRising, HasId, HasNoId, first_on, first_on_from};
+ghost use Rattle.object_store.specs.Tables.{is_on as is_tile};
 ghost use Rattle.object_store.specs.Tallies.{no_tally};
 ghost use Rattle.object_store.specs.declared.tally.Tally.{Tally as TallyOf};
 ghost use Rattle.object_store.specs.inner.Chains.{Chained};
 ghost use Rattle.object_store.specs.inner.Tallied.{tallies_in};
-ghost use Rattle.object_store.specs.inner.Placed.{standing, tile_number, tile_of_object, AreKnown, AtMost, IsLeastFrom, IsNextOfTile, StandsIn};
+ghost use Rattle.object_store.specs.inner.Placed.{standing, tile_number, tile_of_object, AreKnown, AtMost};
+ghost use Rattle.object_store.specs.inner.Placed.{IsLeastFrom, IsNextOfTile, StandsIn};
 
 use crate::object::Object;
 use crate::tally::Tally;

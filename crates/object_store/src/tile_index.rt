@@ -1,5 +1,6 @@
 // Which slots of a room's table stand on which tile.
-ghost use Rattle.std.specs.Prelude.{◌≡◌, ◌==◌, ◌<◌, ◌≤◌, ◌+◌, ◌^◌, [], ◌∷◌, ◌++◌, length, slice_index, slice_set, if◌then◌else◌, IfOk, OnOk};
+ghost use Rattle.std.specs.Prelude.{◌≡◌, ◌==◌, ◌<◌, ◌≤◌, ◌+◌, ◌^◌, [], ◌∷◌, ◌++◌, length, slice_index};
+ghost use Rattle.std.specs.Prelude.{slice_set, if◌then◌else◌, IfOk, OnOk};
 ghost use Rattle.object_store.specs.inner.Chains.{Chained, IsNewest, IsNextNewer, tile_at};
 
 use std::alloc::{AllocError, Global};

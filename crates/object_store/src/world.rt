@@ -1,8 +1,10 @@
 // The world as it is stored.
-ghost use Rattle.std.specs.Prelude.{◌≡◌, ◌↔◌, IsTrue, ℕ, ◌<◌, ◌≤◌, ◌-◌, ◌+◌, ◌*◌, ◌^◌, [], ◌∷◌, ◌++◌, length, slice_get, option_map, Some, None, IfSome, IfNone, IfOk, OnOk, OnErr};
+ghost use Rattle.std.specs.Prelude.{◌≡◌, ◌↔◌, IsTrue, ℕ, ◌<◌, ◌≤◌, ◌-◌, ◌+◌, ◌*◌, ◌^◌, [], ◌∷◌, ◌++◌, length};
+ghost use Rattle.std.specs.Prelude.{slice_get, option_map, Some, None, IfSome, IfNone, IfOk, OnOk, OnErr};
 ghost use Rattle.std.specs.List.Sorted.{IsPartitionPoint};
 ghost use Rattle.std.specs.Borrow.{sem};
-ghost use Rattle.object_store.specs.Stored.{Stored, AreRising, IsLast, HaveRisingTables, IsRoomNamed, HasAccount, find_account, with_account};
+ghost use Rattle.object_store.specs.Stored.{Stored, AreRising, IsLast, HaveRisingTables, IsRoomNamed};
+ghost use Rattle.object_store.specs.Stored.{HasAccount, find_account, with_account};
 ghost use Rattle.object_store.specs.Lending.{LendsTable};
 ghost use Rattle.object_store.specs.inner.Naming.{HasNumber, room_names, sort_number, AreByName, IsPlaceOf};
 

@@ -2,7 +2,8 @@
 ghost use Rattle.std.specs.Prelude.{◌≡◌, ◌⊎◌, ℕ, false, List, Some, None};
 ghost use Rattle.std.specs.FinMap.{get};
 ghost use Rattle.world_rules.specs.World.{Placed, World};
-ghost use Rattle.world_rules.specs.Crossings.{Place, with_place, crossed_over, is_crosser, rested, all_rested, crossed};
+ghost use Rattle.world_rules.specs.Crossings.{Place, with_place, crossed_over, is_crosser, rested};
+ghost use Rattle.world_rules.specs.Crossings.{all_rested, crossed};
 ghost use Rattle.room_commutes.specs.Standing.{AreAllApart};
 
 /// Says what crossings keep. It does nothing when it runs.

@@ -4,7 +4,8 @@ use Rattle.std.specs.List.{sum_by}
 use Rattle.std.specs.FinMap.{get, values}
 use Rattle.game_tables.specs.Bodies.{body_cost}
 use Rattle.game_tables.specs.declared.action.Action.{Action}
-use Rattle.game_tables.specs.declared.action.Action.TheVariants.{DropLoad, Dismantle, Harvest, Repair, Build, Upgrade, SpawnCreep}
+use Rattle.game_tables.specs.declared.action.Action.TheVariants.{DropLoad, Dismantle, Harvest, Repair, Build}
+use Rattle.game_tables.specs.declared.action.Action.TheVariants.{Upgrade, SpawnCreep}
 use Rattle.game_tables.specs.declared.kind.Kind.{Kind}
 use Rattle.object_store.specs.Stores.{building_of, free_room}
 use Rattle.object_store.specs.declared.object.Object.{Object}

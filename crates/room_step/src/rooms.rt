@@ -1,5 +1,6 @@
 // The tick of a world, room by room.
-ghost use Rattle.std.specs.Prelude.{◌≡◌, ◌<◌, ◌≤◌, ◌-◌, ◌+◌, ◌^◌, ℕ, List, [], map, length, slice_get, Some, IfOk, OnOk};
+ghost use Rattle.std.specs.Prelude.{◌≡◌, ◌<◌, ◌≤◌, ◌-◌, ◌+◌, ◌^◌, ℕ, List, [], map, length, slice_get, Some};
+ghost use Rattle.std.specs.Prelude.{IfOk, OnOk};
 ghost use Rattle.std.specs.List.Sorted.{IsNonDecreasingBy, IsPermutation};
 ghost use Rattle.object_store.specs.Stored.{AreRising};
 ghost use Rattle.object_store.specs.declared.world.Room.{Room};
@@ -28,9 +29,9 @@ use std::alloc::Global;
 /// The world after one tick with these runs, in place of the world before, which is taken. Each room is
 /// stepped by itself, in rising index, with those of its entries that the runs want, and then all creeps that
 /// moved onto border tiles cross, in rising id over the whole world. Each account gets its limit of CPU units
-/// into its bucket, up to 10,000, without what its player's run used, the points that its player gained in all
-/// rooms, up to 2^53, and the memory text that the run left. A player has one run at most; of two, the first
-/// would count for the bucket and the memory text, and what both want would be ruled.
+/// into its bucket, up to 10,000, without what its player's run used, the points that its player gained in
+/// all rooms, up to 2^53, and the memory text that the run left. A player has one run at most; of two, the
+/// first would count for the bucket and the memory text, and what both want would be ruled.
 ///
 /// `lists` has what the runs want, room by room (`all_intents`, `intents_by_room`). A room is copied only
 /// where its table has not as much memory as its entries and the steps may need.

@@ -1,5 +1,6 @@
 // One room's tick.
-ghost use Rattle.std.specs.Prelude.{◌≡◌, ◌↔◌, IsTrue, ◌<◌, ◌≤◌, ◌^◌, [], ◌∷◌, ◌++◌, List, length, slice_get, option_copied, IfOk, OnOk, OnErr};
+ghost use Rattle.std.specs.Prelude.{◌≡◌, ◌↔◌, IsTrue, ◌<◌, ◌≤◌, ◌^◌, [], ◌∷◌, ◌++◌, List, length, slice_get};
+ghost use Rattle.std.specs.Prelude.{option_copied, IfOk, OnOk, OnErr};
 ghost use Rattle.std.specs.List.{AllByRecursion, filter};
 ghost use Rattle.intent_book.specs.declared.intent.Intent.{Intent};
 ghost use Rattle.kept_entries.specs.Turns.{in_turn};

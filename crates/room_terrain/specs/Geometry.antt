@@ -3,7 +3,8 @@ use Rattle.std.specs.Prelude.{◌≡◌, ℕ, ◌+◌, ◌-◌, ◌<◌, max, �
 use Rattle.room_terrain.specs.Names.{IsInRange}
 use Rattle.room_terrain.specs.declared.name.RoomName.{RoomName}
 use Rattle.room_terrain.specs.declared.direction.Direction.{Direction}
-use Rattle.room_terrain.specs.declared.direction.Direction.TheVariants.{Top, TopRight, Right, BottomRight, Bottom, BottomLeft, Left, TopLeft}
+use Rattle.room_terrain.specs.declared.direction.Direction.TheVariants.{Top, TopRight, Right, BottomRight}
+use Rattle.room_terrain.specs.declared.direction.Direction.TheVariants.{Bottom, BottomLeft, Left, TopLeft}
 use Rattle.room_terrain.specs.declared.terrain.Place.{Place}
 
 -- the distance of two columns or of two rows of tiles

@@ -1,5 +1,6 @@
 // Distances, steps and crossings.
-ghost use Rattle.std.specs.Prelude.{◌≡◌, ℕ, ◌<◌, ◌+ℤ◌, ◌↔◌, ℤ, pos, negsuc, ◌≤ℤ◌, SomeIff, IfSome, IfNone, IsTrue};
+ghost use Rattle.std.specs.Prelude.{◌≡◌, ℕ, ◌<◌, ◌+ℤ◌, ◌↔◌, ℤ, pos, negsuc, ◌≤ℤ◌, SomeIff, IfSome, IfNone};
+ghost use Rattle.std.specs.Prelude.{IsTrue};
 ghost use Rattle.room_terrain.specs.Geometry.{Crosses, IsInner, Mirrors, Steps, dx, dy, range_of};
 ghost use Rattle.room_terrain.specs.Names.{IsInRange, IsSideInRange};
 ghost use Rattle.room_terrain.specs.declared.name.RoomName.{RoomName};

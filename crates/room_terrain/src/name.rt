@@ -1,5 +1,7 @@
 // The names of rooms.
-ghost use Rattle.std.specs.Prelude.{◌≡◌, ℕ, ◌+◌, ◌<◌, ◌≤◌, ◌≢◌, ℤ, List, ◌∷◌, ◌++◌, [], length, drop, slice_get, cond, int_lt, pos, Some, IfSome, IfNone, IfOk, OnErr, MatchOption, decimal};
+ghost use Rattle.std.specs.Prelude.{◌≡◌, ℕ, ◌+◌, ◌<◌, ◌≤◌, ◌≢◌, ℤ, List, ◌∷◌, ◌++◌, [], length, drop};
+ghost use Rattle.std.specs.Prelude.{slice_get, cond, int_lt, pos, Some, IfSome, IfNone, IfOk, OnErr};
+ghost use Rattle.std.specs.Prelude.{MatchOption, decimal};
 ghost use Rattle.room_terrain.specs.Names.{Names, name_text, side_text, IsSideInRange, EndsNumber};
 ghost use Rattle.room_terrain.specs.declared.name.RoomName.{RoomName};
 

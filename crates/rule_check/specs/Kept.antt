@@ -8,7 +8,9 @@ use Rattle.object_store.specs.declared.world.Room.{Room}
 use Rattle.object_store.specs.Stored.{Stored}
 use Rattle.object_store.specs.Tables.{IsOnTile}
 use Rattle.world_rules.specs.declared.rule.Rule.{Rule}
-use Rattle.world_rules.specs.declared.rule.Rule.TheVariants.{Counts, RoomTwice, Corner, Serial, IdTwice, Tile, Shared, Owner, Controllers, Range, PlayerTwice, Sites}
+use Rattle.world_rules.specs.declared.rule.Rule.TheVariants.{Counts, RoomTwice, Corner, Serial, IdTwice, Tile}
+use Rattle.world_rules.specs.declared.rule.Rule.TheVariants.{Shared, Owner, Controllers, Range, PlayerTwice}
+use Rattle.world_rules.specs.declared.rule.Rule.TheVariants.{Sites}
 use Rattle.world_rules.specs.Rules.{Broken, IsInRangeAs, IsOnWrongTile}
 use Rattle.world_rules.specs.World.{Listing, listing_of}
 
@@ -20,8 +22,8 @@ AreOnTiles rooms = AllByRecursion (λ room. AllByRecursion IsOnTile room.table.o
 abbrev pub KeepsAllButCounts : Listing → Type 0
 KeepsAllButCounts listing = (rule : Rule) (n : ℕ) → rule ≢ Counts → Broken rule n listing → ⊥
 
--- the rules that speak of objects, which a tick may change; the others speak of what stays: how many rooms and
--- players there are, their names and numbers, and the grounds
+-- the rules that speak of objects, which a tick may change; the others speak of what stays: how many rooms
+-- and players there are, their names and numbers, and the grounds
 abbrev pub is_of_objects : Rule → Bool
 is_of_objects Counts = false
 is_of_objects RoomTwice = false

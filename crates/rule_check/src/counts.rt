@@ -1,5 +1,6 @@
 // Rules of how many there may be.
-ghost use Rattle.std.specs.Prelude.{◌≡◌, ◌≤◌, ◌<◌, ◌==◌, ◌++◌, ◌∷◌, [], ℕ, cond, MatchBool, IfOk, OnOk, length, count_by, sum_by};
+ghost use Rattle.std.specs.Prelude.{◌≡◌, ◌≤◌, ◌<◌, ◌==◌, ◌++◌, ◌∷◌, [], ℕ, cond, MatchBool, IfOk, OnOk};
+ghost use Rattle.std.specs.Prelude.{length, count_by, sum_by};
 ghost use Rattle.game_tables.specs.Limits.{most_sites};
 ghost use Rattle.game_tables.specs.Kinds.{is_site};
 ghost use Rattle.rule_check.specs.inner.Checks.{IsLeast, AnyOf, AreWithinCounts, owners_in, site_owners_of};

@@ -3,7 +3,9 @@ ghost use Rattle.std.specs.Prelude.{◌≡◌, ◌≤◌, MatchBool, []};
 ghost use Rattle.game_tables.specs.Fields.{most_extra, most_other_ticks};
 ghost use Rattle.game_tables.specs.Kinds.{hits_max};
 ghost use Rattle.game_tables.specs.declared.kind.Kind.{Kind};
-ghost use Rattle.world_rules.specs.Rules.{IsInRangeAs, IsFrom1To, IsProgress, IsDowngradeTimer, IsSource, IsController, IsCreep, IsSpawn, IsStore, IsDecaying, IsPile, IsSite};
+ghost use Rattle.world_rules.specs.Rules.{IsInRangeAs, IsFrom1To, IsProgress, IsDowngradeTimer, IsSource};
+ghost use Rattle.world_rules.specs.Rules.{IsController, IsCreep, IsSpawn, IsStore, IsDecaying, IsPile};
+ghost use Rattle.world_rules.specs.Rules.{IsSite};
 ghost use Rattle.rule_check.specs.inner.Checks.{IsReservedFor, IsBuilt, IsPlain};
 ghost use Rattle.rule_check.specs.declared.view.RoomView.{RoomView};
 

@@ -1,11 +1,13 @@
 // What the entries of a tick make of the rooms.
-ghost use Rattle.std.specs.Prelude.{◌≡◌, ◌≢◌, ◌<◌, ◌≤◌, ◌^◌, ℕ, length, Some, option_map, slice_get, OnOk, IfOk};
+ghost use Rattle.std.specs.Prelude.{◌≡◌, ◌≢◌, ◌<◌, ◌≤◌, ◌^◌, ℕ, length, Some, option_map, slice_get, OnOk};
+ghost use Rattle.std.specs.Prelude.{IfOk};
 ghost use Rattle.object_store.specs.declared.world.Room.{Room};
 ghost use Rattle.world_rules.specs.RoomParts.{table_part};
 ghost use Rattle.world_rules.specs.Tick.{book};
 ghost use Rattle.object_store.specs.Tables.{AreTalliesOf};
 ghost use Rattle.room_rules.specs.Calls.{IsHarmedBy, IsReady, Keeps};
-ghost use Rattle.ruled_tick.specs.inner.Entered.{many_in, wanted_spare, widened, widened_table, AreCounts, IsGained, IsRuled, IsRuledIn};
+ghost use Rattle.ruled_tick.specs.inner.Entered.{many_in, wanted_spare, widened, widened_table, AreCounts};
+ghost use Rattle.ruled_tick.specs.inner.Entered.{IsGained, IsRuled, IsRuledIn};
 
 use controller_rules::{attack_controller, claim, reserve, upgrade};
 use creep_combat::{attack, heal, mass_attack, ranged_attack, ranged_heal, suicide};
@@ -61,8 +63,8 @@ fn counts_of(alloc: Global, rooms: usize, entries: &[Entry]) -> Result<Vec<u32>,
     Ok(counts)
 }
 
-/// Begins a tick in a room's table: forgets what was done to its objects, and gives it memory for what so many
-/// entries and a step of upkeep may make, by a copy where it hasn't as much.
+/// Begins a tick in a room's table: forgets what was done to its objects, and gives it memory for what so
+/// many entries and a step of upkeep may make, by a copy where it hasn't as much.
 pub fn widen(alloc: Global, table: &mut RoomTable, entries: u32) -> Result<(), NoMemory>
     ensures { OnOk result (table.new ≡ widened_table entries table.old) }
 {
@@ -73,9 +75,9 @@ pub fn widen(alloc: Global, table: &mut RoomTable, entries: u32) -> Result<(), N
     Ok(())
 }
 
-/// A copy of a table with memory for what so many entries and a step of upkeep may make. Where its objects and
-/// that memory come to 2^32, it is refused as one without memory; a room that keeps the rules has at most 7,500
-/// objects.
+/// A copy of a table with memory for what so many entries and a step of upkeep may make. Where its objects
+/// and that memory come to 2^32, it is refused as one without memory; a room that keeps the rules has at most
+/// 7,500 objects.
 pub fn copied(alloc: Global, table: &RoomTable, entries: u32) -> Result<RoomTable, NoMemory>
     ensures { IfOk result
         (λ copy. copy ≡ record table.now { spare = wanted_spare entries (length table.now.objects) }) }

@@ -1,9 +1,11 @@
 // Movement and upkeep of all rooms.
-ghost use Rattle.std.specs.Prelude.{◌≡◌, IsTrue, ◌<◌, ◌^◌, ◌∷◌, ◌++◌, [], ℕ, List, Some, slice_get, OnOk, IfOk};
+ghost use Rattle.std.specs.Prelude.{◌≡◌, IsTrue, ◌<◌, ◌^◌, ◌∷◌, ◌++◌, [], ℕ, List, Some, slice_get, OnOk};
+ghost use Rattle.std.specs.Prelude.{IfOk};
 ghost use Rattle.object_store.specs.declared.world.Room.{Room};
 ghost use Rattle.kept_entries.specs.declared.entries.Entry.{Entry};
 ghost use Rattle.room_rules.specs.Calls.{AreActorsOnce};
-ghost use Rattle.ruled_tick.specs.inner.Ticked.{moves_in, AreMoves, AreTicked, IsReadyToTick, IsTicked, IsTickedTable, HasMemory};
+ghost use Rattle.ruled_tick.specs.inner.Ticked.{moves_in, AreMoves, AreTicked, IsReadyToTick, IsTicked};
+ghost use Rattle.ruled_tick.specs.inner.Ticked.{IsTickedTable, HasMemory};
 
 use creep_move::settle_moves;
 use game_tables::Action;
@@ -71,8 +73,8 @@ fn tick_room(room: &mut Room, moves: &[Intent]) -> Result<(), NoMemory>
     tick_table(&room.terrain, &mut room.table, moves)
 }
 
-/// Lets the creeps of a room move, by these moves all at once, and keeps the room up, by the steps of upkeep in
-/// their order. A room that has no serials for what the steps may make is refused as one without memory.
+/// Lets the creeps of a room move, by these moves all at once, and keeps the room up, by the steps of upkeep
+/// in their order. A room that has no serials for what the steps may make is refused as one without memory.
 pub fn tick_table(ground: &Terrain, table: &mut RoomTable, moves: &[Intent]) -> Result<(), NoMemory>
     requires ready { IsReadyToTick table.old }
     requires once { AreActorsOnce moves.now }

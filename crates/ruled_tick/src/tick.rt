@@ -1,5 +1,6 @@
 // One tick of the whole world.
-ghost use Rattle.std.specs.Prelude.{◌≡◌, IsTrue, ◌<◌, ◌≤◌, ◌-◌, ◌+◌, ◌^◌, ℕ, List, [], map, length, IfOk, OnOk};
+ghost use Rattle.std.specs.Prelude.{◌≡◌, IsTrue, ◌<◌, ◌≤◌, ◌-◌, ◌+◌, ◌^◌, ℕ, List, [], map, length, IfOk};
+ghost use Rattle.std.specs.Prelude.{OnOk};
 ghost use Rattle.object_store.specs.Stored.{AreRising};
 ghost use Rattle.intent_book.specs.declared.intent.Intent.{Intent};
 ghost use Rattle.kept_entries.specs.Turns.{AreKept};

@@ -5,10 +5,12 @@ ghost use Rattle.game_tables.specs.declared.kind.Kind.TheVariants.{Spawn};
 ghost use Rattle.object_store.specs.Tables.{find_object};
 ghost use Rattle.world_rules.specs.RoomParts.{table_part};
 ghost use Rattle.world_rules.specs.Moves.{direction_of};
-ghost use Rattle.world_rules.specs.Spawns.{hatched, hatched_as, hatched_on, is_free_for_creep, newborn, tile_for};
+ghost use Rattle.world_rules.specs.Spawns.{hatched, hatched_as, hatched_on, is_free_for_creep, newborn};
+ghost use Rattle.world_rules.specs.Spawns.{tile_for};
 ghost use Rattle.room_rules.specs.Calls.{IsReadyFor, KeepsUpTo};
 ghost use Rattle.spawn_rules.specs.Spare.{is_spawn, may_hatch};
-ghost use Rattle.spawn_rules.specs.inner.Hatching.{free_towards, left_from, HaveIds, IsHatchedFrom, KeepsOthers};
+ghost use Rattle.spawn_rules.specs.inner.Hatching.{free_towards, left_from, HaveIds, IsHatchedFrom};
+ghost use Rattle.spawn_rules.specs.inner.Hatching.{KeepsOthers};
 
 use action_checks::{ahead, is_open};
 use game_tables::{Body, Kind, hits_max};

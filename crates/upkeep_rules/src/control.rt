@@ -1,7 +1,8 @@
 // What time does to controllers.
 ghost use Rattle.std.specs.Prelude.{◌≡◌, ◌≤◌};
 ghost use Rattle.game_tables.specs.declared.kind.Kind.TheVariants.{Controller};
-ghost use Rattle.world_rules.specs.Claims.{controller_aged_as, downgraded, full_time, owned_aged, reservation_aged};
+ghost use Rattle.world_rules.specs.Claims.{controller_aged_as, downgraded, full_time, owned_aged};
+ghost use Rattle.world_rules.specs.Claims.{reservation_aged};
 
 use game_tables::downgrade_number;
 use object_store::Object;

@@ -11,7 +11,8 @@ ghost use Rattle.world_rules.specs.RuleBook.{Sums};
 ghost use Rattle.world_rules.specs.Steps.{over_objects};
 ghost use Rattle.world_rules.specs.Upkeep.{decays, decay_hits, hits_left, weathered};
 ghost use Rattle.room_rules.specs.Calls.{AreSumsOf, IsReady, IsReadyFor, KeepsUpTo};
-ghost use Rattle.upkeep_rules.specs.inner.Worn.{budget, change, concerns, left_of, may_drop, place_behind, sums_of, tasks, worn, HasFallen, IsTurn};
+ghost use Rattle.upkeep_rules.specs.inner.Worn.{budget, change, concerns, left_of, may_drop, place_behind};
+ghost use Rattle.upkeep_rules.specs.inner.Worn.{sums_of, tasks, worn, HasFallen, IsTurn};
 
 use falling_energy::fall;
 use game_tables::{Kind, full_timer, hits_max, is_building, is_creep};

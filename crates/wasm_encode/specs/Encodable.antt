@@ -1,9 +1,13 @@
 -- Which modules have a binary form: as many functions as codes, names that are UTF-8, numbers in the ranges
 -- of their types,
 -- opcodes that are those of their instructions, and sizes of 32 bits.
-use Rattle.std.specs.Prelude.{◌≡◌, ℕ, ◌+◌, ◌-◌, ◌*◌, ◌^◌, ◌<◌, ℤ, pos, ◌+ℤ◌, ◌<ℤ◌, ◌≤ℤ◌, length, sum_by, All, Some}
+use Rattle.std.specs.Prelude.{◌≡◌, ℕ, ◌+◌, ◌-◌, ◌*◌, ◌^◌, ◌<◌, ℤ, pos, ◌+ℤ◌, ◌<ℤ◌, ◌≤ℤ◌, length, sum_by, All}
+use Rattle.std.specs.Prelude.{Some}
 use Rattle.std.specs.Str.{IsUtf8}
-use Rattle.wasm_module.specs.Syntax.{Op, Ops, block, loop, if_else, br, br_if, br_table, call, call_indirect, local_get, local_set, local_tee, global_get, global_set, load, store, i32_const, i64_const, numeric, float_memory, float_const, float_plain, no_ops, next}
+use Rattle.wasm_module.specs.Syntax.{Op, Ops, block, loop, if_else, br, br_if, br_table, call, call_indirect}
+use Rattle.wasm_module.specs.Syntax.{local_get, local_set, local_tee, global_get, global_set, load, store}
+use Rattle.wasm_module.specs.Syntax.{i32_const, i64_const, numeric, float_memory, float_const, float_plain}
+use Rattle.wasm_module.specs.Syntax.{no_ops, next}
 use Rattle.wasm_module.specs.Instructions.{IsLoad, IsStore, IsFloatMemory, IsNumeric, IsFloatPlain}
 use Rattle.wasm_module.specs.Sections.{Syntax}
 use Rattle.wasm_module.specs.declared.types.Bounds.{Bounds}

@@ -2,7 +2,9 @@
 ghost use Rattle.std.specs.Prelude.{◌≡◌, ◌^◌, ◌<◌, [], ◌∷◌, length, OnOk};
 ghost use Rattle.wasm_encode.specs.inner.Gains.{Gains, IsSpelled};
 ghost use Rattle.wasm_module.specs.Spelling.{SpellsBytes};
-ghost use Rattle.wasm_module.specs.Values.{SpellsBlockType, SpellsBounds, SpellsExportDesc, SpellsGlobalType, SpellsImportDesc, SpellsMutable, SpellsName, SpellsResult, SpellsTableType, SpellsValType};
+ghost use Rattle.wasm_module.specs.Values.{SpellsBlockType, SpellsBounds, SpellsExportDesc, SpellsGlobalType};
+ghost use Rattle.wasm_module.specs.Values.{SpellsImportDesc, SpellsMutable, SpellsName, SpellsResult};
+ghost use Rattle.wasm_module.specs.Values.{SpellsTableType, SpellsValType};
 
 use crate::NoMemory;
 use byte_fields::put_leb_u32;

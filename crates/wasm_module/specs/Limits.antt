@@ -5,7 +5,8 @@ use Rattle.wasm_module.specs.Entries.{Function}
 use Rattle.wasm_module.specs.Sections.{Syntax, Spells}
 use Rattle.wasm_module.specs.declared.types.FuncType.{FuncType}
 use Rattle.wasm_module.specs.declared.module.Limit.{Limit}
-use Rattle.wasm_module.specs.declared.module.Limit.TheVariants.{Bytes, Functions, Nesting, Locals, Pages, TableEntries}
+use Rattle.wasm_module.specs.declared.module.Limit.TheVariants.{Bytes, Functions, Nesting, Locals, Pages}
+use Rattle.wasm_module.specs.declared.module.Limit.TheVariants.{TableEntries}
 
 -- At most 10,000 functions.
 abbrev pub WithinFunctions : Syntax Ops → Type 0

@@ -1,13 +1,17 @@
 -- Which bytes spell a module: WebAssembly Core 1.0, chapters 5.5.2 to 5.5.15.
 -- The forms are stated for any form of expressions, since readers use them with narrower ones than the
 -- standard's.
-use Rattle.std.specs.Prelude.{◌≡◌, ℕ, ◌<◌, ◌≤◌, List, [], ◌∷◌, ◌++◌, length, map, Option, Some, None, cond, nat_eq}
+use Rattle.std.specs.Prelude.{◌≡◌, ℕ, ◌<◌, ◌≤◌, List, [], ◌∷◌, ◌++◌, length, map, Option, Some, None, cond}
+use Rattle.std.specs.Prelude.{nat_eq}
 use Rattle.byte_fields.specs.Front.{Begins}
 use Rattle.wasm_module.specs.Spelling.{SpellsU32, SpellsByte, Then, SpellsEach, SpellsList, SpellsBytes}
 use Rattle.wasm_module.specs.Syntax.{Ops}
-use Rattle.wasm_module.specs.Values.{SpellsName, SpellsFuncType, SpellsImport, SpellsTableType, SpellsBounds, SpellsExport}
+use Rattle.wasm_module.specs.Values.{SpellsName, SpellsFuncType, SpellsImport, SpellsTableType, SpellsBounds}
+use Rattle.wasm_module.specs.Values.{SpellsExport}
 use Rattle.wasm_module.specs.Instructions.{SpellsExpression}
-use Rattle.wasm_module.specs.Entries.{Global, global_view, SpellsGlobal, Elements, element_view, SpellsElement, Function, code_view, SpellsCode, Data, segment_view, SpellsSegment}
+use Rattle.wasm_module.specs.Entries.{Global, global_view, SpellsGlobal, Elements, element_view}
+use Rattle.wasm_module.specs.Entries.{SpellsElement, Function, code_view, SpellsCode, Data, segment_view}
+use Rattle.wasm_module.specs.Entries.{SpellsSegment}
 use Rattle.wasm_module.specs.declared.types.FuncType.{FuncType}
 use Rattle.wasm_module.specs.declared.types.Bounds.{Bounds}
 use Rattle.wasm_module.specs.declared.imports.Import.{Import}

@@ -1,6 +1,10 @@
 -- The instructions that a tree in the code stands for.
 use Rattle.std.specs.Prelude.{List, [], ◌∷◌, map}
-use Rattle.wasm_module.specs.Syntax.{Op, Ops, unreachable, nop, block, loop, if_else, br, br_if, br_table, return, call, call_indirect, drop_value, select, local_get, local_set, local_tee, global_get, global_set, load, store, memory_size, memory_grow, i32_const, i64_const, numeric, float_memory, float_const, float_plain, no_ops, next}
+use Rattle.wasm_module.specs.Syntax.{Op, Ops, unreachable, nop, block, loop, if_else, br, br_if, br_table}
+use Rattle.wasm_module.specs.Syntax.{return, call, call_indirect, drop_value, select, local_get, local_set}
+use Rattle.wasm_module.specs.Syntax.{local_tee, global_get, global_set, load, store, memory_size, memory_grow}
+use Rattle.wasm_module.specs.Syntax.{i32_const, i64_const, numeric, float_memory, float_const, float_plain}
+use Rattle.wasm_module.specs.Syntax.{no_ops, next}
 use Rattle.wasm_module.specs.declared.instr.Instr.{Instr}
 use Rattle.wasm_module.specs.declared.instr.Instr.TheFolds.{fold-Instr, fold-Instrs}
 use Rattle.wasm_module.specs.declared.instr.Instr.TheOpen.{Instr-F, Instrs-F}

@@ -1,7 +1,8 @@
 // The forms of expressions, and what is kept of the entries that hold them.
 ghost use Rattle.std.specs.Prelude.{◌≡◌, List, ℕ, IfOk, IfErr};
 ghost use Rattle.byte_fields.specs.Front.{Begins, BeginsNone, BeginsOnly};
-ghost use Rattle.wasm_module.specs.Entries.{Data as DataView, Elements as ElementView, Function as FunctionView, Global as GlobalView};
+ghost use Rattle.wasm_module.specs.Entries.{Data as DataView, Elements as ElementView};
+ghost use Rattle.wasm_module.specs.Entries.{Function as FunctionView, Global as GlobalView};
 
 use crate::codes::{Code, LocalRuns};
 use crate::elements::Element;

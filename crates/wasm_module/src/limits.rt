@@ -1,8 +1,10 @@
 // The limits of what is taken as a module.
-ghost use Rattle.std.specs.Prelude.{◌≡◌, ◌↔◌, ◌+◌, ◌≤◌, ◌^◌, ◌<◌, ℕ, sum_by, slice_get, Some, All, IsTrue, MatchOption};
+ghost use Rattle.std.specs.Prelude.{◌≡◌, ◌↔◌, ◌+◌, ◌≤◌, ◌^◌, ◌<◌, ℕ, sum_by, slice_get, Some, All, IsTrue};
+ghost use Rattle.std.specs.Prelude.{MatchOption};
 ghost use Rattle.wasm_module.specs.Entries.{code_view};
 ghost use Rattle.wasm_module.specs.Sections.{module_view};
-ghost use Rattle.wasm_module.specs.Limits.{IsWithin, PassesFirst, WithinLocals, WithinNesting, locals_of, params_in};
+ghost use Rattle.wasm_module.specs.Limits.{IsWithin, PassesFirst, WithinLocals, WithinNesting, locals_of};
+ghost use Rattle.wasm_module.specs.Limits.{params_in};
 
 use crate::codes::{Code, LocalRun};
 use crate::module::{Limit, Module};

@@ -2,7 +2,8 @@
 ghost use Rattle.std.specs.Prelude.{◌≡◌, ◌↔◌, List, ℕ, map, IfOk, IfErr, IsTrue, MatchOption, Some, None};
 ghost use Rattle.byte_fields.specs.Front.{Begins, BeginsNone, BeginsOnly};
 ghost use Rattle.wasm_module.specs.Spelling.{SpellsEach};
-ghost use Rattle.wasm_module.specs.Sections.{AreOrdered, IsCustom, SpellsSection, content_of as content_of_number};
+ghost use Rattle.wasm_module.specs.Sections.{AreOrdered, IsCustom, SpellsSection};
+ghost use Rattle.wasm_module.specs.Sections.{content_of as content_of_number};
 ghost use Rattle.wasm_module.specs.inner.Parts.{section_view};
 
 use crate::read::ReadFault;

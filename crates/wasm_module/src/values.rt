@@ -2,7 +2,9 @@
 ghost use Rattle.std.specs.Prelude.{◌≡◌, List, ℕ, [], ◌∷◌, length, Option, IfOk, OnOk, IfErr, IfSome, IfNone};
 ghost use Rattle.byte_fields.specs.Front.{Begins, BeginsNone, BeginsOnly};
 ghost use Rattle.wasm_module.specs.Spelling.{SpellsBytes, SpellsMark};
-ghost use Rattle.wasm_module.specs.Values.{SpellsBlockType, SpellsBounds, SpellsExportDesc, SpellsGlobalType, SpellsImportDesc, SpellsMutable, SpellsName, SpellsTableType, SpellsValType};
+ghost use Rattle.wasm_module.specs.Values.{SpellsBlockType, SpellsBounds, SpellsExportDesc, SpellsGlobalType};
+ghost use Rattle.wasm_module.specs.Values.{SpellsImportDesc, SpellsMutable, SpellsName, SpellsTableType};
+ghost use Rattle.wasm_module.specs.Values.{SpellsValType};
 ghost use Rattle.wasm_module.specs.declared.types.ValType.{ValType};
 
 use crate::entry_lists::{Blob, Entries, Name};

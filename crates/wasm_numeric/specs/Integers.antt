@@ -1,7 +1,9 @@
 -- The integer operators of WebAssembly Core 1.0, chapters 4.3.2 and 4.3.4, each stated once for every width
 -- N.
 -- N bits are a whole number below 2 ^ N, and the names are those of the chapters.
-use Rattle.std.specs.Prelude.{ℕ, zero, suc, ◌+◌, ◌-◌, ◌*◌, ◌/◌, ◌%◌, ◌^◌, ◌==◌, ◌&&◌, Bool, not, nat_lt, nat_le, if◌then◌else◌, Option, Some, None, List, [], ◌∷◌, count_by, bit_and, bit_or, bit_xor, ℤ, pos, negsuc, ◌-ℤ◌, int_lt, int_le, int_div, int_rem}
+use Rattle.std.specs.Prelude.{ℕ, zero, suc, ◌+◌, ◌-◌, ◌*◌, ◌/◌, ◌%◌, ◌^◌, ◌==◌, ◌&&◌, Bool, not, nat_lt}
+use Rattle.std.specs.Prelude.{nat_le, if◌then◌else◌, Option, Some, None, List, [], ◌∷◌, count_by, bit_and}
+use Rattle.std.specs.Prelude.{bit_or, bit_xor, ℤ, pos, negsuc, ◌-ℤ◌, int_lt, int_le, int_div, int_rem}
 use Rattle.std.specs.List.{prefix_len, suffix_len}
 use Rattle.std.specs.Int.{int_div_euclid}
 

@@ -1,7 +1,10 @@
 -- The opcodes of the integer instructions, as WebAssembly Core 1.0, chapter 5.4.5, lists them: for each the
 -- width of its operands and the operator.
 use Rattle.std.specs.Prelude.{◌≡◌, ◌≤◌, ◌⊎◌, ℕ, ◌==◌, Bool, if◌then◌else◌, Option, Some}
-use Rattle.wasm_numeric.specs.Integers.{least, minus_one, iclz, ictz, ipopcnt, iadd, isub, imul, idiv_s, idiv_u, irem_s, irem_u, iand, ior, ixor, ishl, ishr_s, ishr_u, irotl, irotr, ieqz, ieq, ine, ilt_s, ilt_u, igt_s, igt_u, ile_s, ile_u, ige_s, ige_u, wrap, extend_s, extend_u}
+use Rattle.wasm_numeric.specs.Integers.{least, minus_one, iclz, ictz, ipopcnt, iadd, isub, imul, idiv_s}
+use Rattle.wasm_numeric.specs.Integers.{idiv_u, irem_s, irem_u, iand, ior, ixor, ishl, ishr_s, ishr_u, irotl}
+use Rattle.wasm_numeric.specs.Integers.{irotr, ieqz, ieq, ine, ilt_s, ilt_u, igt_s, igt_u, ile_s, ile_u}
+use Rattle.wasm_numeric.specs.Integers.{ige_s, ige_u, wrap, extend_s, extend_u}
 
 -- opcodes from `low` to `high`
 abbrev pub IsFrom : ℕ → ℕ → ℕ → Type 0

@@ -4,7 +4,9 @@
 ghost use Rattle.std.specs.Prelude.{◌≡◌, ◌<◌, ◌≤◌, ◌^◌, IfOk, IfErr, IsErrOf};
 ghost use Rattle.std.specs.Result.{result_ok};
 ghost use Rattle.wasm_numeric.specs.Integers.{least, minus_one, idiv_s, irem_s};
-ghost use Rattle.wasm_numeric.specs.Opcodes.{IsFrom, IsOverflow, IsUnary, IsBinary, IsDivision, IsCompare, IsConvert, unary_value, binary_value, compare_value, convert_value};
+ghost use Rattle.wasm_numeric.specs.Opcodes.{IsFrom, IsOverflow, IsUnary, IsBinary, IsDivision, IsCompare};
+ghost use Rattle.wasm_numeric.specs.Opcodes.{IsConvert, unary_value, binary_value, compare_value};
+ghost use Rattle.wasm_numeric.specs.Opcodes.{convert_value};
 
 /// Why an integer instruction has no value.
 #[derive(Clone, Copy, Debug, PartialEq, Eq)]

@@ -1,8 +1,12 @@
 -- What a typed thread finds at each instruction, and that it is typed behind it. `base` is the context of the
 -- module, `pending op thread` the
 -- thread with the instruction before what it has left.
-use Rattle.std.specs.Prelude.{◌≡◌, ℕ, ℤ, ◌*◌, ◌<◌, ◌≤◌, List, [], ◌∷◌, length, drop, get_or, Option, None, Some, slice_get, slice_set}
-use Rattle.wasm_module.specs.Syntax.{Ops, no_ops, next, nop, block, loop, if_else, br, br_if, br_table, return, call, call_indirect, drop_value, select, local_get, local_set, local_tee, global_get, global_set, load, store, memory_size, memory_grow, i32_const, i64_const, numeric, float_memory, float_const, float_plain}
+use Rattle.std.specs.Prelude.{◌≡◌, ℕ, ℤ, ◌*◌, ◌<◌, ◌≤◌, List, [], ◌∷◌, length, drop, get_or, Option, None}
+use Rattle.std.specs.Prelude.{Some, slice_get, slice_set}
+use Rattle.wasm_module.specs.Syntax.{Ops, no_ops, next, nop, block, loop, if_else, br, br_if, br_table}
+use Rattle.wasm_module.specs.Syntax.{return, call, call_indirect, drop_value, select, local_get, local_set}
+use Rattle.wasm_module.specs.Syntax.{local_tee, global_get, global_set, load, store, memory_size, memory_grow}
+use Rattle.wasm_module.specs.Syntax.{i32_const, i64_const, numeric, float_memory, float_const, float_plain}
 use Rattle.wasm_module.specs.declared.instr.FloatBytes.{FloatBytes}
 use Rattle.wasm_module.specs.declared.types.ValType.{ValType}
 use Rattle.wasm_module.specs.declared.types.ValType.TheVariants.{I32, I64}

@@ -1,5 +1,6 @@
 -- What a typed thread offers to the instruction that is next.
-use Rattle.std.specs.Prelude.{◌≡◌, ℕ, zero, suc, ℤ, ◌+◌, ◌-◌, ◌<◌, ◌≤◌, List, [], ◌∷◌, ◌++◌, length, drop, take, Option, Some, None, reverse}
+use Rattle.std.specs.Prelude.{◌≡◌, ℕ, zero, suc, ℤ, ◌+◌, ◌-◌, ◌<◌, ◌≤◌, List, [], ◌∷◌, ◌++◌, length, drop}
+use Rattle.std.specs.Prelude.{take, Option, Some, None, reverse}
 use Rattle.wasm_module.specs.Syntax.{Op, Ops, next}
 use Rattle.wasm_module.specs.declared.types.ValType.{ValType}
 use Rattle.wasm_validate.specs.Context.{Context}

@@ -1,5 +1,12 @@
 // What a typed module keeps as it runs.
-ghost use Rattle.wasm_soundness.specs.Laws.{InvokedFunctionsAreTyped, LeavingKeepsTypes, FramesEndInResults, LevelsAreFew, BranchingKeepsTypes, ConditionsKeepTypes, TablesKeepTypes, ReturningKeepsTypes, BlocksKeepTypes, LoopsKeepTypes, ChoicesKeepTypes, CallsKeepTypes, IndirectCallsKeepTypes, EntriesAreFunctions, ConstantsAreOffered, NumbersAreOffered, OperandsAreOffered, LocalsKeepTypes, GlobalsKeepTypes, AddressesAreOffered, GrowthsAreOffered, FloatsAreNotRun};
+ghost use Rattle.wasm_soundness.specs.Laws.{InvokedFunctionsAreTyped, LeavingKeepsTypes, FramesEndInResults};
+ghost use Rattle.wasm_soundness.specs.Laws.{LevelsAreFew, BranchingKeepsTypes, ConditionsKeepTypes};
+ghost use Rattle.wasm_soundness.specs.Laws.{TablesKeepTypes, ReturningKeepsTypes, BlocksKeepTypes};
+ghost use Rattle.wasm_soundness.specs.Laws.{LoopsKeepTypes, ChoicesKeepTypes, CallsKeepTypes};
+ghost use Rattle.wasm_soundness.specs.Laws.{IndirectCallsKeepTypes, EntriesAreFunctions, ConstantsAreOffered};
+ghost use Rattle.wasm_soundness.specs.Laws.{NumbersAreOffered, OperandsAreOffered, LocalsKeepTypes};
+ghost use Rattle.wasm_soundness.specs.Laws.{GlobalsKeepTypes, AddressesAreOffered, GrowthsAreOffered};
+ghost use Rattle.wasm_soundness.specs.Laws.{FloatsAreNotRun};
 
 /// Says what holds of a typed run, instruction by instruction: each instruction finds its operands on top of
 /// the stack,

@@ -1,9 +1,13 @@
 -- What instructions do that neither branch nor call: WebAssembly Core 1.0, chapters 4.4.1 to 4.4.4. Operands
 -- stand with the top first.
-use Rattle.std.specs.Prelude.{◌≡◌, ◌≢◌, ℕ, ℤ, ◌+◌, ◌<◌, ◌≤◌, ◌==◌, ◌||◌, if◌then◌else◌, List, ◌∷◌, length, Some, None, slice_get, slice_set, true, cond}
+use Rattle.std.specs.Prelude.{◌≡◌, ◌≢◌, ℕ, ℤ, ◌+◌, ◌<◌, ◌≤◌, ◌==◌, ◌||◌, if◌then◌else◌, List, ◌∷◌, length}
+use Rattle.std.specs.Prelude.{Some, None, slice_get, slice_set, true, cond}
 use Rattle.std.specs.Int.{w8, w16, w32, w64, cast_signed, cast_unsigned}
-use Rattle.wasm_module.specs.Syntax.{Op, nop, unreachable, drop_value, select, local_get, local_set, local_tee, global_get, global_set, load, store, memory_size, memory_grow, i32_const, i64_const, numeric}
-use Rattle.wasm_numeric.specs.Opcodes.{IsUnary, IsBinary, IsCompare, IsConvert, unary_value, binary_value, compare_value, convert_value}
+use Rattle.wasm_module.specs.Syntax.{Op, nop, unreachable, drop_value, select, local_get, local_set}
+use Rattle.wasm_module.specs.Syntax.{local_tee, global_get, global_set, load, store, memory_size, memory_grow}
+use Rattle.wasm_module.specs.Syntax.{i32_const, i64_const, numeric}
+use Rattle.wasm_numeric.specs.Opcodes.{IsUnary, IsBinary, IsCompare, IsConvert, unary_value, binary_value}
+use Rattle.wasm_numeric.specs.Opcodes.{compare_value, convert_value}
 use Rattle.wasm_store.specs.Bytes.{le_bytes, le_number}
 use Rattle.wasm_store.specs.Memory.{page_count, grown, span, written}
 use Rattle.wasm_validate.specs.Operations.{Access, load_of, store_of}

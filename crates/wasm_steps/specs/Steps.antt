@@ -1,17 +1,21 @@
 -- The steps of a run, each with its cost: WebAssembly Core 1.0, chapter 4.4. Each instruction costs 1, one
 -- that traps and a host call included.
 -- Leaving a block or a frame costs nothing.
-use Rattle.std.specs.Prelude.{◌≡◌, ◌≢◌, ℕ, ℤ, ◌+◌, ◌-◌, ◌%◌, ◌^◌, ◌<◌, ◌≤◌, List, [], ◌∷◌, ◌++◌, length, map, reverse, replicate, take, drop, Option, Some, None, slice_get, zip}
+use Rattle.std.specs.Prelude.{◌≡◌, ◌≢◌, ℕ, ℤ, ◌+◌, ◌-◌, ◌%◌, ◌^◌, ◌<◌, ◌≤◌, List, [], ◌∷◌, ◌++◌, length, map}
+use Rattle.std.specs.Prelude.{reverse, replicate, take, drop, Option, Some, None, slice_get, zip}
 use Rattle.std.specs.Option.{unwrap_or}
 use Rattle.std.specs.Int.{w32, w64, cast_signed, cast_unsigned}
-use Rattle.wasm_module.specs.Syntax.{Op, Ops, next, block, loop, if_else, br, br_if, br_table, return, call, call_indirect}
+use Rattle.wasm_module.specs.Syntax.{Op, Ops, next, block, loop, if_else, br, br_if, br_table, return, call}
+use Rattle.wasm_module.specs.Syntax.{call_indirect}
 use Rattle.wasm_module.specs.declared.types.ValType.{ValType}
 use Rattle.wasm_module.specs.declared.types.ValType.TheVariants.{I32, I64, F32, F64}
 use Rattle.wasm_module.specs.declared.types.FuncType.{FuncType}
 use Rattle.wasm_store.specs.Memory.{Memory}
-use Rattle.wasm_steps.specs.Program.{Function, imported, defined, type_of, Program, Store, most_frames, most_values}
+use Rattle.wasm_steps.specs.Program.{Function, imported, defined, type_of, Program, Store, most_frames}
+use Rattle.wasm_steps.specs.Program.{most_values}
 use Rattle.wasm_steps.specs.Plain.{Data, Does, Fails}
-use Rattle.wasm_steps.specs.Threads.{label, frame, Thread, arity, frame_count, size, Leaves, Branches, Returns}
+use Rattle.wasm_steps.specs.Threads.{label, frame, Thread, arity, frame_count, size, Leaves, Branches}
+use Rattle.wasm_steps.specs.Threads.{Returns}
 use Rattle.wasm_steps.specs.declared.outcome.Trap.{Trap}
 use Rattle.wasm_steps.specs.declared.outcome.Trap.TheVariants as traps
 

@@ -1,6 +1,7 @@
 -- Modules without floats: no float type and no instruction on floats stands in them.
 use Rattle.std.specs.Prelude.{List, Option, Some, None, All}
-use Rattle.wasm_module.specs.Syntax.{Op, Ops, block, loop, if_else, float_memory, float_const, float_plain, no_ops, next}
+use Rattle.wasm_module.specs.Syntax.{Op, Ops, block, loop, if_else, float_memory, float_const, float_plain}
+use Rattle.wasm_module.specs.Syntax.{no_ops, next}
 use Rattle.wasm_module.specs.Sections.{Syntax}
 use Rattle.wasm_module.specs.declared.types.ValType.{ValType}
 use Rattle.wasm_module.specs.declared.types.ValType.TheVariants.{I32, I64, F32, F64}

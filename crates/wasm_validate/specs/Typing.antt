@@ -1,8 +1,12 @@
 -- Which types instructions have: WebAssembly Core 1.0, chapter 3.3, with a case for each rule. Instructions
 -- on floats have none.
 -- A list of types is a stack with its top FIRST, so the standard's `[t1 t2]` is written `t2 ∷ t1 ∷ []`.
-use Rattle.std.specs.Prelude.{◌≡◌, ◌≢◌, ◌≤◌, ◌^◌, ℕ, ℤ, true, List, [], ◌∷◌, ◌++◌, Option, None, Some, slice_get, reverse, All}
-use Rattle.wasm_module.specs.Syntax.{Op, Ops, unreachable, nop, block, loop, if_else, br, br_if, br_table, return, call, call_indirect, drop_value, select, local_get, local_set, local_tee, global_get, global_set, load, store, memory_size, memory_grow, i32_const, i64_const, numeric, no_ops, next}
+use Rattle.std.specs.Prelude.{◌≡◌, ◌≢◌, ◌≤◌, ◌^◌, ℕ, ℤ, true, List, [], ◌∷◌, ◌++◌, Option, None, Some}
+use Rattle.std.specs.Prelude.{slice_get, reverse, All}
+use Rattle.wasm_module.specs.Syntax.{Op, Ops, unreachable, nop, block, loop, if_else, br, br_if, br_table}
+use Rattle.wasm_module.specs.Syntax.{return, call, call_indirect, drop_value, select, local_get, local_set}
+use Rattle.wasm_module.specs.Syntax.{local_tee, global_get, global_set, load, store, memory_size, memory_grow}
+use Rattle.wasm_module.specs.Syntax.{i32_const, i64_const, numeric, no_ops, next}
 use Rattle.wasm_module.specs.declared.types.ValType.{ValType}
 use Rattle.wasm_module.specs.declared.types.ValType.TheVariants.{I32, I64}
 use Rattle.wasm_module.specs.declared.types.FuncType.{FuncType}

@@ -1,6 +1,7 @@
 // The types of branches.
 ghost use Rattle.std.specs.Prelude.{IfOk, All};
-ghost use Rattle.wasm_module.specs.Syntax.{br as op_br, br_if as op_br_if, br_table as op_br_table, return as op_return};
+ghost use Rattle.wasm_module.specs.Syntax.{br as op_br, br_if as op_br_if, br_table as op_br_table};
+ghost use Rattle.wasm_module.specs.Syntax.{return as op_return};
 ghost use Rattle.wasm_validate.specs.Typing.{Takes};
 ghost use Rattle.wasm_validate.specs.inner.Scopes.{scope_view};
 ghost use Rattle.wasm_validate.specs.inner.Stands.{Exactly, Checks};

@@ -21,7 +21,8 @@ pub(crate) struct Context<'a> {
 
 impl<'a> Context<'a> {
     ghost use Rattle.wasm_validate.specs.inner.Adds.{Adds};
-    ghost use Rattle.wasm_validate.specs.Context.{imported_func, imported_table, imported_memory, imported_global, module_context};
+    ghost use Rattle.wasm_validate.specs.Context.{imported_func, imported_table, imported_memory};
+    ghost use Rattle.wasm_validate.specs.Context.{imported_global, module_context};
     ghost use Rattle.wasm_validate.specs.Views.{context_view};
 
     /// The number of functions.

@@ -1,7 +1,8 @@
 // Whether a module is without floats.
 ghost use Rattle.wasm_module.specs.View.{instr_view, instrs_view};
 ghost use Rattle.wasm_module.specs.Sections.{module_view};
-ghost use Rattle.wasm_validate.specs.Floats.{HasNoFloat, ImportHasNoFloat, IsInteger, IsIntegerResult, OpHasNoFloat, OpsHaveNoFloat};
+ghost use Rattle.wasm_validate.specs.Floats.{HasNoFloat, ImportHasNoFloat, IsInteger, IsIntegerResult};
+ghost use Rattle.wasm_validate.specs.Floats.{OpHasNoFloat, OpsHaveNoFloat};
 ghost use Rattle.wasm_validate.specs.inner.Stands.{Exactly};
 
 use crate::every::{Rule, all_hold};

@@ -1,6 +1,7 @@
 // The types of loads and stores, and of the other instructions on the memory.
 ghost use Rattle.std.specs.Prelude.{◌≡◌, ◌≤◌, ◌^◌, IfOk, option_map};
-ghost use Rattle.wasm_module.specs.Syntax.{load as op_load, store as op_store, memory_size as op_memory_size, memory_grow as op_memory_grow};
+ghost use Rattle.wasm_module.specs.Syntax.{load as op_load, store as op_store, memory_size as op_memory_size};
+ghost use Rattle.wasm_module.specs.Syntax.{memory_grow as op_memory_grow};
 ghost use Rattle.wasm_validate.specs.Operations.{load_of, store_of, moves};
 ghost use Rattle.wasm_validate.specs.Typing.{HasMemory};
 ghost use Rattle.wasm_validate.specs.Views.{context_view};

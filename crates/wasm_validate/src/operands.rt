@@ -1,8 +1,10 @@
 // The types on the stack, as far as they are known.
-ghost use Rattle.std.specs.Prelude.{◌≡◌, ◌+◌, ◌≤◌, List, [], ◌∷◌, ◌++◌, length, reverse, OnOk, IfOk, Some, None, true, false};
+ghost use Rattle.std.specs.Prelude.{◌≡◌, ◌+◌, ◌≤◌, List, [], ◌∷◌, ◌++◌, length, reverse, OnOk, IfOk, Some};
+ghost use Rattle.std.specs.Prelude.{None, true, false};
 ghost use Rattle.wasm_module.specs.Syntax.{select as op_select, drop_value};
 ghost use Rattle.wasm_validate.specs.Typing.{types_of};
-ghost use Rattle.wasm_validate.specs.inner.Stands.{State, Fits, Exactly, Joins, TopOff, Pops, Applies, Ends, pushed, Checks};
+ghost use Rattle.wasm_validate.specs.inner.Stands.{State, Fits, Exactly, Joins, TopOff, Pops, Applies, Ends};
+ghost use Rattle.wasm_validate.specs.inner.Stands.{pushed, Checks};
 
 use std::alloc::{AllocError, Global};
 use std::marker::Model;

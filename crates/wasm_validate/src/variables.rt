@@ -1,6 +1,8 @@
 // The types of the instructions on locals and globals.
 ghost use Rattle.std.specs.Prelude.{◌≡◌, IfOk, slice_get};
-ghost use Rattle.wasm_module.specs.Syntax.{local_get as op_local_get, local_set as op_local_set, local_tee as op_local_tee, global_get as op_global_get, global_set as op_global_set};
+ghost use Rattle.wasm_module.specs.Syntax.{local_get as op_local_get, local_set as op_local_set};
+ghost use Rattle.wasm_module.specs.Syntax.{local_tee as op_local_tee, global_get as op_global_get};
+ghost use Rattle.wasm_module.specs.Syntax.{global_set as op_global_set};
 ghost use Rattle.wasm_validate.specs.Views.{context_view};
 ghost use Rattle.wasm_validate.specs.inner.Scopes.{scope_view};
 ghost use Rattle.wasm_validate.specs.inner.Stands.{Checks};

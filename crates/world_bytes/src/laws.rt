@@ -4,7 +4,8 @@ ghost use Rattle.byte_fields.specs.Front.{Begins};
 ghost use Rattle.intent_book.specs.declared.intent.Intent.{Intent};
 ghost use Rattle.object_store.specs.Tables.{Table, without_spare};
 ghost use Rattle.object_store.specs.declared.account.Account.{Account};
-ghost use Rattle.world_bytes.specs.Forms.{HasAccountForm, HasIntentForm, HasRoomForm, SpellsAccount, SpellsIntent, SpellsRoom, account_bytes, intent_bytes, room_bytes};
+ghost use Rattle.world_bytes.specs.Forms.{HasAccountForm, HasIntentForm, HasRoomForm, SpellsAccount};
+ghost use Rattle.world_bytes.specs.Forms.{SpellsIntent, SpellsRoom, account_bytes, intent_bytes, room_bytes};
 
 /// Says that bytes begin with one room at most, with one account at most, and with one intent at most
 /// of each player, and that what is written of a value that has a form begins as this value, whatever

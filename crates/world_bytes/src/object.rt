@@ -1,11 +1,13 @@
 // Objects at the front of bytes, read in groups of fields.
-ghost use Rattle.std.specs.Prelude.{◌≡◌, ◌+◌, ◌<◌, ◌≤◌, ℕ, true, List, ◌∷◌, map, length, IfOk, OnOk, OnErr, IfSome, IfNone};
+ghost use Rattle.std.specs.Prelude.{◌≡◌, ◌+◌, ◌<◌, ◌≤◌, ℕ, true, List, ◌∷◌, map, length, IfOk, OnOk, OnErr};
+ghost use Rattle.std.specs.Prelude.{IfSome, IfNone};
 ghost use Rattle.game_tables.specs.Kinds.{is_in_rules};
 ghost use Rattle.game_tables.specs.Numbers.{kind_number, part_number};
 ghost use Rattle.game_tables.specs.declared.kind.Kind.{Kind};
 ghost use Rattle.game_tables.specs.declared.kind.Part.{Part};
 ghost use Rattle.world_bytes.specs.Forms.{HasObjectForm};
-ghost use Rattle.world_bytes.specs.inner.Rows.{Leads, LeadsNone, HasHeadForm, head_row, HasCountsForm, counts_row, HasBodyForm, body_row, object_row};
+ghost use Rattle.world_bytes.specs.inner.Rows.{Leads, LeadsNone, HasHeadForm, head_row, HasCountsForm};
+ghost use Rattle.world_bytes.specs.inner.Rows.{counts_row, HasBodyForm, body_row, object_row};
 
 use crate::fault::NoForm;
 use byte_fields::{Cursor, Short};

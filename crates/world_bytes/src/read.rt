@@ -1,12 +1,14 @@
 // Rooms, accounts and intents, read from the front of bytes.
-ghost use Rattle.std.specs.Prelude.{◌≡◌, ◌+◌, ◌<◌, ◌^◌, ◌↔◌, ℕ, List, ◌∷◌, length, IsTrue, IfOk, IfErr, OnOk, OnErr};
+ghost use Rattle.std.specs.Prelude.{◌≡◌, ◌+◌, ◌<◌, ◌^◌, ◌↔◌, ℕ, List, ◌∷◌, length, IsTrue, IfOk, IfErr, OnOk};
+ghost use Rattle.std.specs.Prelude.{OnErr};
 ghost use Rattle.std.specs.List.{AllByRecursion};
 ghost use Rattle.byte_fields.specs.Front.{Begins, BeginsNone, BeginsOnly};
 ghost use Rattle.game_tables.specs.Actions.{action_number};
 ghost use Rattle.game_tables.specs.declared.action.Action.{Action};
 ghost use Rattle.object_store.specs.Tables.{IsRising};
 ghost use Rattle.world_bytes.specs.Forms.{SpellsRoom, SpellsAccount, SpellsIntent};
-ghost use Rattle.world_bytes.specs.inner.Rows.{Leads, LeadsNone, AreObjects, objects_row, HasMemoryForm, memory_row};
+ghost use Rattle.world_bytes.specs.inner.Rows.{Leads, LeadsNone, AreObjects, objects_row, HasMemoryForm};
+ghost use Rattle.world_bytes.specs.inner.Rows.{memory_row};
 
 use crate::NoMemory;
 use crate::fault::{BytesFault, NoForm};

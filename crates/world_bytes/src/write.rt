@@ -4,7 +4,8 @@ ghost use Rattle.std.specs.List.{AllByRecursion, flat_map};
 ghost use Rattle.byteorder.specs.Endian.{little_bytes};
 ghost use Rattle.world_bytes.specs.Forms.{object_bytes, room_bytes, account_bytes, intent_bytes};
 ghost use Rattle.world_bytes.specs.Numbers.{AccountFits, IntentFits, ObjectFits, TableFits};
-ghost use Rattle.world_bytes.specs.inner.Rows.{head_of, head_row, counts_of, counts_row, body_row, HasCountsForm};
+ghost use Rattle.world_bytes.specs.inner.Rows.{head_of, head_row, counts_of, counts_row, body_row};
+ghost use Rattle.world_bytes.specs.inner.Rows.{HasCountsForm};
 
 use crate::NoMemory;
 use byte_fields::{put_u32, put_u64};

@@ -1,5 +1,6 @@
 -- The first fault of a world file, from the top down: the checks of its keys, in their order.
-use Rattle.std.specs.Prelude.{◌≡◌, ℕ, suc, ◌-◌, ◌^◌, ◌⊎◌, true, false, List, [], ◌∷◌, ◌++◌, Option, Some, None, option_and_then}
+use Rattle.std.specs.Prelude.{◌≡◌, ℕ, suc, ◌-◌, ◌^◌, ◌⊎◌, true, false, List, [], ◌∷◌, ◌++◌, Option, Some}
+use Rattle.std.specs.Prelude.{None, option_and_then}
 use Rattle.serde_json.specs.Data.{Data, Items, no_items, item}
 use Rattle.serde_json.specs.Find.{get, as_array}
 use Rattle.game_tables.specs.declared.kind.Kind.{Kind}
@@ -9,7 +10,8 @@ use Rattle.world_form.specs.declared.fault.WorldFault.{WorldFault}
 use Rattle.world_form.specs.declared.fault.WorldFault.TheVariants.{Missing, BadValue, NotBuilt}
 use Rattle.world_form.specs.declared.field.Field.{Field}
 use Rattle.world_form.specs.declared.field.Field.TheVariants as fields
-use Rattle.world_form.specs.Facts.{Requires, IsWhole, IsWhole32, IsWhole53, IsList, IsKindText, IsBodyList, IsNameText, IsTerrainText, IsTokenText, IsMemoryText}
+use Rattle.world_form.specs.Facts.{Requires, IsWhole, IsWhole32, IsWhole53, IsList, IsKindText, IsBodyList}
+use Rattle.world_form.specs.Facts.{IsNameText, IsTerrainText, IsTokenText, IsMemoryText}
 use Rattle.world_form.specs.Keys.{key}
 
 -- a check of a part of the file: that it holds, or with which fault it fails

@@ -5,7 +5,7 @@ use Rattle.std.proofs.lemmas.List.{flat_map_more}
 use Rattle.std.proofs.lemmas.List.FromFn.{map-range_with_len_more}
 use Rattle.byteorder.specs.Endian.{little_bytes}
 use Rattle.byte_fields.specs.Front.{SpellsShortest}
-use Rattle.upload_stream.specs.Streams.{UploadList, UploadsFrom, entry_bytes}
+use Rattle.upload_stream.specs.Streams.{HasEntryForm, NeverFall, Upload, UploadList, entry_bytes}
 use Rattle.wasm_module.specs.Sections.{Spells, Syntax}
 use Rattle.wasm_module.specs.Syntax.{Ops}
 use Rattle.world_gen.specs.PlayerModule.{player_module}
@@ -52,20 +52,31 @@ upload_next text n player xs ys e is h =
 
 -- ---- the stream
 
+formed : (text : List ℕ) (a n : ℕ)
+    → AllByRecursion (λ byte. byte < 2 ^ 8) text → length text < 2 ^ 32 → a + n < 2 ^ 32
+    → AllByRecursion HasEntryForm (map (upload text) (range_with_len a n))
+formed text a zero fits small few = tt
+formed text a (suc n) fits small few = (
+  record { tick = lit< tt; player = omega arith; count = small; bytes = fits },
+  formed text (a + 1) n fits small (omega arith),
+)
+
+never_before : (uploads : List Upload) → AllByRecursion (λ other. 0 ≤ other.tick) uploads
+never_before [] = tt
+never_before (first ∷ later) = (omega arith, never_before later)
+
+ordered : (text : List ℕ) (a n : ℕ) → NeverFall (map (upload text) (range_with_len a n))
+ordered text a zero = tt
+ordered text a (suc n) = (never_before (map (upload text) (range_with_len (a + 1) n)), ordered text (a + 1) n)
+
 counted : (text : List ℕ) (a n : ℕ)
     → AllByRecursion (λ byte. byte < 2 ^ 8) text → length text < 2 ^ 32 → a + n < 2 ^ 32
-    → UploadsFrom 0 (flat_map entry_bytes (map (upload text) (range_with_len a n)))
+    → UploadList (flat_map entry_bytes (map (upload text) (range_with_len a n)))
     (map (upload text) (range_with_len a n))
-counted text a zero fits small few = refl
-counted text a (suc n) fits small few = (
-  flat_map entry_bytes (map (upload text) (range_with_len (a + 1) n)),
-  record {
-    form = record { tick = lit< tt; player = omega arith; count = small; bytes = fits };
-    order = lit≤ tt;
-    spells = refl;
-  },
-  counted text (a + 1) n fits small (omega arith),
-)
+counted text a n fits small few = record {
+  entries = record { forms = formed text a n fits small few; order = ordered text a n };
+  spells = refl;
+}
 
 pub stream_is : (text : List ℕ) (count n : ℕ) (bytes : List ℕ)
     → AllByRecursion (λ byte. byte < 2 ^ 8) text → length text < 2 ^ 32 → count ≤ 8 → n ≡ count

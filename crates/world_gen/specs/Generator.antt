@@ -1,5 +1,6 @@
 -- The world that is made from a number.
-use Rattle.std.specs.Prelude.{ℕ, zero, suc, ◌+◌, ◌*◌, ◌/◌, ◌%◌, ◌^◌, ◌==◌, ◌&&◌, nat_le, nat_lt, min, pos, if◌then◌else◌, List, [], ◌∷◌, ◌++◌, map}
+use Rattle.std.specs.Prelude.{ℕ, zero, suc, ◌+◌, ◌*◌, ◌/◌, ◌%◌, ◌^◌, ◌==◌, ◌&&◌, nat_le, nat_lt, min, pos}
+use Rattle.std.specs.Prelude.{if◌then◌else◌, List, [], ◌∷◌, ◌++◌, map}
 use Rattle.std.specs.List.{flat_map, range_with_len}
 use Rattle.game_tables.specs.declared.kind.Kind.{Kind}
 use Rattle.game_tables.specs.declared.kind.Kind.TheVariants.{Source, Controller, Creep, Spawn}
@@ -105,7 +106,8 @@ creep room player = record (thing room 4 Creep 25 28) {
 abbrev pub objects : ℕ → ℕ → ℕ → ℕ → List Object
 objects players room u v =
     if nat_lt room players
-    then owned_controller room (room + 1) ∷ source room u v ∷ spawn room (room + 1) ∷ creep room (room + 1) ∷ []
+    then owned_controller room (room + 1) ∷ source room u v
+    ∷ spawn room (room + 1) ∷ creep room (room + 1) ∷ []
     else free_controller room ∷ source room u v ∷ []
 
 -- the table of a room's objects

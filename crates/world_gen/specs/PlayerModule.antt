@@ -1,6 +1,7 @@
 -- The module of each player of a generated world. In each tick its creeps harvest, carry and fill the spawn.
 use Rattle.std.specs.Prelude.{ℕ, ℤ, pos, negsuc, List, [], ◌∷◌, ◌++◌, Option, None, Some, codes}
-use Rattle.wasm_module.specs.Syntax.{Op, Ops, no_ops, loop, if_else, br, call, drop_value, local_get, local_set, i32_const, i64_const, numeric}
+use Rattle.wasm_module.specs.Syntax.{Op, Ops, no_ops, loop, if_else, br, call, drop_value, local_get}
+use Rattle.wasm_module.specs.Syntax.{local_set, i32_const, i64_const, numeric}
 use Rattle.wasm_module.specs.View.{ops_of}
 use Rattle.wasm_module.specs.Entries.{Function}
 use Rattle.wasm_module.specs.Sections.{Syntax}
@@ -117,7 +118,8 @@ either code other = if_else None (ops_of code) (ops_of other) ∷ []
 unfoldable pub again : List Op → List Op
 again code = loop None (ops_of code) ∷ []
 
--- ---- objects, by the locals that keep their indices: 0 is the creep's, 1 its target's. Local 2 keeps a code.
+-- ---- objects, by the locals that keep their indices: 0 is the creep's, 1 its target's. Local 2 keeps a
+-- code.
 
 -- a field of an object
 unfoldable pub field : ℕ → ℕ → List Op
@@ -147,7 +149,8 @@ to_next object = local_get object ∷ i32_const (pos 1) ∷ i32_add ∷ local_se
 unfoldable pub is_seen : ℕ → List Op
 is_seen object = local_get object ∷ count ∷ i32_lt_u ∷ []
 
--- ---- the search of a target. Where none is found its index is the count, and the host refuses what is wanted.
+-- ---- the search of a target. Where none is found its index is the count, and the host refuses what is
+-- wanted.
 
 -- The target is a source of the creep's room.
 unfoldable pub source_sought : List Op
@@ -179,8 +182,8 @@ on_code number code = local_get 2 ∷ i32_const number ∷ i32_eq ∷ when code
 unfoldable pub sign : ℕ → List Op
 sign number = both_fields number ++ (i64_gt_s ∷ (both_fields number ++ (i64_lt_s ∷ i32_sub ∷ [])))
 
--- the directions by the number 4 + sign of x + 3 * sign of y, four bits each, the first lowest: 8 1 2 7 0 3 6 5 4.
--- 0 is none
+-- the directions by the number 4 + sign of x + 3 * sign of y, four bits each, the first lowest: 8 1 2 7 0 3 6
+-- 5 4. 0 is none
 abbrev pub directions : ℕ
 directions = 0x456307218
 

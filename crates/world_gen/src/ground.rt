@@ -1,6 +1,7 @@
 // The ground of a room.
 ghost use Rattle.std.specs.Prelude.{◌≡◌, ◌++◌, IfOk, OnOk};
-ghost use Rattle.world_gen.specs.Generator.{border, border_tiles, grounds, inner, inner_row, inner_rows, state_after};
+ghost use Rattle.world_gen.specs.Generator.{border, border_tiles, grounds, inner, inner_row, inner_rows};
+ghost use Rattle.world_gen.specs.Generator.{state_after};
 
 use crate::NoMemory;
 use crate::draws::draw;

@@ -1,6 +1,9 @@
 // The code of the module that each player of a generated world runs.
 ghost use Rattle.std.specs.Prelude.{◌≡◌, IfOk};
-ghost use Rattle.world_gen.specs.PlayerModule.{both_fields, both_ids, delivers, direction, drops, field, harvests, has_room, in_room, is_seen, look, of_kind, on_code, own, own_creep, seek, sign, source_sought, spawn_sought, steps, to_next, turn, turns, visit};
+ghost use Rattle.world_gen.specs.PlayerModule.{both_fields, both_ids, delivers, direction, drops, field};
+ghost use Rattle.world_gen.specs.PlayerModule.{harvests, has_room, in_room, is_seen, look, of_kind, on_code};
+ghost use Rattle.world_gen.specs.PlayerModule.{own, own_creep, seek, sign, source_sought, spawn_sought};
+ghost use Rattle.world_gen.specs.PlayerModule.{steps, to_next, turn, turns, visit};
 ghost use Rattle.world_gen.specs.inner.Lines.{lines};
 
 use crate::code::{again, either, put, when};

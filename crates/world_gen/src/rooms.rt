@@ -1,7 +1,8 @@
 // The rooms, with what stands in them.
 ghost use Rattle.std.specs.Prelude.{◌≡◌, ◌<◌, pos, ◌/◌, ◌%◌, ◌∷◌, [], IfOk, OnOk};
 ghost use Rattle.game_tables.specs.declared.kind.Part.TheVariants as part;
-ghost use Rattle.world_gen.specs.Generator.{creep, draw, free_controller, made_table, owned_controller, source, spawn, state_after, thing};
+ghost use Rattle.world_gen.specs.Generator.{creep, draw, free_controller, made_table, owned_controller};
+ghost use Rattle.world_gen.specs.Generator.{source, spawn, state_after, thing};
 
 use crate::NoMemory;
 use crate::draws::draw;

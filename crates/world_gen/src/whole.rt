@@ -2,7 +2,8 @@
 ghost use Rattle.std.specs.Prelude.{◌≡◌, map, IfOk};
 ghost use Rattle.wasm_module.specs.Entries.{code_view};
 ghost use Rattle.wasm_module.specs.Sections.{module_view};
-ghost use Rattle.world_gen.specs.PlayerModule.{host_calls, host_types, imported, loop_codes, loop_exports, player_module, takes};
+ghost use Rattle.world_gen.specs.PlayerModule.{host_calls, host_types, imported, loop_codes, loop_exports};
+ghost use Rattle.world_gen.specs.PlayerModule.{player_module, takes};
 
 use crate::NoMemory;
 use crate::code::body_of;

@@ -1,6 +1,7 @@
 -- What a crash may leave of a disk. A disk that tells its bytes tells its moments too, the latest first, and
 -- one that doesn't has none to tell.
-use Rattle.std.specs.Prelude.{◌≡◌, ℕ, ◌+◌, ◌<◌, ◌≤◌, ◌⊎◌, max, min, List, [], ◌∷◌, length, take, drop, slice_index, Option, Some, None, ⊤}
+use Rattle.std.specs.Prelude.{◌≡◌, ℕ, ◌+◌, ◌<◌, ◌≤◌, ◌⊎◌, max, min, List, [], ◌∷◌, length, take, drop}
+use Rattle.std.specs.Prelude.{slice_index, Option, Some, None, ⊤}
 
 -- A moment, as far as a crash goes: the bytes of the last sync, and since then the ranges that were written,
 -- each as its place and how many bytes, and the least and the greatest length.

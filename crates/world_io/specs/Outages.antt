@@ -1,5 +1,6 @@
 -- Which calls of a device in memory fail by plan, and how it counts its calls and failures.
-use Rattle.std.specs.Prelude.{◌≡◌, ℕ, ◌<◌, ◌⊎◌, List, Contains, Option, Some, None, Result, is_ok, if◌then◌else◌}
+use Rattle.std.specs.Prelude.{◌≡◌, ℕ, ◌<◌, ◌⊎◌, List, Contains, Option, Some, None, Result, is_ok}
+use Rattle.std.specs.Prelude.{if◌then◌else◌}
 use Rattle.world_io.specs.Causes.{one_more}
 use Rattle.world_io.specs.declared.outages.Outages.{Outages}
 

@@ -2,8 +2,8 @@
 use Rattle.std.specs.Prelude.{◌≡◌, ℕ, ◌<◌, ◌≤◌, ◌%◌, ◌⊎◌, List, length, slice_index}
 use Rattle.world_io.specs.Moments.{Moment, IsOutside}
 
--- The image has this length. Any byte may stand in the ranges that were written and past the old end, and there
--- this one stands; elsewhere stand the bytes of the last sync.
+-- The image has this length. Any byte may stand in the ranges that were written and past the old end, and
+-- there this one stands; elsewhere stand the bytes of the last sync.
 pub record IsFilled (moment : Moment) (len byte : ℕ) (image : List ℕ) : Type 0 where
   pub size : length image ≡ len
   pub stays : (place : ℕ) → place < len → place < length moment.synced → IsOutside place moment.written

@@ -10,8 +10,8 @@ use crate::source::Failed;
 /// The greatest length of a disk, which is shorter than `2^62` bytes.
 pub const MOST_BYTES: u64 = 0x3fff_ffff_ffff_ffff;
 
-/// Bytes that are read and written at places. After a write or a cut that fails nothing is said of what a read
-/// gives, but that a crash may leave it.
+/// Bytes that are read and written at places. After a write or a cut that fails nothing is said of what a
+/// read gives, but that a crash may leave it.
 pub trait Disk {
     /// The bytes that a read gives, where the disk tells.
     ghost seen: { Self → Option (List ℕ) };

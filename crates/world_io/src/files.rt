@@ -1,5 +1,6 @@
 // A source, a sink and a disk over files of the system.
-ghost use Rattle.std.specs.Prelude.{◌≡◌, ℕ, ◌<◌, ◌≤◌, ◌+◌, ◌^◌, [], length, take, None, IsNone, IsErr, IfOk, OnOk, IfSome, OnSome, MatchOption, refl};
+ghost use Rattle.std.specs.Prelude.{◌≡◌, ℕ, ◌<◌, ◌≤◌, ◌+◌, ◌^◌, [], length, take, None, IsNone, IsErr, IfOk};
+ghost use Rattle.std.specs.Prelude.{OnOk, IfSome, OnSome, MatchOption, refl};
 ghost use Rattle.std.specs.Io.{ReadsAtMost, WritesAtMost};
 ghost use Rattle.std.specs.Io.KnownBytes.{ReadConsumes, WriteAppends, Keeps, Consumes, IsAtEnd};
 ghost use Rattle.world_io.specs.Causes.{HasCause};
@@ -121,8 +122,8 @@ impl FileDisk {
         }
     }
 
-    /// Opens a file for reading and writing, and makes an empty one where there is none. A crash then leaves the
-    /// file's name; where the system fails to see to that, each call fails.
+    /// Opens a file for reading and writing, and makes an empty one where there is none. A crash then leaves
+    /// the file's name; where the system fails to see to that, each call fails.
     pub fn open_or_make<R: Files<File = File>>(files: &R, path: &str) -> Self
         ensures { result.faults.count ≡ 0 }
     {
@@ -142,8 +143,8 @@ impl FileDisk {
     }
 }
 
-// Syncs the folder of a file, so that a crash leaves the file's name. A folder that may not be read, and one of a
-// file system that syncs none, is left as it is.
+// Syncs the folder of a file, so that a crash leaves the file's name. A folder that may not be read, and one
+// of a file system that syncs none, is left as it is.
 fn is_name_kept<R: Files<File = File>>(files: &R, path: &str) -> bool {
     let Some(folder) = Path::new(path).parent() else {
         return true;

@@ -1,5 +1,6 @@
 // A disk in memory, of which chosen calls fail.
-ghost use Rattle.std.specs.Prelude.{◌≡◌, ℕ, ◌+◌, ◌-◌, ◌<◌, ◌≤◌, ◌^◌, ◌↔◌, ◌⊎◌, List, [], ◌∷◌, length, min, take, vec_capacity, Some, None, IsErr, IfOk, OnOk, OnErr};
+ghost use Rattle.std.specs.Prelude.{◌≡◌, ℕ, ◌+◌, ◌-◌, ◌<◌, ◌≤◌, ◌^◌, ◌↔◌, ◌⊎◌, List, [], ◌∷◌, length, min};
+ghost use Rattle.std.specs.Prelude.{take, vec_capacity, Some, None, IsErr, IfOk, OnOk, OnErr};
 ghost use Rattle.std.specs.Io.{ReadsAtMost};
 ghost use Rattle.world_io.specs.Causes.{HasCause};
 ghost use Rattle.world_io.specs.Changes.{moments_of, latest, NeedsMemory};

@@ -1,16 +1,22 @@
 -- The checks of the actions of creeps, in their order, each with the code of a call that fails it. They stand
 -- here once: the desk reads them of what a player sees before it records an action, and the rule of the
 -- action reads them of the room.
-use Rattle.std.specs.Prelude.{ℕ, ◌==◌, ◌&&◌, ◌||◌, not, max, nat_lt, nat_le, Bool, true, false, if◌then◌else◌, List, [], ◌∷◌, ◌++◌, Option, Some, None, option_map}
+use Rattle.std.specs.Prelude.{ℕ, ◌==◌, ◌&&◌, ◌||◌, not, max, nat_lt, nat_le, Bool, true, false, if◌then◌else◌}
+use Rattle.std.specs.Prelude.{List, [], ◌∷◌, ◌++◌, Option, Some, None, option_map}
 use Rattle.std.specs.Option.{is_some, unwrap_or}
 use Rattle.std.specs.FinMap.{get, values}
 use Rattle.game_tables.specs.Actions.{is_target, max_range, needed_part}
 use Rattle.game_tables.specs.Bodies.{live_count}
 use Rattle.game_tables.specs.Kinds.{is_creep, obstructs}
 use Rattle.game_tables.specs.declared.action.Action.{Action}
-use Rattle.game_tables.specs.declared.action.Action.TheVariants.{DropLoad, Transfer, Withdraw, Pickup, Heal, RangedHeal, Harvest, Repair, Build, ClaimController, Upgrade, Reserve, AttackController, Move}
+use Rattle.game_tables.specs.declared.action.Action.TheVariants.{DropLoad, Transfer, Withdraw, Pickup, Heal}
+use Rattle.game_tables.specs.declared.action.Action.TheVariants.{RangedHeal, Harvest, Repair, Build}
+use Rattle.game_tables.specs.declared.action.Action.TheVariants.{ClaimController, Upgrade, Reserve}
+use Rattle.game_tables.specs.declared.action.Action.TheVariants.{AttackController, Move}
 use Rattle.game_tables.specs.declared.code.Code.{Code}
-use Rattle.game_tables.specs.declared.code.Code.TheVariants.{Done, NotOwner, NotFound, NotEnoughResources, InvalidTarget, Full, NotInRange, InvalidArgs, Tired, NoBodypart, GlobalLevelNotEnough}
+use Rattle.game_tables.specs.declared.code.Code.TheVariants.{Done, NotOwner, NotFound, NotEnoughResources}
+use Rattle.game_tables.specs.declared.code.Code.TheVariants.{InvalidTarget, Full, NotInRange, InvalidArgs}
+use Rattle.game_tables.specs.declared.code.Code.TheVariants.{Tired, NoBodypart, GlobalLevelNotEnough}
 use Rattle.game_tables.specs.declared.kind.Kind.{Kind}
 use Rattle.game_tables.specs.declared.kind.Kind.TheVariants.{Creep}
 use Rattle.game_tables.specs.declared.kind.Part.{Part}

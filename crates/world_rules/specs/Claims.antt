@@ -1,10 +1,12 @@
 -- What creeps do to controllers, and what time does to them.
-use Rattle.std.specs.Prelude.{ℕ, ◌+◌, ◌-◌, ◌*◌, ◌/◌, ◌==◌, min, max, nat_lt, nat_le, if◌then◌else◌, Option, Some, None}
+use Rattle.std.specs.Prelude.{ℕ, ◌+◌, ◌-◌, ◌*◌, ◌/◌, ◌==◌, min, max, nat_lt, nat_le, if◌then◌else◌, Option}
+use Rattle.std.specs.Prelude.{Some, None}
 use Rattle.std.specs.Option.{unwrap_or}
 use Rattle.game_tables.specs.Bodies.{live_count}
 use Rattle.game_tables.specs.Fields.{most_other_ticks}
 use Rattle.game_tables.specs.Levels.{downgrade_number, last_level, total_for_next}
-use Rattle.game_tables.specs.declared.action.Action.TheVariants.{ClaimController, Upgrade, Reserve, AttackController}
+use Rattle.game_tables.specs.declared.action.Action.TheVariants.{ClaimController, Upgrade, Reserve}
+use Rattle.game_tables.specs.declared.action.Action.TheVariants.{AttackController}
 use Rattle.game_tables.specs.declared.kind.Kind.{Kind}
 use Rattle.game_tables.specs.declared.kind.Kind.TheVariants.{Controller}
 use Rattle.game_tables.specs.declared.kind.Part.TheVariants as part_kinds

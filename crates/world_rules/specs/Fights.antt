@@ -1,6 +1,7 @@
 -- What creeps do to each other and to buildings: the damage and the healing of each action, and what its rule
 -- makes of the room.
-use Rattle.std.specs.Prelude.{ℕ, ◌-◌, ◌*◌, ◌/◌, ◌==◌, ◌&&◌, ◌||◌, min, max, nat_le, Bool, if◌then◌else◌, List, [], ◌∷◌, map, Option, Some, None}
+use Rattle.std.specs.Prelude.{ℕ, ◌-◌, ◌*◌, ◌/◌, ◌==◌, ◌&&◌, ◌||◌, min, max, nat_le, Bool, if◌then◌else◌, List}
+use Rattle.std.specs.Prelude.{[], ◌∷◌, map, Option, Some, None}
 use Rattle.std.specs.List.{filter}
 use Rattle.std.specs.FinMap.{values}
 use Rattle.game_tables.specs.Bodies.{live_count}

@@ -1,5 +1,6 @@
 -- Worked examples of the frame of a tick, with toy rules but for crossings, which the check computes.
-use Rattle.std.specs.Prelude.{◌≡◌, ℕ, ◌+◌, not, Bool, pos, List, [], ◌∷◌, length, map, replicate, Option, Some, None}
+use Rattle.std.specs.Prelude.{◌≡◌, ℕ, ◌+◌, not, Bool, pos, List, [], ◌∷◌, length, map, replicate, Option}
+use Rattle.std.specs.Prelude.{Some, None}
 use Rattle.std.specs.List.{filter, list_any}
 use Rattle.std.specs.FinMap.{from_entries, get}
 use Rattle.room_terrain.specs.declared.name.RoomName.{RoomName}

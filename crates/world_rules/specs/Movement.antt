@@ -1,5 +1,6 @@
 -- Movement: which of the creeps that would step do, and what they leave.
-use Rattle.std.specs.Prelude.{ℕ, ◌-◌, ◌==◌, ◌&&◌, not, max, Bool, nat_lt, List, [], ◌∷◌, ◌++◌, length, map, Option, Some, None}
+use Rattle.std.specs.Prelude.{ℕ, ◌-◌, ◌==◌, ◌&&◌, not, max, Bool, nat_lt, List, [], ◌∷◌, ◌++◌, length, map}
+use Rattle.std.specs.Prelude.{Option, Some, None}
 use Rattle.std.specs.List.{filter, list_any, list_all, find}
 use Rattle.std.specs.FinMap.{values}
 use Rattle.game_tables.specs.declared.kind.Kind.{Kind}

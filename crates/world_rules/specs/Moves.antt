@@ -1,5 +1,7 @@
 -- The moves of creeps: who would step and to which tile, and how tired a step makes a creep.
-use Rattle.std.specs.Prelude.{ℕ, ◌+◌, ◌*◌, ◌/◌, ◌==◌, ◌&&◌, not, Bool, true, false, nat_lt, if◌then◌else◌, ℤ, pos, negsuc, ◌+ℤ◌, List, [], ◌∷◌, length, Option, Some, None, option_map, option_and_then, slice_get}
+use Rattle.std.specs.Prelude.{ℕ, ◌+◌, ◌*◌, ◌/◌, ◌==◌, ◌&&◌, not, Bool, true, false, nat_lt, if◌then◌else◌, ℤ}
+use Rattle.std.specs.Prelude.{pos, negsuc, ◌+ℤ◌, List, [], ◌∷◌, length, Option, Some, None, option_map}
+use Rattle.std.specs.Prelude.{option_and_then, slice_get}
 use Rattle.std.specs.List.{filter, filter_map, find}
 use Rattle.std.specs.FinMap.{get, values}
 use Rattle.game_tables.specs.declared.action.Action.TheVariants.{Move}
@@ -9,7 +11,8 @@ use Rattle.game_tables.specs.declared.kind.Part.TheVariants as parts
 use Rattle.room_terrain.specs.Geometry.{direction_number, dx, dy}
 use Rattle.room_terrain.specs.Tiles.{tile}
 use Rattle.room_terrain.specs.declared.direction.Direction.{Direction}
-use Rattle.room_terrain.specs.declared.direction.Direction.TheVariants.{Top, TopRight, Right, BottomRight, Bottom, BottomLeft, Left, TopLeft}
+use Rattle.room_terrain.specs.declared.direction.Direction.TheVariants.{Top, TopRight, Right, BottomRight}
+use Rattle.room_terrain.specs.declared.direction.Direction.TheVariants.{Bottom, BottomLeft, Left, TopLeft}
 use Rattle.room_terrain.specs.declared.terrain.Ground.{Ground}
 use Rattle.room_terrain.specs.declared.terrain.Ground.TheVariants.{Wall, Swamp}
 use Rattle.object_store.specs.Tables.{is_obstructed, first_on}

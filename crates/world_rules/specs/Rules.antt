@@ -1,12 +1,15 @@
 -- The rules of a world, and where each is broken.
-use Rattle.std.specs.Prelude.{◌≡◌, ◌≢◌, ℕ, ◌/◌, ◌%◌, ◌^◌, ◌<◌, ◌≤◌, ◌==◌, ◌⊎◌, ◌&&◌, List, [], length, true, false, Option, Some, None, slice_get}
+use Rattle.std.specs.Prelude.{◌≡◌, ◌≢◌, ℕ, ◌/◌, ◌%◌, ◌^◌, ◌<◌, ◌≤◌, ◌==◌, ◌⊎◌, ◌&&◌, List, [], length, true}
+use Rattle.std.specs.Prelude.{false, Option, Some, None, slice_get}
 use Rattle.std.specs.List.{count_by}
 use Rattle.std.specs.FinMap.{get}
 use Rattle.game_tables.specs.declared.kind.Kind.{Kind}
-use Rattle.game_tables.specs.declared.kind.Kind.TheVariants.{Source, Controller, Creep, Spawn, Extension, Storage, Container, Road, Pile, Site}
+use Rattle.game_tables.specs.declared.kind.Kind.TheVariants.{Source, Controller, Creep, Spawn, Extension}
+use Rattle.game_tables.specs.declared.kind.Kind.TheVariants.{Storage, Container, Road, Pile, Site}
 use Rattle.game_tables.specs.Bodies.{most_parts}
 use Rattle.game_tables.specs.Fields.{most_energy, most_timer, most_extra, most_other_ticks}
-use Rattle.game_tables.specs.Kinds.{hits_max, is_site_kind, build_total, is_source, is_controller, is_creep, is_pile, is_site, may_have_owner, clash}
+use Rattle.game_tables.specs.Kinds.{hits_max, is_site_kind, build_total, is_source, is_controller, is_creep}
+use Rattle.game_tables.specs.Kinds.{is_pile, is_site, may_have_owner, clash}
 use Rattle.game_tables.specs.Levels.{downgrade_number, total_for_next}
 use Rattle.game_tables.specs.Numbers.{kind_number}
 use Rattle.game_tables.specs.Limits.{most_rooms, most_objects, most_players, most_sites}

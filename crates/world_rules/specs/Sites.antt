@@ -1,5 +1,6 @@
 -- Sites that players make and remove.
-use Rattle.std.specs.Prelude.{ℕ, ◌+◌, ◌/◌, ◌%◌, ◌==◌, ◌&&◌, ◌||◌, not, Bool, false, nat_lt, nat_le, if◌then◌else◌, List, [], ◌∷◌, ◌++◌, slice_get, Option, Some, None}
+use Rattle.std.specs.Prelude.{ℕ, ◌+◌, ◌/◌, ◌%◌, ◌==◌, ◌&&◌, ◌||◌, not, Bool, false, nat_lt, nat_le}
+use Rattle.std.specs.Prelude.{if◌then◌else◌, List, [], ◌∷◌, ◌++◌, slice_get, Option, Some, None}
 use Rattle.std.specs.List.{count_by, find}
 use Rattle.std.specs.Option.{is_some}
 use Rattle.std.specs.FinMap.{values}
@@ -7,7 +8,8 @@ use Rattle.game_tables.specs.Kinds.{is_site, needs_owned_room, obstructs}
 use Rattle.game_tables.specs.Levels.{allowed}
 use Rattle.game_tables.specs.Limits.{most_sites}
 use Rattle.game_tables.specs.Numbers.{kind_number}
-use Rattle.game_tables.specs.declared.code.Code.TheVariants.{NotOwner, NotFound, InvalidTarget, Full, InvalidArgs, RoomLevelNotEnough}
+use Rattle.game_tables.specs.declared.code.Code.TheVariants.{NotOwner, NotFound, InvalidTarget, Full}
+use Rattle.game_tables.specs.declared.code.Code.TheVariants.{InvalidArgs, RoomLevelNotEnough}
 use Rattle.game_tables.specs.declared.kind.Kind.{Kind}
 use Rattle.game_tables.specs.declared.kind.Kind.TheVariants.{Creep, Site}
 use Rattle.room_terrain.specs.Tiles.{tile}

@@ -1,12 +1,14 @@
 -- Creeps that spawns make.
-use Rattle.std.specs.Prelude.{ℕ, ◌-◌, ◌*◌, ◌==◌, ◌&&◌, not, min, Bool, true, false, nat_lt, nat_le, if◌then◌else◌, List, [], ◌∷◌, ◌++◌, length, map, Option, Some, None}
+use Rattle.std.specs.Prelude.{ℕ, ◌-◌, ◌*◌, ◌==◌, ◌&&◌, not, min, Bool, true, false, nat_lt, nat_le}
+use Rattle.std.specs.Prelude.{if◌then◌else◌, List, [], ◌∷◌, ◌++◌, length, map, Option, Some, None}
 use Rattle.std.specs.List.{filter, filter_map, find, sum_by}
 use Rattle.std.specs.Option.{is_some}
 use Rattle.std.specs.FinMap.{get, values}
 use Rattle.game_tables.specs.Bodies.{body_cost, lifetime, most_parts}
 use Rattle.game_tables.specs.Kinds.{hits_max}
 use Rattle.game_tables.specs.Numbers.{kind_number}
-use Rattle.game_tables.specs.declared.code.Code.TheVariants.{NotOwner, Busy, NotFound, NotEnoughResources, InvalidArgs}
+use Rattle.game_tables.specs.declared.code.Code.TheVariants.{NotOwner, Busy, NotFound, NotEnoughResources}
+use Rattle.game_tables.specs.declared.code.Code.TheVariants.{InvalidArgs}
 use Rattle.game_tables.specs.declared.kind.Kind.{Kind}
 use Rattle.game_tables.specs.declared.kind.Kind.TheVariants.{Creep, Spawn, Extension}
 use Rattle.game_tables.specs.declared.kind.Part.{Part}

@@ -1,10 +1,16 @@
 -- The tick of the game, by a book of rules.
-use Rattle.std.specs.Prelude.{ℕ, ◌+◌, ◌-◌, ◌/◌, ◌==◌, min, if◌then◌else◌, List, [], ◌∷◌, ◌++◌, map, Option, Some, None, option_map, option_and_then}
+use Rattle.std.specs.Prelude.{ℕ, ◌+◌, ◌-◌, ◌/◌, ◌==◌, min, if◌then◌else◌, List, [], ◌∷◌, ◌++◌, map, Option}
+use Rattle.std.specs.Prelude.{Some, None, option_map, option_and_then}
 use Rattle.std.specs.List.{filter, find, filter_map, flat_map, sum_by}
 use Rattle.std.specs.FinMap.{from_entries, entries}
 use Rattle.std.specs.Option.{option_to_list}
 use Rattle.game_tables.specs.declared.action.Action.{Action}
-use Rattle.game_tables.specs.declared.action.Action.TheVariants.{DropLoad, Transfer, Withdraw, Pickup, Heal, RangedHeal, Dismantle, Attack, Harvest, Repair, Build, RangedMassAttack, RangedAttack, Suicide, ClaimController, Upgrade, Reserve, AttackController, CreateSite, RemoveSite, SpawnCreep, Move}
+use Rattle.game_tables.specs.declared.action.Action.TheVariants.{DropLoad, Transfer, Withdraw, Pickup, Heal}
+use Rattle.game_tables.specs.declared.action.Action.TheVariants.{RangedHeal, Dismantle, Attack, Harvest}
+use Rattle.game_tables.specs.declared.action.Action.TheVariants.{Repair, Build, RangedMassAttack}
+use Rattle.game_tables.specs.declared.action.Action.TheVariants.{RangedAttack, Suicide, ClaimController}
+use Rattle.game_tables.specs.declared.action.Action.TheVariants.{Upgrade, Reserve, AttackController}
+use Rattle.game_tables.specs.declared.action.Action.TheVariants.{CreateSite, RemoveSite, SpawnCreep, Move}
 use Rattle.game_tables.specs.Limits.{most_bucket, most_points, unit_instructions}
 use Rattle.object_store.specs.declared.account.Account.{Account}
 use Rattle.object_store.specs.Tallies.{most_sum}
@@ -13,7 +19,8 @@ use Rattle.intent_book.specs.declared.player_run.PlayerRun.{PlayerRun}
 use Rattle.world_rules.specs.Drops.{dropped}
 use Rattle.world_rules.specs.Loads.{transferred, withdrawn, picked_up}
 use Rattle.world_rules.specs.Work.{harvested, repaired, built}
-use Rattle.world_rules.specs.Fights.{attacked_by, dismantled, ended, harm_by_parties, healed_by, mass_attacked, shot_by, torn_by}
+use Rattle.world_rules.specs.Fights.{attacked_by, dismantled, ended, harm_by_parties, healed_by}
+use Rattle.world_rules.specs.Fights.{mass_attacked, shot_by, torn_by}
 use Rattle.world_rules.specs.Claims.{claimed, controller_attacked, points_gained, reserved, upgraded}
 use Rattle.world_rules.specs.Moves.{moved}
 use Rattle.world_rules.specs.Sites.{site_made, site_removed}

@@ -1,8 +1,10 @@
 -- The steps of upkeep at the end of a tick. Each is a change of a room's part, over its objects in rising id.
-use Rattle.std.specs.Prelude.{ℕ, ◌+◌, ◌-◌, ◌*◌, ◌==◌, ◌&&◌, ◌||◌, min, max, nat_lt, Bool, true, false, if◌then◌else◌, List, [], ◌∷◌, ◌++◌, Option, Some, None}
+use Rattle.std.specs.Prelude.{ℕ, ◌+◌, ◌-◌, ◌*◌, ◌==◌, ◌&&◌, ◌||◌, min, max, nat_lt, Bool, true, false}
+use Rattle.std.specs.Prelude.{if◌then◌else◌, List, [], ◌∷◌, ◌++◌, Option, Some, None}
 use Rattle.std.specs.FinMap.{values}
 use Rattle.game_tables.specs.Bodies.{live_count, load_room}
-use Rattle.game_tables.specs.Kinds.{full_timer, hits_max, is_building, is_creep, source_capacity, renewal_ticks, pile_decay}
+use Rattle.game_tables.specs.Kinds.{full_timer, hits_max, is_building, is_creep, source_capacity}
+use Rattle.game_tables.specs.Kinds.{renewal_ticks, pile_decay}
 use Rattle.game_tables.specs.declared.kind.Kind.{Kind}
 use Rattle.game_tables.specs.declared.kind.Kind.TheVariants.{Source, Creep, Spawn, Container, Road, Pile}
 use Rattle.game_tables.specs.declared.kind.Part.TheVariants.{Move}

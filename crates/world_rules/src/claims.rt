@@ -1,6 +1,7 @@
 // Worked examples of controllers.
 ghost use Rattle.std.specs.Prelude.{◌≡◌};
-ghost use Rattle.world_rules.specs.ClaimExamples.{controller, free, owned, reserved_for, Ages, Becomes, Claims, Gives, Hurts, Reserves};
+ghost use Rattle.world_rules.specs.ClaimExamples.{controller, free, owned, reserved_for, Ages, Becomes};
+ghost use Rattle.world_rules.specs.ClaimExamples.{Claims, Gives, Hurts, Reserves};
 
 /// Says what creeps do to controllers in worked examples. It does nothing when it runs.
 pub fn claim_examples()

@@ -1,9 +1,11 @@
 // Worked examples of the definitions.
 ghost use Rattle.std.specs.Prelude.{◌≡◌, [], ◌∷◌, map};
 ghost use Rattle.game_tables.specs.Actions.{action_number};
-ghost use Rattle.game_tables.specs.declared.action.Action.TheVariants.{DropLoad, Harvest, CreateSite, RemoveSite, SpawnCreep};
+ghost use Rattle.game_tables.specs.declared.action.Action.TheVariants.{DropLoad, Harvest, CreateSite};
+ghost use Rattle.game_tables.specs.declared.action.Action.TheVariants.{RemoveSite, SpawnCreep};
 ghost use Rattle.world_rules.specs.Intents.{all_actions, last_of_each, in_order};
-ghost use Rattle.world_rules.specs.Examples.{Renews, Decays, Vanishes, Drops, Grows, DropsNothing, CountOf, Saves, entry_of};
+ghost use Rattle.world_rules.specs.Examples.{Renews, Decays, Vanishes, Drops, Grows, DropsNothing, CountOf};
+ghost use Rattle.world_rules.specs.Examples.{Saves, entry_of};
 
 /// Says what the definitions of upkeep give in worked examples. It does nothing when it runs: its
 /// contract is what the check has computed.

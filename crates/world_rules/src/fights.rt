@@ -2,9 +2,11 @@
 ghost use Rattle.std.specs.Prelude.{◌≡◌, [], ◌∷◌};
 ghost use Rattle.game_tables.specs.Bodies.{part_hits};
 ghost use Rattle.game_tables.specs.declared.kind.Kind.TheVariants as kinds;
-ghost use Rattle.game_tables.specs.declared.kind.Part.TheVariants.{Attack, Carry, Heal, Move, RangedAttack, Tough, Work};
+ghost use Rattle.game_tables.specs.declared.kind.Part.TheVariants.{Attack, Carry, Heal, Move, RangedAttack};
+ghost use Rattle.game_tables.specs.declared.kind.Part.TheVariants.{Tough, Work};
 ghost use Rattle.world_rules.specs.Fights.{attacked_by, cure, healed_by, shot_by, torn_by, blow};
-ghost use Rattle.world_rules.specs.FightExamples.{fighter, one_of, other_of, CreepLeft, BuildingLeft, Salvages, Strikes};
+ghost use Rattle.world_rules.specs.FightExamples.{fighter, one_of, other_of, CreepLeft, BuildingLeft};
+ghost use Rattle.world_rules.specs.FightExamples.{Salvages, Strikes};
 
 /// Says what creeps do to each other and to buildings in worked examples. It does nothing when it runs.
 pub fn fight_examples()

@@ -2,10 +2,12 @@
 ghost use Rattle.std.specs.Prelude.{◌≡◌, ◌≢◌, ◌≤◌, ◌<◌, List, [], IfOk, IfErr};
 ghost use Rattle.serde_json.specs.View.{view, items_view};
 ghost use Rattle.object_store.specs.declared.object.Object.{Object};
-ghost use Rattle.world_form.specs.Facts.{Requires, Defaults, IsKindText, IsBodyList, IsListOf, SayEach, SaysObject};
+ghost use Rattle.world_form.specs.Facts.{Requires, Defaults, IsKindText, IsBodyList, IsListOf, SayEach};
+ghost use Rattle.world_form.specs.Facts.{SaysObject};
 ghost use Rattle.world_form.specs.FirstFaults.{IsFirst, required, optional, each_from, object_checks};
 ghost use Rattle.world_form.specs.declared.field.Field.TheVariants as fields;
-ghost use Rattle.world_text.specs.inner.Readings.{SaysIdentity, identity_checks, SaysHolding, holding_checks, SaysCounters, counter_checks, list_checks};
+ghost use Rattle.world_text.specs.inner.Readings.{SaysIdentity, identity_checks, SaysHolding, holding_checks};
+ghost use Rattle.world_text.specs.inner.Readings.{SaysCounters, counter_checks, list_checks};
 ghost use Rattle.world_text.specs.inner.Drafts.{IsSorting};
 
 use crate::keys::{optional_number, required_list, required_number, required_value};

@@ -1,7 +1,8 @@
 // The players of a world file.
 ghost use Rattle.std.specs.Prelude.{◌≡◌, ◌≢◌, ◌≤◌, ◌-◌, ◌^◌, List, [], ◌∷◌, IfOk, IfErr};
 ghost use Rattle.serde_json.specs.View.{view, items_view};
-ghost use Rattle.world_form.specs.Facts.{Defaults, IsList, IsListOf, IsTokenText, IsMemoryText, Player, SayEach, SaysPlayer};
+ghost use Rattle.world_form.specs.Facts.{Defaults, IsList, IsListOf, IsTokenText, IsMemoryText, Player};
+ghost use Rattle.world_form.specs.Facts.{SayEach, SaysPlayer};
 ghost use Rattle.world_form.specs.FirstFaults.{IsFirst, optional, each_from, values_at, player_checks};
 ghost use Rattle.world_form.specs.declared.field.Field.TheVariants as fields;
 ghost use Rattle.world_text.specs.inner.Readings.{player_of, SaysAccount, account_checks};

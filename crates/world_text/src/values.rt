@@ -6,7 +6,8 @@ ghost use Rattle.serde_json.specs.View.{view, items_view, items_of};
 ghost use Rattle.game_tables.specs.Bodies.{most_parts};
 ghost use Rattle.game_tables.specs.Texts.{part_text};
 ghost use Rattle.world_form.specs.Digits.{ground_digit, hex_digit, hex};
-ghost use Rattle.world_form.specs.Facts.{IsWhole, IsKindText, IsBodyList, IsNameText, IsTerrainText, IsTokenText, IsMemoryText};
+ghost use Rattle.world_form.specs.Facts.{IsWhole, IsKindText, IsBodyList, IsNameText, IsTerrainText};
+ghost use Rattle.world_form.specs.Facts.{IsTokenText, IsMemoryText};
 ghost use Rattle.world_text.specs.inner.Readings.{Reads};
 
 use crate::text::Text;

@@ -6,7 +6,8 @@ ghost use Rattle.serde_json.specs.View.{view};
 ghost use Rattle.game_tables.specs.Texts.{part_text};
 ghost use Rattle.world_form.specs.Digits.{ground_digit, hex, hex_digit};
 ghost use Rattle.world_form.specs.Files.{Lists};
-ghost use Rattle.world_form.specs.Written.{list_data, object_data, room_data, account_data, world_data, written, filed_of, IsWritable, IsOfTypes};
+ghost use Rattle.world_form.specs.Written.{list_data, object_data, room_data, account_data, world_data};
+ghost use Rattle.world_form.specs.Written.{written, filed_of, IsWritable, IsOfTypes};
 
 use game_tables::Body;
 use object_store::{Account, Ground, Object, Objects, Room, Terrain, World};

@@ -1,5 +1,6 @@
 -- What the steps of creeps make of the objects of a room. For private clauses.
-use Rattle.std.specs.Prelude.{◌≡◌, ◌≢◌, ℕ, ◌-◌, ◌*◌, ◌/◌, ◌%◌, ◌<◌, ◌≤◌, max, true, List, length, Some, None, Bool, slice_index, slice_get}
+use Rattle.std.specs.Prelude.{◌≡◌, ◌≢◌, ℕ, ◌-◌, ◌*◌, ◌/◌, ◌%◌, ◌<◌, ◌≤◌, max, true, List, length, Some, None}
+use Rattle.std.specs.Prelude.{Bool, slice_index, slice_get}
 use Rattle.std.specs.Option.{is_some}
 use Rattle.game_tables.specs.Kinds.{is_creep}
 use Rattle.game_tables.specs.Numbers.{kind_number}

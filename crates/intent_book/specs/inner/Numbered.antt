@@ -1,6 +1,7 @@
 -- How the entries of a record are kept: under each place an intent with a number, which is higher for a later
 -- one.
-use Rattle.std.specs.Prelude.{◌≡◌, ℕ, zero, suc, ◌<◌, ◌≤◌, nat_eq, nat_lt, if◌then◌else◌, List, [], ◌∷◌, ◌++◌, map, length, slice_get, Option, None, Some, MatchOption}
+use Rattle.std.specs.Prelude.{◌≡◌, ℕ, zero, suc, ◌<◌, ◌≤◌, nat_eq, nat_lt, if◌then◌else◌, List, [], ◌∷◌, ◌++◌}
+use Rattle.std.specs.Prelude.{map, length, slice_get, Option, None, Some, MatchOption}
 use Rattle.std.specs.List.{AllByRecursion}
 use Rattle.intent_book.specs.declared.intent.Intent.{Intent}
 use Rattle.intent_book.specs.declared.entries.Kept.{Kept}

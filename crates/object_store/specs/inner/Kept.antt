@@ -1,5 +1,6 @@
 -- The slot of a room's controller. For private clauses.
-use Rattle.std.specs.Prelude.{◌≡◌, ℕ, ◌<◌, ◌==◌, ◌&&◌, ◌⊎◌, Bool, true, false, List, length, Option, Some, IfSome, option_map}
+use Rattle.std.specs.Prelude.{◌≡◌, ℕ, ◌<◌, ◌==◌, ◌&&◌, ◌⊎◌, Bool, true, false, List, length, Option, Some}
+use Rattle.std.specs.Prelude.{IfSome, option_map}
 use Rattle.game_tables.specs.Numbers.{kind_number}
 use Rattle.game_tables.specs.Kinds.{is_controller}
 use Rattle.game_tables.specs.declared.kind.Kind.{Kind}

@@ -1,5 +1,6 @@
 -- What the single tests look at. For private clauses.
-use Rattle.std.specs.Prelude.{◌≡◌, ◌≢◌, ℕ, ◌<◌, ◌≤◌, ◌/◌, ◌%◌, ◌^◌, ◌⊎◌, true, false, List, Option, Some, None, length, map, slice_get, min, sum_by}
+use Rattle.std.specs.Prelude.{◌≡◌, ◌≢◌, ℕ, ◌<◌, ◌≤◌, ◌/◌, ◌%◌, ◌^◌, ◌⊎◌, true, false, List, Option, Some}
+use Rattle.std.specs.Prelude.{None, length, map, slice_get, min, sum_by}
 use Rattle.std.specs.List.{flat_map, filter}
 use Rattle.game_tables.specs.declared.kind.Kind.{Kind}
 use Rattle.game_tables.specs.Kinds.{is_site_kind, build_total, is_controller, is_site, may_have_owner}

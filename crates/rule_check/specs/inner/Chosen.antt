@@ -2,7 +2,9 @@
 use Rattle.std.specs.Prelude.{◌≡◌, ℕ, ◌<◌, Bool, true, false}
 use Rattle.object_store.specs.Stored.{Stored}
 use Rattle.world_rules.specs.declared.rule.Rule.{Rule}
-use Rattle.world_rules.specs.declared.rule.Rule.TheVariants.{Counts, RoomTwice, Corner, Serial, IdTwice, Tile, Shared, Owner, Controllers, Range, PlayerTwice, Sites}
+use Rattle.world_rules.specs.declared.rule.Rule.TheVariants.{Counts, RoomTwice, Corner, Serial, IdTwice, Tile}
+use Rattle.world_rules.specs.declared.rule.Rule.TheVariants.{Shared, Owner, Controllers, Range, PlayerTwice}
+use Rattle.world_rules.specs.declared.rule.Rule.TheVariants.{Sites}
 use Rattle.world_rules.specs.Rules.{Broken, rule_place}
 use Rattle.world_rules.specs.World.{Listing, listing_of}
 use Rattle.rule_check.specs.declared.keeps.Chosen.{Chosen}

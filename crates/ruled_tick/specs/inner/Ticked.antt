@@ -1,5 +1,6 @@
 -- What one tick makes of what is stored.
-use Rattle.std.specs.Prelude.{◌≡◌, ℕ, ◌+◌, ◌-◌, ◌*◌, ◌^◌, ◌<◌, ◌≤◌, ◌==◌, ◌&&◌, max, Bool, List, [], length, map, Option, Some, None, slice_get, slice_index_or}
+use Rattle.std.specs.Prelude.{◌≡◌, ℕ, ◌+◌, ◌-◌, ◌*◌, ◌^◌, ◌<◌, ◌≤◌, ◌==◌, ◌&&◌, max, Bool, List, [], length}
+use Rattle.std.specs.Prelude.{map, Option, Some, None, slice_get, slice_index_or}
 use Rattle.std.specs.List.{AllByRecursion, filter}
 use Rattle.game_tables.specs.Actions.{action_number}
 use Rattle.game_tables.specs.declared.action.Action.TheVariants.{Move}

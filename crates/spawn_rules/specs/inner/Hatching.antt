@@ -1,5 +1,6 @@
 -- The course of hatching, from id to id.
-use Rattle.std.specs.Prelude.{◌≡◌, ℕ, ◌+◌, ◌^◌, ◌<◌, ◌≤◌, ◌&&◌, nat_le, Bool, List, length, map, if◌then◌else◌, Option, Some, None, option_and_then}
+use Rattle.std.specs.Prelude.{◌≡◌, ℕ, ◌+◌, ◌^◌, ◌<◌, ◌≤◌, ◌&&◌, nat_le, Bool, List, length, map}
+use Rattle.std.specs.Prelude.{if◌then◌else◌, Option, Some, None, option_and_then}
 use Rattle.std.specs.List.{AllByRecursion, filter}
 use Rattle.room_terrain.specs.declared.direction.Direction.{Direction}
 use Rattle.room_terrain.specs.declared.terrain.Ground.{Ground}

@@ -1,5 +1,6 @@
 -- The course of a step in which what objects held may fall on their tiles, place by place.
-use Rattle.std.specs.Prelude.{◌≡◌, ℕ, ◌+◌, ◌-◌, ◌==◌, ◌&&◌, ◌||◌, ◌<◌, ◌≤◌, nat_lt, nat_le, if◌then◌else◌, Bool, true, false, List, map, length, drop, Option, Some, None, slice_get}
+use Rattle.std.specs.Prelude.{◌≡◌, ℕ, ◌+◌, ◌-◌, ◌==◌, ◌&&◌, ◌||◌, ◌<◌, ◌≤◌, nat_lt, nat_le, if◌then◌else◌}
+use Rattle.std.specs.Prelude.{Bool, true, false, List, map, length, drop, Option, Some, None, slice_get}
 use Rattle.std.specs.List.{AllByRecursion, filter}
 use Rattle.game_tables.specs.Bodies.{load_room}
 use Rattle.game_tables.specs.Kinds.{is_building, is_creep}
@@ -14,7 +15,8 @@ use Rattle.world_rules.specs.RuleBook.{Sums}
 use Rattle.world_rules.specs.Changes.{with_object, without}
 use Rattle.world_rules.specs.Drops.{fallen}
 use Rattle.world_rules.specs.Steps.{over_ids}
-use Rattle.world_rules.specs.Upkeep.{aged_as, decays, hits_left, struck_as, unloaded_as, weathered, weathered_as}
+use Rattle.world_rules.specs.Upkeep.{aged_as, decays, hits_left, struck_as, unloaded_as, weathered}
+use Rattle.world_rules.specs.Upkeep.{weathered_as}
 use Rattle.room_rules.specs.Calls.{IsReadyFor, Keeps, KeepsTallies}
 use Rattle.upkeep_rules.specs.declared.wearing.Outcome.{Outcome}
 use Rattle.upkeep_rules.specs.declared.wearing.Outcome.TheVariants.{Stays, Changes, Drops, Goes}

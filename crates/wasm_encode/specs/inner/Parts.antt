@@ -2,9 +2,11 @@
 use Rattle.std.specs.Prelude.{ℕ, List, [], ◌∷◌, ◌++◌, Option, None}
 use Rattle.wasm_module.specs.Spelling.{SpellsU32, SpellsList, SpellsSized}
 use Rattle.wasm_module.specs.Syntax.{Ops, no_ops}
-use Rattle.wasm_module.specs.Values.{SpellsFuncType, SpellsImport, SpellsTableType, SpellsBounds, SpellsExport}
+use Rattle.wasm_module.specs.Values.{SpellsFuncType, SpellsImport, SpellsTableType, SpellsBounds}
+use Rattle.wasm_module.specs.Values.{SpellsExport}
 use Rattle.wasm_module.specs.Instructions.{SpellsOps, SpellsExpression}
-use Rattle.wasm_module.specs.Entries.{Global, SpellsGlobal, Elements, SpellsElement, Function, SpellsCode, Data, SpellsSegment}
+use Rattle.wasm_module.specs.Entries.{Global, SpellsGlobal, Elements, SpellsElement, Function, SpellsCode}
+use Rattle.wasm_module.specs.Entries.{Data, SpellsSegment}
 use Rattle.wasm_module.specs.Sections.{SpellsStart}
 use Rattle.wasm_module.specs.declared.types.FuncType.{FuncType}
 use Rattle.wasm_module.specs.declared.types.Bounds.{Bounds}

@@ -6,7 +6,8 @@ use Rattle.wasm_module.specs.Entries.{Function, code_view}
 use Rattle.wasm_module.specs.declared.codes.Code.{Code}
 use Rattle.wasm_module.specs.declared.types.GlobalType.{GlobalType}
 use Rattle.wasm_validate.specs.Context.{Context}
-use Rattle.wasm_validate.specs.Modules.{AreOrdered, IsMemoryType, IsGlobal, IsElements, IsData, IsStart, IsFunction, Exists}
+use Rattle.wasm_validate.specs.Modules.{AreOrdered, IsMemoryType, IsGlobal, IsElements, IsData, IsStart}
+use Rattle.wasm_validate.specs.Modules.{IsFunction, Exists}
 
 -- what is declared and imported
 pub record AreDeclared (cx : Context) (m : Syntax Ops) : Type 0 where

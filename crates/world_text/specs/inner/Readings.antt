@@ -7,7 +7,8 @@ use Rattle.game_tables.specs.declared.kind.Kind.{Kind}
 use Rattle.object_store.specs.declared.account.Account.{Account}
 use Rattle.world_form.specs.declared.field.Field.{Field}
 use Rattle.world_form.specs.declared.field.Field.TheVariants as fields
-use Rattle.world_form.specs.Facts.{Player, Requires, Defaults, IsWhole, IsWhole32, IsWhole53, IsList, IsKindText, IsBodyList, IsMemoryText}
+use Rattle.world_form.specs.Facts.{Player, Requires, Defaults, IsWhole, IsWhole32, IsWhole53, IsList}
+use Rattle.world_form.specs.Facts.{IsKindText, IsBodyList, IsMemoryText}
 use Rattle.world_form.specs.FirstFaults.{Check, required, optional, known_kind, each_from, values_at}
 use Rattle.world_text.specs.declared.objects.Identity.{Identity}
 use Rattle.world_text.specs.declared.objects.Holding.{Holding}
