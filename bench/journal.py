@@ -2,10 +2,11 @@
 """Measures what a journal costs in the built program: python3 bench/journal.py PROGRAM [--quick] [FOLDER].
 
 Run it in the repository's top folder once the program is built (README.md). The first table has runs with their two syncs a tick in FOLDER, which is to
-lie on a disk (else that of temporary files), beside bench/two_syncs.c, a program that writes the same bytes by as many writes and syncs. The other
-tables have what it takes to go on with a journal, by `run --ticks 0`, in memory (/dev/shm): of more and more ticks, of rooms with more and more objects that
-change, of many rooms of which one changes, and of modules that were uploaded. The time of a tick, an object or a byte is that of the difference
-between two rows. The times depend on the machine: compare figures of one run.
+lie on a disk (else that of temporary files), beside bench/two_syncs.c, a program that writes the same bytes by as many writes and syncs. The second
+table has what it takes to go on with a journal, by `run --ticks 0`, in memory (/dev/shm): of more and more ticks, of rooms with more and more objects that
+change, of one room and of many of which one changes, and of modules that were uploaded. The time of a tick, an object or a byte is that of the difference
+between two rows. The third has what `replay` takes beside the run that made the journal, there too. The times depend on the machine: compare figures of one
+run.
 """
 
 import os
@@ -18,6 +19,7 @@ import time
 
 from game import SECOND, thing
 from modules import OPENING, section
+from whole import FREE, PLAYERS, ROOMS, uploads_of, world_of
 from worlds import SMALL, bytes_of, room, upload_entry, world
 
 TOP = os.path.dirname(os.path.dirname(os.path.abspath(__file__)))
@@ -31,7 +33,7 @@ class Run:
 
     def __init__(self, program, folder, it, uploads=b""):
         self.program, self.folder = program, tempfile.mkdtemp(dir=folder)
-        for name, content in (("world.json", bytes_of(it)), ("uploads.bin", uploads)):
+        for name, content in (("world.json", it if isinstance(it, bytes) else bytes_of(it)), ("uploads.bin", uploads)):
             with open(os.path.join(self.folder, name), "wb") as file:
                 file.write(content)
 
@@ -42,12 +44,15 @@ class Run:
         shutil.rmtree(self.folder)
 
     def seconds(self, ticks):
+        return self.taken("run", "world.json", "uploads.bin", "game.journal", "--ticks", str(ticks))
+
+    def taken(self, *words):
+        words = [self.program, *words]
         start = time.perf_counter()
-        done = subprocess.run(
-            [self.program, "run", "world.json", "uploads.bin", "game.journal", "--ticks", str(ticks)], cwd=self.folder, stdout=subprocess.DEVNULL, timeout=600
-        )
+        # (with a limit of time Python would look for the end in steps of many milliseconds)
+        done = subprocess.run(words, cwd=self.folder, stdout=subprocess.DEVNULL)
         if done.returncode != 0:
-            sys.exit(f"a run ended with status {done.returncode}")
+            sys.exit(f"{words[1]} ended with status {done.returncode}")
         return time.perf_counter() - start
 
     def bytes(self):
@@ -113,15 +118,42 @@ def going_on(program, quick):
     for count in (250, 500, 1000, 2000):
         with Run(program, IN_MEMORY, piles(count)) as it:
             row(f"200 ticks of {count} piles that change", it, 200 // scale)
-    for rooms in (100, 200, 400):
-        with Run(program, IN_MEMORY, piles(10, rooms=rooms)) as it:
-            row(f"200 ticks of {rooms} rooms, one of which changes", it, 200 // scale)
+    for rooms in (1, 400):
+        for ticks in (20, 2000, 20_000):
+            with Run(program, IN_MEMORY, piles(10, rooms=rooms)) as it:
+                row(f"{ticks} ticks of {rooms} rooms, one of which changes", it, ticks // scale)
     loop = OPENING + section(1, b"\1\x60\0\0") + section(3, b"\1\0") + section(7, b"\1\4loop\0\0") + section(10, b"\1\2\0\x0b")
     for count in (1, 10, 20, 40):
         padded = loop + section(0, b"\0" + bytes(900_000))
         uploads = b"".join(upload_entry(tick, 1, padded) for tick in range(count))
         with Run(program, IN_MEMORY, dict(SMALL, players=[{"player": 1, "limit": 20}]), uploads) as it:
             row(f"{count} uploads of 0.9 MB", it, count)
+
+
+def generated(program, part):
+    """A part of the world of 400 rooms and 8 players that is made of the number 7."""
+    return subprocess.run([program, "gen", "7", "400", part], capture_output=True, check=True).stdout
+
+
+def replayed(program, quick):
+    print(f"\n{'replayed':<52} {'run, ms':>10} {'replay, ms':>10}")
+    scale = 10 if quick else 1
+    first, calls = world_of(PLAYERS, ROOMS, FREE)
+    shapes = (
+        ("the small world", 20_000, SMALL, b""),
+        ("2000 piles that change", 200, piles(2000), b""),
+        ("8 players in 400 rooms", 1000, generated(program, "world"), generated(program, "uploads")),
+        ("64 players in 400 rooms, all kinds of action", 5, first, uploads_of(calls)),
+    )
+    for name, ticks, it, uploads in shapes:
+        ticks = max(5, ticks // scale)
+        with Run(program, IN_MEMORY, it, uploads) as made:
+            taken = []
+            for _ in range(5):
+                forget(os.path.join(made.folder, "game.journal"))
+                taken.append((made.seconds(ticks), made.taken("replay", "game.journal")))
+            run, again = (min(each) * 1e3 for each in zip(*taken))
+        print(f"{f'{ticks} ticks of {name}':<52} {run:>10.1f} {again:>10.1f}", flush=True)
 
 
 def main():
@@ -131,6 +163,7 @@ def main():
     program, quick = os.path.abspath(words[0]), "--quick" in sys.argv
     synced(program, words[1] if len(words) > 1 else None, quick)
     going_on(program, quick)
+    replayed(program, quick)
 
 
 main()

@@ -6,8 +6,8 @@ ticks and of one; the best of some rounds counts, in which the two programs run 
 of the first program over that of the other.
 
 The rows are the worlds of bench/whole.py, in which 64 players want all kinds of action in 400 rooms, with half and a quarter of it, and without modules;
-the worlds of bench/moves.py and bench/fights.py, of which some have 20,000 creeps with one entry each in 400 rooms; 400 rooms of 50 objects with a drop in
-each of bench/ticks.py; 400 rooms in which nothing is wanted and nothing changes; and one room with as many objects as may stand there, in which nothing is
+the worlds of bench/moves.py and bench/fights.py, of which some have 20,000 creeps with one entry each in 400 rooms; 400 rooms of 50 objects of bench/ticks.py, with a
+drop in each and with none; 400 rooms in which nothing is wanted and nothing changes; and one room with as many objects as may stand there, in which nothing is
 wanted, or each creep drops something on its pile. Where the two write different journals a line says so.
 
 Where valgrind is installed further columns have what its callgrind counts of each program: the instructions of the processor in a tick, in millions, which
@@ -86,6 +86,7 @@ def rows():
         yield Row(f"fights: {shape.name}", it.world(), it.uploads(), it.objects(), it.entries())
     first, owned = scattered(True)
     yield Row("400 rooms of 50 objects, a drop in each", first, drops(owned, 1), 20_000, 400)
+    yield Row("400 rooms of 50 objects, nothing dropped", scattered(False)[0], b"", 20_000, 0, IDLE_TICKS)
     yield Row("400 rooms in which nothing changes", unchanging(), b"", 20_000, 0, IDLE_TICKS)
     first, objects, owned = largest()
     yield Row("the largest room, nothing wanted", first, b"", objects, 0, IDLE_TICKS)

@@ -134,6 +134,11 @@ def numbers(path, function, value=r"(\d+)"):
 CODE_NAMES = r"code\.Code\.TheVariants\.\{([\w, ]+)\}"
 
 
+def code_names(text):
+    """The names of codes that a file imports, on one line or on several."""
+    return [name for names in re.findall(CODE_NAMES, text) for name in names.split(", ")]
+
+
 def action_tables():
     """Of each action in the definitions its part, its range and the kinds of its targets, by its name there."""
     text = text_of("crates/game_tables/specs/Actions.antt")
@@ -180,7 +185,7 @@ def further_codes(text, names):
 def call_codes():
     """The codes that each call of an action answers, in the order of its checks, by the name of the call."""
     text = text_of("crates/world_rules/specs/Checks.antt")
-    names = re.search(CODE_NAMES, text)[1].split(", ")
+    names = code_names(text)
     parts, ranges, _ = action_tables()
     further, codes = further_codes(text, names), {}
     for action, (name, params, _) in defined_actions().items():
@@ -199,7 +204,7 @@ def call_codes():
 def record_codes():
     """The code of the last check of each call of an action."""
     replies = text_of("crates/host_calls/specs/Replies.antt")
-    return codes_in(block_of(replies, "record_checks"), re.search(CODE_NAMES, replies)[1].split(", "))
+    return codes_in(block_of(replies, "record_checks"), code_names(replies))
 
 
 # The actions of which no creep is the actor: the file of definitions with their checks, and the definitions there in their order. The
@@ -210,7 +215,7 @@ OF_NO_CREEP = {"CreateSite": ("Sites", ["room_checks", "tile_checks"]), "RemoveS
 def codes_of_no_creep(action):
     file, blocks = OF_NO_CREEP[action]
     text = text_of(f"crates/world_rules/specs/{file}.antt")
-    names = re.search(CODE_NAMES, text)[1].split(", ")
+    names = code_names(text)
     room = re.findall(r"^site_code_in desk wish x y None = (\w+)$", text_of("crates/host_calls/specs/Replies.antt"), re.M) if action == "CreateSite" else []
     return room + [code for block in blocks for code in codes_in(block_of(text, block), names)]
 
@@ -218,7 +223,7 @@ def codes_of_no_creep(action):
 def answered_codes():
     """The codes that some call answers today, by the name in the header: those of the desk, and those of the calls of actions."""
     codes = numbers(["crates/game_tables/specs/Codes.antt"], "code_number", r"neg_ℤ \(pos (\d+)\)")
-    used = set(re.search(CODE_NAMES, text_of("crates/host_calls/specs/Replies.antt"))[1].split(", "))
+    used = set(code_names(text_of("crates/host_calls/specs/Replies.antt")))
     used |= {code for order in call_codes().values() for code in order}
     return {"CODE_OK": 0, **{f"CODE_{snake(name)}": -codes[snake(name)] for name in used if name != "Done"}}
 
