@@ -1,5 +1,5 @@
 #!/usr/bin/env python3
-"""Measures a tick room by room against the same tick of the whole world at once: python3 bench/both_ways.py PROGRAM TWICE [--quick].
+"""Measures a tick room by room against the same tick of the whole world at once: python3 bench/both_ways.py PROGRAM TWICE [--quick | --counted].
 
 Run it in the repository's top folder once both are built (README.md). TWICE is the program with one function more, which `Hosted::tick` of hosted_tick
 calls before `next_world` of room_step, and which makes the tick once more and drops it: of a world before tick 1,048,576 as `replay` does, by `tick_plain`;
@@ -25,7 +25,8 @@ that way, the copy and the choice of the entries with it:
     }
 
 The rows are those of bench/rooms.py, and a tick's time is taken as there: the best of some rounds, in which the runs take turns. Behind them stands what the
-largest room of a world costs alone, in a world that has no other, which bounds what several workers may gain.
+largest room of a world costs alone, in a world that has no other, which bounds what several workers may gain. With --counted valgrind's callgrind counts
+the instructions of the processor in millions, in place of the time: no noise touches them, so that one run of each is enough.
 """
 
 import json
@@ -35,11 +36,11 @@ import sys
 import tempfile
 
 from players import Bench
-from rooms import rows
-from whole import ROUNDS
+from rooms import COUNTED_TICKS, counted, rows
+from whole import ROUNDS, profiled
 
 LATER = 1 << 20
-HEAD = f"{'a tick of':40}{'objects':>8}{'entries':>8}{'run, ms':>10}{'whole':>9}{'by rooms':>9}{'ratio':>7}"
+HEAD = f"{'a tick of':40}{'objects':>8}{'entries':>8}{'run':>10}{'whole':>9}{'by rooms':>9}{'ratio':>7}"
 
 
 def later_world(first):
@@ -80,20 +81,31 @@ def ticks(benches, row, more):
     return [(best[bench, 1 + more] - best[bench, 1]) / more for bench in benches]
 
 
+def instructions(bench, row):
+    """Instructions of a tick."""
+    bench.prepare(row)
+    one, more = (counted(profiled(bench, ticks))[0] for ticks in (1, 1 + COUNTED_TICKS))
+    return (more - one) / COUNTED_TICKS
+
+
 def main():
-    words = [word for word in sys.argv[1:] if word != "--quick"]
+    words = [word for word in sys.argv[1:] if word not in ("--quick", "--counted")]
     if len(words) != 2 or not all(map(os.path.isfile, words)):
-        sys.exit("no two programs: python3 bench/both_ways.py PROGRAM TWICE [--quick]")
-    quick = "--quick" in sys.argv
+        sys.exit("no two programs: python3 bench/both_ways.py PROGRAM TWICE [--quick | --counted]")
+    quick, is_counted = (word in sys.argv for word in ("--quick", "--counted"))
     place = "/dev/shm" if os.path.isdir("/dev/shm") else None
     program, twice = map(os.path.abspath, words)
     with tempfile.TemporaryDirectory(dir=place) as folder:
         benches = [Runs(path, folder, quick, is_later) for path, is_later in ((program, False), (twice, False), (program, True), (twice, True))]
+        print("millions of instructions" if is_counted else "milliseconds")
         print(HEAD, flush=True)
         for row in rows():
-            once, whole, later, rooms = ticks(benches, row, min(row.ticks, 3) if quick else row.ticks)
+            if is_counted:
+                once, whole, later, rooms = (instructions(bench, row) / 1e6 for bench in benches)
+            else:
+                once, whole, later, rooms = (seconds * 1e3 for seconds in ticks(benches, row, min(row.ticks, 3) if quick else row.ticks))
             whole, rooms = whole - once, rooms - later
-            print(f"{row.name:40}{row.objects:8,}{row.entries:8,.0f}{once * 1e3:10.3f}{whole * 1e3:9.3f}{rooms * 1e3:9.3f}{rooms / whole:7.3f}", flush=True)
+            print(f"{row.name:40}{row.objects:8,}{row.entries:8,.0f}{once:10.3f}{whole:9.3f}{rooms:9.3f}{rooms / whole:7.3f}", flush=True)
 
 
 if __name__ == "__main__":
