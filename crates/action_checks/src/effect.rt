@@ -18,7 +18,7 @@ pub fn takes_effect(action: Action, room: &RoomTable, intent: &Intent) -> bool
         → result ≡ may_take_effect action intent.now (table_part grounds room.now) }
 {
     // The objects rise by their ids, so that those of the room's part are those of its table.
-    let _rising = room.objects();
+    room.stands_in_order();
     let scene = Scene {
         player: intent.player,
         actor: standing(room, intent.actor),

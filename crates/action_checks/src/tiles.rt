@@ -38,7 +38,7 @@ pub fn is_open(terrain: &Terrain, room: &RoomTable, player: u32, x: u8, y: u8) -
     ensures { result ≡ is_open (table_part terrain.now room.now) player (x, y) }
 {
     // The objects rise by their ids, so that those of the room's part are those of its table.
-    let _rising = room.objects();
+    room.stands_in_order();
     is_open_ground(terrain.at(x, y)) && !room.obstructed(x, y, player)
 }
 

@@ -22,7 +22,7 @@ pub fn attack(room: &mut RoomTable, intent: &Intent)
     ensures keeps { Keeps room.old room.new }
 {
     // No sum of what was done to the objects passes its most.
-    let _objects = room.objects();
+    room.stands_in_order();
     let Some((creep, target)) = parties(Action::Attack, room, intent) else {
         return;
     };
@@ -43,7 +43,7 @@ pub fn ranged_attack(room: &mut RoomTable, intent: &Intent)
     ensures keeps { Keeps room.old room.new }
 {
     // No sum of what was done to the objects passes its most.
-    let _objects = room.objects();
+    room.stands_in_order();
     let Some((creep, _)) = parties(Action::RangedAttack, room, intent) else {
         return;
     };

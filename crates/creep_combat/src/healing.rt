@@ -23,7 +23,7 @@ pub fn heal(room: &mut RoomTable, intent: &Intent)
     ensures keeps { Keeps room.old room.new }
 {
     // No sum of what was done to the objects passes its most.
-    let _objects = room.objects();
+    room.stands_in_order();
     let Some((creep, _)) = parties(Action::Heal, room, intent) else {
         return;
     };
@@ -40,7 +40,7 @@ pub fn ranged_heal(room: &mut RoomTable, intent: &Intent)
     ensures keeps { Keeps room.old room.new }
 {
     // No sum of what was done to the objects passes its most.
-    let _objects = room.objects();
+    room.stands_in_order();
     let Some((creep, _)) = parties(Action::RangedHeal, room, intent) else {
         return;
     };

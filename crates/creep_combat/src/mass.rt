@@ -27,8 +27,8 @@ pub fn mass_attack(room: &mut RoomTable, intent: &Intent)
     ensures keeps { Keeps room.old room.new }
 {
     // The objects rise by their ids, and no sum of what was done to them passes its most.
-    let _objects = room.objects();
-    let _greatest = room.greatest_id();
+    room.stands_in_order();
+    room.ids_fit();
     let Some(creep) = acting(Action::RangedMassAttack, room, intent) else {
         return;
     };
@@ -51,7 +51,7 @@ fn strike_all(room: &mut RoomTable, creep: &Object, live: u32)
     requires ids { AllByRecursion (λ object. object.id < 2 ^ 64) room.old.objects }
     ensures { IsDamaged (mass_damage creep.now) room.old room.new }
 {
-    let _objects = room.objects();
+    room.stands_in_order();
     for y in creep.y.saturating_sub(REACH)..(creep.y + REACH + 1).min(SIDE) {
         strike_row(room, creep, live, y);
     }
@@ -66,7 +66,7 @@ fn strike_row(room: &mut RoomTable, creep: &Object, live: u32, y: u8)
     requires ids { AllByRecursion (λ object. object.id < 2 ^ 64) room.old.objects }
     ensures { IsDamaged (damage_where (is_in_row y) creep.now) room.old room.new }
 {
-    let _objects = room.objects();
+    room.stands_in_order();
     for x in creep.x.saturating_sub(REACH)..(creep.x + REACH + 1).min(SIDE) {
         strike_tile(room, creep, live, x, y);
     }
@@ -79,7 +79,7 @@ fn strike_tile(room: &mut RoomTable, creep: &Object, live: u32, x: u8, y: u8)
     requires ids { AllByRecursion (λ object. object.id < 2 ^ 64) room.old.objects }
     ensures { IsDamaged (damage_where (is_on x y) creep.now) room.old room.new }
 {
-    let _objects = room.objects();
+    room.stands_in_order();
     let mut from = 0;
     while let Some(object) = room.next_on(x, y, from) {
         let id = object.id;
@@ -97,7 +97,7 @@ fn strike(room: &mut RoomTable, id: u64, damage: u32)
     requires { HasId id room.old.objects }
     ensures { IsDamaged (to_one id damage) room.old room.new }
 {
-    let _objects = room.objects();
+    room.stands_in_order();
     if damage > 0 {
         room.add_damage(id, damage);
     }

@@ -21,7 +21,7 @@ pub(crate) fn free_in(room: &RoomTable, object: &Object) -> u64
     ensures fits { object.now.energy + result < 2 ^ 64 }
 {
     // The objects rise by their ids, so that the controller of the room's part is that of its table.
-    let _rising = room.objects();
+    room.stands_in_order();
     missing(capacity(object, room.controller()), object.energy)
 }
 

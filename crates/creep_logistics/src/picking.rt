@@ -44,7 +44,7 @@ fn take_from(room: &mut RoomTable, pile: Object, amount: u64)
     ensures others { (id : ℕ) → id ≢ pile.id → HasId id room.old.objects → HasId id room.new.objects }
 {
     if amount == pile.energy {
-        let _taken = room.remove(pile.id);
+        room.remove(pile.id);
     } else {
         room.set(Object {
             energy: pile.energy - amount,

@@ -24,9 +24,9 @@ pub fn land(terrain: &Terrain, room: &mut RoomTable, id: u64, x: u8, y: u8)
     ensures tiles { AllByRecursion IsOnTile room.new.objects }
 {
     // The objects rise by their ids, so that each is found by its own.
-    let _rising = room.objects();
+    room.stands_in_order();
     let Some(creep) = room.get(id) else {
-        return;
+        unreachable!()
     };
     let creep = *creep;
     let road = room.at(x, y, Kind::Road);
@@ -56,7 +56,7 @@ fn wear(room: &mut RoomTable, id: u64, parts: u32)
     ensures tiles { AllByRecursion IsOnTile room.new.objects }
 {
     let Some(road) = room.get(id) else {
-        return;
+        unreachable!()
     };
     let road = *road;
     room.set(Object {

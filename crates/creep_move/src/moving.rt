@@ -36,7 +36,7 @@ pub fn settle_moves(terrain: &Terrain, room: &mut RoomTable, moves: &[Intent])
     ensures tiles { AllByRecursion IsOnTile room.new.objects }
 {
     // The objects rise by their ids, so that those of the room's part are those of its table.
-    let _rising = room.objects();
+    room.stands_in_order();
     if moves.is_empty() {
         return;
     }
@@ -59,7 +59,7 @@ fn settle(terrain: &Terrain, room: &mut RoomTable, moves: &[Intent])
     let mut held: [bool; TILES] = all_free();
     decide(terrain, room, moves, &mut comes, &mut best, &mut held);
     // The objects rise by their ids, so that those of the room's part are those of its table.
-    let _rising = room.objects();
+    room.stands_in_order();
     land_all(terrain, room, &comes, &best, &held);
 }
 
@@ -127,7 +127,7 @@ fn land_all(terrain: &Terrain, room: &mut RoomTable, comes: &[u16], best: &[u64]
 {
     for tile in 0..TILES {
         // The objects rise by their ids, so that each is found by its own.
-        let _rising = room.objects();
+        room.stands_in_order();
         let from = comes[tile] as usize;
         if from < TILES && !held[from] {
             land(

@@ -75,8 +75,8 @@ fn advance(room: &mut RoomTable, kind: Kind, site: Object)
         return;
     }
     let building = building_on(kind, room, &site);
-    let _site = room.remove(site.id);
-    let _id = room.insert_new(building);
+    room.remove(site.id);
+    room.insert_new(building);
 }
 
 // The building of a site, before it has an id.
@@ -85,7 +85,7 @@ fn building_on(kind: Kind, room: &RoomTable, site: &Object) -> Object
         → result ≡ building_on kind (table_part grounds room.now) site.now 0 }
 {
     // The objects rise by their ids, so that the controller is that of the room's part.
-    let _rising = room.objects();
+    room.stands_in_order();
     Object {
         id: 0,
         kind,

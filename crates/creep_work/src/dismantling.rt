@@ -25,7 +25,7 @@ pub fn dismantle(room: &mut RoomTable, intent: &Intent)
     ensures keeps { Keeps room.old room.new }
 {
     // No sum of what was done to the objects passes its most.
-    let _objects = room.objects();
+    room.stands_in_order();
     let Some((creep, building)) = parties(Action::Dismantle, room, intent) else {
         return;
     };

@@ -53,7 +53,7 @@ pub(crate) fn taken(room: &RoomTable, creep: &Object, amount: u64) -> u64
     ensures within { result ≤ amount }
 {
     // The objects rise by their ids, so that the controller is that of the room's part.
-    let _rising = room.objects();
+    room.stands_in_order();
     let most = capacity(creep, room.controller());
     amount.min(most.saturating_sub(creep.energy))
 }

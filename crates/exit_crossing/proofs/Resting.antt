@@ -1,5 +1,5 @@
 -- Creeps that are made ones that have not moved, one place after the other.
-use Rattle.std.proofs.Common.{◌≡◌, ℕ, zero, suc, ◌<◌, ◌≤◌, if◌then◌else◌, Bool, true, false, List, [], ◌∷◌, map, length, Some, None, refl, sym, ap, subst, ◌∙◌, arith, slice_get}
+use Rattle.std.proofs.Common.{◌≡◌, ℕ, zero, suc, ◌<◌, ◌≤◌, if◌then◌else◌, Bool, true, false, List, [], ◌∷◌, map, length, Some, refl, sym, ap, subst, ◌∙◌, arith, slice_get}
 use Rattle.std.specs.List.{AllByRecursion}
 use Rattle.std.proofs.lemmas.Bool.{eq-eqb, ne_eqb}
 use Rattle.game_tables.specs.Kinds.{is_creep}
@@ -13,11 +13,6 @@ same_id object = elim (is_creep object.kind) as (λ b. (if b then record object 
 
 pub on_tile : (object : Object) → IsOnTile object → IsOnTile (still object)
 on_tile object on = elim (is_creep object.kind) as (λ b. IsOnTile (if b then record object { other_ticks = 0 } else object)) [ true ↦ record { column = on.column; row = on.row } | false ↦ on ]
-
-pub past_none : (objects : List Object) (place : ℕ) → slice_get objects place ≡ None → rested_at place objects ≡ objects
-past_none [] place is = refl
-past_none (first ∷ objects) zero is = absurd cc
-past_none (first ∷ objects) (suc place) is = ap (λ rest. first ∷ rest) (past_none objects place is)
 
 pub already : (objects : List Object) (place : ℕ) (object : Object) → slice_get objects place ≡ Some object → still object ≡ object → rested_at place objects ≡ objects
 already [] place object is same = absurd cc
@@ -79,6 +74,11 @@ not_moved object zero_ticks = elim (is_creep object.kind) as (λ b. (if b then r
 pub none_rested : (objects : List Object) → rested_to 0 objects ≡ objects
 none_rested [] = refl
 none_rested (object ∷ objects) = refl
+
+pub count_rested : (count : ℕ) (objects : List Object) → length (rested_to count objects) ≡ length objects
+count_rested count [] = refl
+count_rested zero (object ∷ objects) = refl
+count_rested (suc count) (object ∷ objects) = ap suc (count_rested count objects)
 
 pub one_more : (objects : List Object) (count : ℕ) → rested_at count (rested_to count objects) ≡ rested_to (suc count) objects
 one_more [] count = refl

@@ -27,7 +27,7 @@ pub fn cross(world: &mut World, list: &[Crosser])
     ensures frames { KeepsFrames world.old world.new }
     ensures sound { IsSound world.old → IsSound world.new }
 {
-    let _rooms = world.room_list();
+    world.stands_in_order();
     for crosser in list {
         cross_over(world, *crosser);
     }
@@ -49,17 +49,18 @@ fn cross_over(world: &mut World, crosser: Crosser)
     let Some(at) = landing_of(world, crosser) else {
         return;
     };
-    if let Some(creep) = take_out(world, crosser.room, crosser.id) {
-        put_in(
-            world,
-            at.room,
-            Object {
-                x: at.x,
-                y: at.y,
-                ..creep
-            },
-        );
-    }
+    let Some(creep) = take_out(world, crosser.room, crosser.id) else {
+        unreachable!()
+    };
+    put_in(
+        world,
+        at.room,
+        Object {
+            x: at.x,
+            y: at.y,
+            ..creep
+        },
+    );
 }
 
 // The tile that a creep comes to, where it may go.

@@ -1,5 +1,5 @@
 // The creeps that cross.
-ghost use Rattle.std.specs.Prelude.{◌≡◌, ◌++◌, ℕ, Some, map, slice_get, IfOk, OnOk, OnErr};
+ghost use Rattle.std.specs.Prelude.{◌≡◌, ◌<◌, ◌++◌, ℕ, Some, length, map, slice_get, IfOk, OnOk, OnErr};
 ghost use Rattle.std.specs.List.{AllByRecursion};
 ghost use Rattle.std.specs.List.Sorted.{IsPermutation, IsNonDecreasingBy};
 ghost use Rattle.object_store.specs.Tables.{IsOnTile, IsRising};
@@ -79,14 +79,15 @@ fn rest_all(room: &mut RoomTable)
     }
 }
 
-// Makes the creep at a place of the room, if one is there, one that has not moved.
+// Makes the object at a place of the room, if it is a creep, one that has not moved.
 fn rest_one(room: &mut RoomTable, place: u32)
-    requires { AllByRecursion IsOnTile room.old.objects }
+    requires inside { place < length room.old.objects }
+    requires tiles { AllByRecursion IsOnTile room.old.objects }
     ensures { room.new ≡ record room.old { objects = rested_at place room.old.objects } }
 {
-    let _rising = room.objects();
+    room.stands_in_order();
     let Some(object) = room.nth(place) else {
-        return;
+        unreachable!()
     };
     if is_creep(object.kind) && object.other_ticks != 0 {
         let resting = Object {

@@ -31,7 +31,7 @@ pub fn fall(room: &mut RoomTable, x: u8, y: u8, amount: u64)
             ..pile
         }),
         None => {
-            let _id = room.insert_new(pile(x, y, heaped(0, amount)));
+            room.insert_new(pile(x, y, heaped(0, amount)));
         }
     }
 }
@@ -42,7 +42,7 @@ fn pile_on(room: &RoomTable, x: u8, y: u8) -> Option<Object>
     ensures rising { IsRising room.now.objects }
 {
     // The objects rise by id, so that no other has the id of the pile.
-    let _objects = room.objects();
+    room.stands_in_order();
     let id = room.at(x, y, Kind::Pile)?;
     room.get(id).copied()
 }

@@ -2,7 +2,7 @@
 ghost use Rattle.std.specs.Prelude.{◌≡◌, ◌==◌, ◌<◌, ◌≤◌, ◌+◌, ◌-◌, ◌*◌, ◌^◌, [], ◌↔◌, IsTrue, length, max};
 ghost use Rattle.std.specs.Prelude.{slice_get, option_copied, option_map, vec_capacity, Some, None, IfSome};
 ghost use Rattle.std.specs.Prelude.{IfNone, IfOk, OnOk, OnErr};
-ghost use Rattle.std.specs.List.{HoldsAt, list_any};
+ghost use Rattle.std.specs.List.{AllByRecursion, HoldsAt, list_any};
 ghost use Rattle.std.specs.Map.Iter.{ShowsInOrder, deref};
 ghost use Rattle.object_store.specs.declared.object.Object.{Object};
 ghost use Rattle.object_store.specs.Tables.{Table, IsRising, IsOnTile, HasId, HasNoId, AreTalliesOf};
@@ -189,6 +189,24 @@ impl RoomTable {
         self.next
     }
 
+    /// Says that the objects stand in rising id, that there are fewer than 2^32, and that what was done is told
+    /// of them alone. It does nothing.
+    pub fn stands_in_order(&self)
+        ensures rising { IsRising self.now.objects }
+        ensures within { length self.now.objects < 2 ^ 32 }
+        ensures tallies { AreTalliesOf self.now.objects self.now.tallies }
+    {
+        // What a table keeps is known where a field is named.
+        let _ = &self.slots;
+    }
+
+    /// Says that the ids of the objects fit 64 bits. It does nothing.
+    pub fn ids_fit(&self)
+        ensures { AllByRecursion (λ object. object.id < 2 ^ 64) self.now.objects }
+    {
+        prove!(self.greatest_id() <= u64::MAX);
+    }
+
     /// All objects, in rising id.
     pub fn objects(&self) -> Objects<'_>
         ensures all { result ≡ self.now.objects }
@@ -197,6 +215,7 @@ impl RoomTable {
         ensures runs { ShowsInOrder (deref {X = Object}) }
         ensures tallies { AreTalliesOf result self.now.tallies }
     {
+        self.stands_in_order();
         Objects::of(&self.slots, &self.order)
     }
 
@@ -212,8 +231,7 @@ impl RoomTable {
     pub fn greatest_id(&self) -> u64
         ensures { result ≡ greatest_id self.now.objects }
     {
-        // The objects rise by their ids.
-        let _rising = self.objects();
+        self.stands_in_order();
         match self.nth(self.len().saturating_sub(1)) {
             Some(object) => object.id,
             None => 0,
@@ -400,10 +418,9 @@ impl RoomTable {
         let stays = !is_controller(object.kind);
         self.owners.add(object.owner);
         self.tiles.add(tile_of(object.x, object.y));
-        // They have memory for one more, so these are never refused.
-        let _full = self.order.insert(place, slot);
-        let _full = self.slots.push(object);
-        let _full = self.tallies.push(Tally::NONE);
+        self.order.insert(place, slot).unwrap();
+        self.slots.push(object).unwrap();
+        self.tallies.push(Tally::NONE).unwrap();
         self.controller = kept_or_sought(self.controller, stays, &self.slots, &self.order);
         self.spare -= 1;
     }

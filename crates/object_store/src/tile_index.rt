@@ -102,9 +102,8 @@ impl TileIndex {
         ensures room { self.old.room ≤ self.new.room }
     {
         let older = put_head(&mut self.heads, tile, self.tiles.len() as u32 + 1);
-        // It has memory for one more, so these are never refused.
-        let _full = self.links.push(older);
-        let _full = self.tiles.push(tile);
+        self.links.push(older).unwrap();
+        self.tiles.push(tile).unwrap();
     }
 
     /// Takes a slot off its tile.

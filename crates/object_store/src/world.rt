@@ -131,13 +131,24 @@ impl World {
         self.rooms.len() as u32
     }
 
+    /// Says that there are fewer than 2^32 rooms and as few accounts, that the objects of each room stand in
+    /// rising id, and the accounts in rising player. It does nothing.
+    pub fn stands_in_order(&self)
+        ensures rooms { length self.now.rooms < 2 ^ 32 }
+        ensures tables { HaveRisingTables self.now.rooms }
+        ensures accounts { length self.now.accounts < 2 ^ 32 }
+        ensures rising { AreRising self.now.accounts }
+    {
+        all_rise(&self.rooms);
+    }
+
     /// All rooms, by their index.
     pub fn room_list(&self) -> &[Room]
         ensures all { result.now ≡ self.now.rooms }
         ensures within { length result.now < 2 ^ 32 }
         ensures rising { HaveRisingTables result.now }
     {
-        all_rise(&self.rooms);
+        self.stands_in_order();
         &self.rooms
     }
 
@@ -255,8 +266,7 @@ impl World {
             terrain,
             table,
         })?;
-        // It has memory for one more, so this is never refused.
-        let _full = self.by_name.insert(place, index);
+        self.by_name.insert(place, index).unwrap();
         Ok(())
     }
 
@@ -286,7 +296,7 @@ fn all_rise(rooms: &[Room])
     ensures { HaveRisingTables rooms.now }
 {
     for room in rooms {
-        let _rising = room.table.objects();
+        room.table.stands_in_order();
     }
 }
 

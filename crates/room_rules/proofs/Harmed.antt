@@ -214,7 +214,3 @@ harmed_by_cure table id n within = λ other has.
 pub harmed_between : (action : Action) (harm : Object → Object → Harm) (entry : Intent) (table new : Table) (found : Option (Object × Object)) → ((grounds : List Ground) → found ≡ parties action entry (table_part grounds table))
     → IsHarmedBy (harm_between harm found) table new → (grounds : List Ground) → IsHarmedBy (harm_by_parties action harm entry (table_part grounds table)) table new
 harmed_between action harm entry table new found is harmed grounds = subst (λ (h : Harm). IsHarmedBy h table new) (ap (harm_between harm) (is grounds)) harmed
-
--- What was done is within its bounds, by the objects that are shown.
-pub shown_within : (table : Table) (objects : List Object) → objects ≡ table.objects → AreTalliesOf objects table.tallies → AreTalliesOf table.objects table.tallies
-shown_within table objects all within = subst (λ (list : List Object). AreTalliesOf list table.tallies) all within

@@ -106,8 +106,7 @@ fn stepped_rooms(
 {
     let tick = world.tick() + 1;
     // The numbers of rooms and of accounts are below 2^32.
-    let _rooms = world.room_list();
-    let _accounts = world.account_list();
+    world.stands_in_order();
     let (rooms, accounts) = world.into_parts();
     let mut stepped = Underway {
         world: World::empty(alloc, tick),

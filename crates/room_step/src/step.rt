@@ -157,7 +157,7 @@ fn step_entries(
         → IsStepped ground.now list table done) }
     ensures rules { IfOk result (λ done. KeepsItsRules between ground.now done.room) }
 {
-    let _rising = table.objects();
+    table.stands_in_order();
     widen(alloc, &mut table, entries.len() as u32)?;
     let gained = enter_all(ground, &mut table, entries);
     let moves = moves_among(alloc, entries)?;
@@ -194,7 +194,7 @@ fn enter_all(ground: &Terrain, table: &mut RoomTable, entries: &[Entry]) -> Gain
     };
     for entry in entries {
         let points = rule(ground, table, &entry.intent);
-        let _rising = table.objects();
+        table.stands_in_order();
         if points > 0 {
             gained.player = entry.intent.player;
             gained.points += points;

@@ -103,7 +103,7 @@ fn rule_in(room: &mut Room, intent: &Intent) -> u32
     ensures points { IsGained intent.now room.old.table result }
 {
     let points = rule(&room.terrain, &mut room.table, intent);
-    let _rising = room.table.objects();
+    room.table.stands_in_order();
     points
 }
 
@@ -119,7 +119,7 @@ pub fn rule(ground: &Terrain, table: &mut RoomTable, intent: &Intent) -> u32
     ensures points { IsGained intent.now table.old result }
 {
     // No sum passes its most, and nothing was done to what doesn't stand.
-    let _told = table.objects();
+    table.stands_in_order();
     match intent.action {
         Action::Upgrade => upgrade(table, intent),
         _ => {

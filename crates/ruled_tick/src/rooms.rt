@@ -91,7 +91,7 @@ pub fn tick_table(ground: &Terrain, table: &mut RoomTable, moves: &[Intent]) -> 
     let most_made = u64::from(table.len()) + MOST_ARRIVALS;
     take_memory(table, most_made)?;
     upkeep_last(table);
-    let _rising = table.objects();
+    table.stands_in_order();
     Ok(())
 }
 

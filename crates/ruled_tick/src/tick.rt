@@ -85,8 +85,7 @@ fn ruled_rooms(
 {
     let tick = world.tick() + 1;
     // The numbers of rooms and of accounts are below 2^32.
-    let _rooms = world.room_list();
-    let _accounts = world.account_list();
+    world.stands_in_order();
     let (mut rooms, accounts) = world.into_parts();
     widen_all(alloc, &mut rooms, entries)?;
     let mut gains = vec![in alloc; 0_u64; accounts.len()]?;

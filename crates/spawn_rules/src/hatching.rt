@@ -26,8 +26,8 @@ pub fn hatch(ground: &Terrain, room: &mut RoomTable)
     ensures keeps { KeepsUpTo (may_hatch room.old.objects) room.old room.new }
 {
     // The objects rise by their ids, as those of the room's part do.
-    let _rising = room.objects();
-    let _greatest = room.greatest_id();
+    room.stands_in_order();
+    room.ids_fit();
     let mut next = Some(0);
     while let Some(from) = next {
         next = hatch_from(ground, room, from);
@@ -41,7 +41,7 @@ fn hatch_from(ground: &Terrain, room: &mut RoomTable, from: u64) -> Option<u64>
     ensures turn { IsHatchedFrom ground.now from room.old result room.new }
     ensures later { IfSome result (λ next. from < next) }
 {
-    let _rising = room.objects();
+    room.stands_in_order();
     let Some(object) = room.next_from(from) else {
         return None;
     };
@@ -71,7 +71,7 @@ fn hatch_at(ground: &Terrain, room: &mut RoomTable, spawn: &Object)
     ensures keeps { KeepsUpTo 1 room.old room.new }
     ensures others { KeepsOthers spawn.now.id room.old room.new }
 {
-    let _rising = room.objects();
+    room.stands_in_order();
     if spawn.timer > 1 {
         room.set(Object {
             timer: spawn.timer - 1,
@@ -92,7 +92,7 @@ fn hatch_on(ground: &Terrain, room: &mut RoomTable, spawn: &Object)
     ensures keeps { KeepsUpTo 1 room.old room.new }
     ensures others { KeepsOthers spawn.now.id room.old room.new }
 {
-    let _rising = room.objects();
+    room.stands_in_order();
     let Some((x, y)) = tile_for(ground, room, spawn) else {
         return;
     };
@@ -101,7 +101,7 @@ fn hatch_on(ground: &Terrain, room: &mut RoomTable, spawn: &Object)
         body: Body::new(),
         ..*spawn
     });
-    let _id = room.insert_new(newborn(spawn, x, y));
+    room.insert_new(newborn(spawn, x, y));
 }
 
 // The first tile round a spawn, from the top clockwise, on which its creep may come.
@@ -142,7 +142,7 @@ fn is_free(ground: &Terrain, room: &RoomTable, player: u32, x: u8, y: u8) -> boo
     ensures { result ≡ is_free_for_creep (table_part ground.now room.now) player (x, y) }
 {
     // The objects rise by their ids, so that those of the room's part are those of its table.
-    let _rising = room.objects();
+    room.stands_in_order();
     is_open(ground, room, player, x, y) && room.at(x, y, Kind::Creep).is_none()
 }
 

@@ -25,7 +25,7 @@ pub fn create_site(ground: &Terrain, room: &mut RoomTable, intent: &Intent)
     if !may_be_made(ground, room, intent) {
         return;
     }
-    let _id = room.insert_new(site_of(intent));
+    room.insert_new(site_of(intent));
 }
 
 /// Rules an entry to remove a site: where it is one of the player's it is gone. Else nothing is done.
@@ -37,7 +37,7 @@ pub fn remove_site(room: &mut RoomTable, intent: &Intent)
     ensures keeps { Keeps room.old room.new }
 {
     if may_be_removed(intent.player, standing(room, intent.actor)) {
-        let _site = room.remove(intent.actor);
+        room.remove(intent.actor);
     }
 }
 

@@ -28,7 +28,7 @@ pub fn spawn(room: &mut RoomTable, intent: &Intent)
     ensures keeps { Keeps room.old room.new }
 {
     // The objects rise by their ids, so that those of the room's part are those of its table.
-    let _rising = room.objects();
+    room.stands_in_order();
     if !may_begin(room, intent) {
         return;
     }
@@ -61,7 +61,7 @@ fn pay(room: &mut RoomTable, owner: u32, cost: u32)
     ensures has { HasThoseOf room.old room.new }
 {
     let left = pay_all(room, Kind::Spawn, owner, u64::from(cost));
-    let _left = pay_all(room, Kind::Extension, owner, left);
+    pay_all(room, Kind::Extension, owner, left);
 }
 
 // A player's objects of a kind pay in rising id, as far as they hold it. Answers what is left to pay.
@@ -89,10 +89,9 @@ fn pay_at(room: &mut RoomTable, place: u32, kind: Kind, owner: u32, cost: u64) -
     requires tiles { AllByRecursion IsOnTile room.old.objects }
     ensures paid { IsPaidAt kind owner cost place room.old result room.new }
 {
-    // The objects rise by their ids.
-    let _rising = room.objects();
+    room.stands_in_order();
     let Some(object) = room.nth(place) else {
-        return cost;
+        unreachable!()
     };
     if !is_one(object, kind, owner) {
         return cost;
@@ -123,8 +122,7 @@ fn begin(room: &mut RoomTable, id: u64, body: &Body)
         (get (table_part grounds room.old).objects id) }
     ensures has { HasThoseOf room.old room.new }
 {
-    // The objects rise by their ids.
-    let _rising = room.objects();
+    room.stands_in_order();
     let Some(spawn) = room.get(id) else {
         return;
     };

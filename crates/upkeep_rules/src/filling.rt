@@ -31,7 +31,7 @@ pub(crate) fn fill_spawns(room: &mut RoomTable)
     ensures tiles { AllByRecursion IsOnTile room.new.objects }
 {
     // The objects rise by their ids, as those of the room's part do.
-    let _rising = room.objects();
+    room.stands_in_order();
     let mut known = None;
     let mut place = 0;
     while place < room.len() {
@@ -49,9 +49,9 @@ fn fill_at(room: &mut RoomTable, place: u32, known: Option<Held>) -> Option<Held
     ensures rising { IsRising room.old.objects }
     ensures filled { IsFilled place room.old room.new }
 {
-    let _rising = room.objects();
+    room.stands_in_order();
     let Some(object) = room.nth(place) else {
-        return known;
+        unreachable!()
     };
     if !has_room(object) {
         return known;

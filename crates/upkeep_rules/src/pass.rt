@@ -1,5 +1,5 @@
 // The steps of upkeep in which each object of a room changes by itself, or goes.
-ghost use Rattle.std.specs.Prelude.{◌≡◌, ◌-◌, ◌*◌, ◌∷◌, ◌++◌, List, Some, length};
+ghost use Rattle.std.specs.Prelude.{◌≡◌, ◌<◌, ◌-◌, ◌*◌, ◌∷◌, ◌++◌, IsTrue, List, Some, length};
 ghost use Rattle.std.specs.List.{AllByRecursion, cons_option};
 ghost use Rattle.std.specs.Option.{is_some};
 ghost use Rattle.game_tables.specs.Bodies.{live_count};
@@ -38,7 +38,7 @@ pub(crate) fn pass(room: &mut RoomTable, step: Step)
     ensures tiles { AllByRecursion IsOnTile room.new.objects }
 {
     // The objects rise by their ids, as those of the room's part do.
-    let _rising = room.objects();
+    room.stands_in_order();
     let mut place = 0;
     while place < room.len() {
         if is_left(room, place, step) {
@@ -47,8 +47,10 @@ pub(crate) fn pass(room: &mut RoomTable, step: Step)
     }
 }
 
-// Keeps up the object at a place, and tells whether it is left. One that does not change is not written.
+// Keeps up the object at a place, and tells whether it is left. One that stays as it is is only looked at:
+// what holds a changed object stands apart, since the room of it is cleared at each call.
 fn is_left(room: &mut RoomTable, place: u32, step: Step) -> bool
+    requires inside { place < length room.old.objects }
     requires tiles { AllByRecursion IsOnTile room.old.objects }
     ensures tiles { AllByRecursion IsOnTile room.new.objects }
     ensures left { (before after : List Object) (object : Object)
@@ -61,9 +63,47 @@ fn is_left(room: &mut RoomTable, place: u32, step: Step) -> bool
           tallies = room.new.tallies;
         } }
 {
-    let _rising = room.objects();
     let Some(object) = room.nth(place) else {
-        return false;
+        unreachable!()
+    };
+    if stays(step, object) {
+        return true;
+    }
+    is_left_changed(room, place, step)
+}
+
+// Whether an object is one that a step leaves as it is.
+#[tactic(auto, using(crate::proofs::Lefts::by_kind))]
+fn stays(step: Step, object: &Object) -> bool
+    ensures { IsTrue result → left_by step object.now ≡ Some object.now }
+{
+    match (step, object.kind) {
+        (Step::Recover, Kind::Creep) => object.extra == 0,
+        (Step::Control, Kind::Controller) => false,
+        (Step::Renew(capacity), Kind::Source) => object.timer == 0 && object.energy >= capacity,
+        (Step::Decay, Kind::Pile) => false,
+        _ => true,
+    }
+}
+
+// Keeps up the object at a place, which may change, and tells whether it is left.
+fn is_left_changed(room: &mut RoomTable, place: u32, step: Step) -> bool
+    requires inside { place < length room.old.objects }
+    requires tiles { AllByRecursion IsOnTile room.old.objects }
+    ensures tiles { AllByRecursion IsOnTile room.new.objects }
+    ensures left { (before after : List Object) (object : Object)
+        → room.old.objects ≡ before ++ object ∷ after → length before ≡ place
+        → result ≡ is_some (left_by step object) }
+    ensures table { (before after : List Object) (object : Object)
+        → room.old.objects ≡ before ++ object ∷ after → length before ≡ place
+        → room.new ≡ record room.old {
+          objects = before ++ cons_option (left_by step object) after;
+          tallies = room.new.tallies;
+        } }
+{
+    room.stands_in_order();
+    let Some(object) = room.nth(place) else {
+        unreachable!()
     };
     let id = object.id;
     match keep_up(step, object) {
@@ -73,7 +113,7 @@ fn is_left(room: &mut RoomTable, place: u32, step: Step) -> bool
             true
         }
         Upkept::Goes => {
-            let _gone = room.remove(id);
+            room.remove(id);
             false
         }
     }

@@ -29,8 +29,7 @@ pub fn upkeep_first(room: &mut RoomTable)
     ensures settled { room.new.tallies ≡ no_tallies }
     ensures keeps { KeepsUpTo (may_leave room.old.objects) room.old room.new }
 {
-    // The objects rise by their ids.
-    let _rising = room.objects();
+    room.stands_in_order();
     wear_all(room, Wear::Strike);
     wear_all(room, Wear::Unload);
     wear_all(room, Wear::Age);
@@ -59,7 +58,7 @@ pub fn upkeep_last(room: &mut RoomTable)
     ensures keeps { KeepsUpTo (may_fall room.old.objects) room.old room.new }
 {
     // The objects rise by their ids, so that the controller is that of the room's part.
-    let _rising = room.objects();
+    room.stands_in_order();
     let capacity = source_capacity(is_taken(room.controller()));
     pass(room, Step::Renew(capacity));
     decay_buildings(room);
@@ -74,7 +73,7 @@ fn decay_buildings(room: &mut RoomTable)
     ensures keeps { KeepsUpTo (may_fall room.old.objects) room.old room.new }
 {
     // The objects rise by their ids, so that the controller is that of the room's part.
-    let _rising = room.objects();
+    room.stands_in_order();
     let in_owned = is_owned_room(room.controller());
     wear_all(room, Wear::Weather(in_owned));
 }

@@ -1,8 +1,9 @@
 // The steps of upkeep in which what an object held may fall on its tile.
-ghost use Rattle.std.specs.Prelude.{◌≡◌, ◌<◌, ◌≤◌, ◌+◌, List, length};
+ghost use Rattle.std.specs.Prelude.{◌≡◌, ◌<◌, ◌≤◌, ◌+◌, true, IsTrue, List, Some, length, slice_get};
 ghost use Rattle.std.specs.List.{count_by};
 ghost use Rattle.room_terrain.specs.declared.terrain.Ground.{Ground};
 ghost use Rattle.game_tables.specs.declared.kind.Kind.TheVariants.{Creep};
+ghost use Rattle.object_store.specs.declared.object.Object.{Object};
 ghost use Rattle.object_store.specs.Tables.{IsOnTile, IsRising};
 ghost use Rattle.object_store.specs.Tallies.{no_tally};
 ghost use Rattle.upkeep_rules.specs.declared.wearing.Wear.TheVariants.{Strike, Unload, Age, Weather};
@@ -12,7 +13,7 @@ ghost use Rattle.world_rules.specs.Steps.{over_objects};
 ghost use Rattle.world_rules.specs.Upkeep.{decays, decay_hits, hits_left, weathered};
 ghost use Rattle.room_rules.specs.Calls.{AreSumsOf, IsReady, IsReadyFor, KeepsUpTo};
 ghost use Rattle.upkeep_rules.specs.inner.Worn.{budget, change, concerns, left_of, may_drop, place_behind};
-ghost use Rattle.upkeep_rules.specs.inner.Worn.{sums_of, tasks, worn, HasFallen, IsTurn};
+ghost use Rattle.upkeep_rules.specs.inner.Worn.{stays, sums_of, tasks, worn, HasFallen, IsTurn};
 
 use falling_energy::fall;
 use game_tables::{Kind, full_timer, hits_max, is_building, is_creep};
@@ -43,7 +44,7 @@ pub(crate) fn wear_all(room: &mut RoomTable, step: Wear)
         ≤ room.old.next + budget step 0 room.old }
 {
     // The objects rise by their ids, as those of the room's part do.
-    let _rising = room.objects();
+    room.stands_in_order();
     let mut place = 0;
     while place < room.len() {
         place = wear_at(room, place, step);
@@ -51,20 +52,40 @@ pub(crate) fn wear_all(room: &mut RoomTable, step: Wear)
 }
 
 // The turn of the object at a place; answers the place of the next object that stood before. An object that
-// stays as it is is only looked at.
+// stays as it is is only looked at: what holds a changed object stands apart, since the room of it is cleared
+// at each call.
 fn wear_at(room: &mut RoomTable, place: u32, step: Wear) -> u32
     requires inside { place < length room.old.objects }
     requires ready { IsReadyFor (budget step place room.old) room.old }
     ensures turn { IsTurn step place room.old result room.new }
     ensures fewer { tasks step result room.new < tasks step place room.old }
 {
-    let _rising = room.objects();
+    room.stands_in_order();
     let Some(object) = room.nth(place) else {
-        return place;
+        unreachable!()
     };
     if !concerns(step, object.kind) {
         return place + 1;
     }
+    if rests(step, object, room.nth_tally(place)) {
+        return place + 1;
+    }
+    wear_one(room, place, step)
+}
+
+// The turn of an object that the step concerns.
+fn wear_one(room: &mut RoomTable, place: u32, step: Wear) -> u32
+    requires inside { place < length room.old.objects }
+    requires ready { IsReadyFor (budget step place room.old) room.old }
+    requires concerned { (object : Object) → slice_get room.old.objects place ≡ Some object
+        → concerns step object.kind ≡ true }
+    ensures turn { IsTurn step place room.old result room.new }
+    ensures fewer { tasks step result room.new < tasks step place room.old }
+{
+    room.stands_in_order();
+    let Some(object) = room.nth(place) else {
+        unreachable!()
+    };
     let id = object.id;
     let tally = room.nth_tally(place);
     match worn(step, object, tally) {
@@ -79,7 +100,7 @@ fn wear_at(room: &mut RoomTable, place: u32, step: Wear) -> u32
             place_behind(room, place + 1, id)
         }
         Outcome::Goes(gone) => {
-            let _gone = room.remove(id);
+            room.remove(id);
             fall_all(room, &gone);
             place_behind(room, place, id)
         }
@@ -111,7 +132,7 @@ fn place_behind(room: &RoomTable, place: u32, id: u64) -> u32
     ensures place { result ≡ place_behind id place room.now.objects }
     ensures rising { IsRising room.now.objects }
 {
-    let _rising = room.objects();
+    room.stands_in_order();
     match room.nth(place) {
         Some(object) if object.id <= id => place + 1,
         _ => place,
@@ -139,6 +160,32 @@ fn worn(step: Wear, object: &Object, tally: Tally) -> Outcome
         Wear::Age => age(object),
         Wear::Weather(in_owned) => weather(object, in_owned),
     }
+}
+
+// Whether an object that a step concerns stays as it is.
+fn rests(step: Wear, object: &Object, tally: Tally) -> bool
+    ensures { IsTrue result → stays object.now ≡ worn step tally object.now }
+{
+    match step {
+        Wear::Strike => keeps_hits(object, tally),
+        Wear::Unload => holds_all(object),
+        Wear::Age | Wear::Weather(_) => false,
+    }
+}
+
+// Whether a creep or a building has some hits, and the tick leaves it as many.
+fn keeps_hits(object: &Object, tally: Tally) -> bool
+    ensures { IsTrue result → stays object.now ≡ worn Strike tally object.now }
+{
+    let hits = hits_left(object, tally);
+    hits > 0 && hits == object.hits
+}
+
+// Whether a creep's live parts hold what it carries.
+fn holds_all(creep: &Object) -> bool
+    ensures { IsTrue result → stays creep.now ≡ worn Unload no_tally creep.now }
+{
+    creep.energy == 0 || creep.energy <= u64::from(creep.body.capacity(creep.hits))
 }
 
 // Whether a step concerns objects of a kind.

@@ -9,14 +9,13 @@ use Rattle.room_rules.specs.Calls.{IsHarmedBy}
 use Rattle.room_rules.proofs.Harmed.{harmed_by_blow, harmed_by_two, unharmed, with_tallies}
 use Rattle.room_rules.proofs.Parties.{creep_found, target_found}
 use Rattle.creep_combat.proofs.Found.{strikes_back}
-use Rattle.room_rules.proofs.Harmed.{harmed_between, shown_within}
+use Rattle.room_rules.proofs.Harmed.{harmed_between}
 use Rattle.creep_combat.proofs.attacking.attack.Goals as goal
 
 pub returns-in_default-clause-harm : goal.returns-in_default-clause-harm
 returns-in_default-clause-harm c =
     let table = c.args.room.now in
-    let within = shown_within table c.objects-objects.result c.objects-objects.ensures.all c.objects-objects.ensures.tallies in
-    harmed_between Attack attacked_by c.args.intent.now table table None (λ grounds. sym c.in_default.is ∙ c.parties.ensures grounds) (unharmed table within)
+    harmed_between Attack attacked_by c.args.intent.now table table None (λ grounds. sym c.in_default.is ∙ c.parties.ensures grounds) (unharmed table c.stands_in_order.ensures.tallies)
 
 pub add_damage-requires : goal.add_damage-requires
 add_damage-requires c = record { there = (c.in-Some.target, target_found Attack c.args.intent.now c.args.room.now c.in-Some.creep c.in-Some.target c.in-Some.ensures) }
@@ -32,7 +31,6 @@ returns-then-is_creep-clause-harm c =
     let entry = c.args.intent.now in
     let creep = c.in-Some.creep in
     let target = c.in-Some.target in
-    let within = shown_within table c.objects-objects.result c.objects-objects.ensures.all c.objects-objects.ensures.tallies in
     let hers = sym (has_the_id entry.target table.objects target (target_found Attack entry table creep target c.in-Some.ensures)) in
     let his = sym (has_the_id entry.actor table.objects creep (creep_found Attack entry table creep target c.in-Some.ensures)) in
     let does = c.strength.ensures in
@@ -44,7 +42,7 @@ returns-then-is_creep-clause-harm c =
     ∙ sym (ap (λ (b : Bool). if b then (creep.id, strength target) ∷ [] else []) (sym c.is_creep.ensures ∙ c.if-is_creep.true))
     ∙ sym (strikes_back target.kind creep target) in
     let new : Table = with_tallies (damaged entry.actor m (damaged entry.target n table.tallies)) table in
-    let harmed = subst (λ (harm : Harm). IsHarmedBy harm table new) (λ i. record { damage = (hers i, does i) ∷ back i; healing = [] }) (harmed_by_two table entry.target n entry.actor m within) in
+    let harmed = subst (λ (harm : Harm). IsHarmedBy harm table new) (λ i. record { damage = (hers i, does i) ∷ back i; healing = [] }) (harmed_by_two table entry.target n entry.actor m c.stands_in_order.ensures.tallies) in
     let done = c.add_damage-then-is_creep.ensures ∙ ap (λ (t : Table). with_tallies (damaged entry.actor m t.tallies) t) c.add_damage.ensures in
     harmed_between Attack attacked_by entry table c.add_damage-then-is_creep.new.self (Some (creep, target)) c.in-Some.ensures
     (subst (λ (after : Table). IsHarmedBy (attacked_by creep target) table after) (sym done) harmed)
@@ -55,7 +53,6 @@ returns-else-is_creep-clause-harm c =
     let entry = c.args.intent.now in
     let creep = c.in-Some.creep in
     let target = c.in-Some.target in
-    let within = shown_within table c.objects-objects.result c.objects-objects.ensures.all c.objects-objects.ensures.tallies in
     let hers = sym (has_the_id entry.target table.objects target (target_found Attack entry table creep target c.in-Some.ensures)) in
     let does = c.strength.ensures in
     let n = c.strength.result in
@@ -63,6 +60,6 @@ returns-else-is_creep-clause-harm c =
     sym (ap (λ (b : Bool). if b then (creep.id, strength target) ∷ [] else []) (sym c.is_creep.ensures ∙ c.if-is_creep.false))
     ∙ sym (strikes_back target.kind creep target) in
     let new : Table = with_tallies (damaged entry.target n table.tallies) table in
-    let harmed = subst (λ (harm : Harm). IsHarmedBy harm table new) (λ i. record { damage = (hers i, does i) ∷ back i; healing = [] }) (harmed_by_blow table entry.target n within) in
+    let harmed = subst (λ (harm : Harm). IsHarmedBy harm table new) (λ i. record { damage = (hers i, does i) ∷ back i; healing = [] }) (harmed_by_blow table entry.target n c.stands_in_order.ensures.tallies) in
     harmed_between Attack attacked_by entry table c.add_damage.new.self (Some (creep, target)) c.in-Some.ensures
     (subst (λ (after : Table). IsHarmedBy (attacked_by creep target) table after) (sym c.add_damage.ensures) harmed)

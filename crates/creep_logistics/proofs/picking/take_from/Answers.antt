@@ -15,18 +15,18 @@ set-requires-clause-tile c =
 
 pub returns-then-amount-pile-clause-rule : goal.returns-then-amount-pile-clause-rule
 returns-then-amount-pile-clause-rule c =
-    λ grounds. ap (table_part grounds) c.remove-taken.ensures.table ∙ taken_whole grounds c.args.room.now c.args.pile c.args.amount c.if-amount-pile.true
+    λ grounds. ap (table_part grounds) c.remove.ensures.table ∙ taken_whole grounds c.args.room.now c.args.pile c.args.amount c.if-amount-pile.true
 
 pub returns-then-amount-pile-clause-keeps : goal.returns-then-amount-pile-clause-keeps
 returns-then-amount-pile-clause-keeps c =
     let table = c.args.room.now in
     let left = removed c.args.pile.id table in
     let keeps = keeps_itself left (ready_without table c.args.pile.id c.requires.ready) in
-    subst (Keeps table) (sym c.remove-taken.ensures.table) (record { index = keeps.index; used = keeps.used; later = keeps.later; made = keeps.made; tiles = keeps.tiles })
+    subst (Keeps table) (sym c.remove.ensures.table) (record { index = keeps.index; used = keeps.used; later = keeps.later; made = keeps.made; tiles = keeps.tiles })
 
 pub returns-then-amount-pile-clause-others : goal.returns-then-amount-pile-clause-others
 returns-then-amount-pile-clause-others c = λ id other has.
-    subst (λ (table : Table). HasId id table.objects) (sym c.remove-taken.ensures.table) (still_without id c.args.pile.id c.args.room.now.objects other has)
+    subst (λ (table : Table). HasId id table.objects) (sym c.remove.ensures.table) (still_without id c.args.pile.id c.args.room.now.objects other has)
 
 pub returns-else-amount-pile-clause-rule : goal.returns-else-amount-pile-clause-rule
 returns-else-amount-pile-clause-rule c =
@@ -43,4 +43,4 @@ returns-else-amount-pile-clause-others c = λ id other has.
     subst (λ (table : Table). HasId id table.objects) (sym c.set.ensures) (still_set id (with_less c.args.amount c.args.pile) c.args.room.now.objects has)
 
 pub returns-then-amount-pile-clause-tallies : goal.returns-then-amount-pile-clause-tallies
-returns-then-amount-pile-clause-tallies c = subst (KeepsTallies c.args.room.now) (sym c.remove-taken.ensures.table) (tallies_removed c.args.room.now c.args.pile.id)
+returns-then-amount-pile-clause-tallies c = subst (KeepsTallies c.args.room.now) (sym c.remove.ensures.table) (tallies_removed c.args.room.now c.args.pile.id)

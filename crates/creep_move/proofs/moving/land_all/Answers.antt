@@ -31,7 +31,7 @@ loop-tile-preserved c =
     let tile = s.tile in
     let low : tile < 2500 = omega (arith, c.loop-tile-test.true) in
     let most : tile ≤ 2500 = omega (arith, low) in
-    let rise : IsRising s.room.objects = subst IsRising c.objects-rising.ensures.all c.objects-rising.ensures.rising in
+    let rise : IsRising s.room.objects = c.stands_in_order.ensures.rising in
     let r = c.requires in
     elim c.if-from-lt-TILES.branch [
       | then-from-lt-TILES+then-not-held-from w ↦

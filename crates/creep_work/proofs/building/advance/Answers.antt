@@ -20,14 +20,14 @@ returns-then-site-total_of-clause-keeps c =
     let table = c.args.room.now in
     subst (Keeps table) (sym c.set.ensures) (keeps_ready table (set_in c.args.site table) refl refl refl (ready_set table c.args.site c.requires.tile c.requires.ready))
 
-pub insert_new-id-requires-clause-tile : goal.insert_new-id-requires-clause-tile
-insert_new-id-requires-clause-tile c =
+pub insert_new-requires-clause-tile : goal.insert_new-requires-clause-tile
+insert_new-requires-clause-tile c =
     subst IsOnTile (sym (c.building_on-building.ensures [])) (record { column = c.requires.tile.column; row = c.requires.tile.row })
 
-pub insert_new-id-requires-clause-absent : goal.insert_new-id-requires-clause-absent
-insert_new-id-requires-clause-absent c =
+pub insert_new-requires-clause-absent : goal.insert_new-requires-clause-absent
+insert_new-requires-clause-absent c =
     let ready = ready_without c.args.room.now c.args.site.id c.requires.ready in
-    subst (λ (t : Table). HasNoId (t.index * 2 ^ 32 + t.next) t.objects) (sym c.remove-site.ensures.table) ready.fresh
+    subst (λ (t : Table). HasNoId (t.index * 2 ^ 32 + t.next) t.objects) (sym c.remove.ensures.table) ready.fresh
 
 pub returns-clause-rule : goal.returns-clause-rule
 returns-clause-rule c =
@@ -36,11 +36,11 @@ returns-clause-rule c =
     let serial : table.next < 2 ^ 32 - 1 = c.requires.ready.serial in
     let room : table.next < 2 ^ 32 = omega arith in
     let whole = subst (λ (n : ℕ). n ≤ site.progress) c.total_of.ensures c.if-site-total_of.false in
-    let gone = c.remove-site.ensures.table in
-    let id = c.insert_new-id.ensures.id ∙ ap (λ (t : Table). t.index * 2 ^ 32 + t.next) gone in
+    let gone = c.remove.ensures.table in
+    let id = c.insert_new.ensures.id ∙ ap (λ (t : Table). t.index * 2 ^ 32 + t.next) gone in
     λ grounds.
     let building = c.building_on-building.ensures grounds in
-    ap (table_part grounds) (c.insert_new-id.ensures.table ∙ (λ i. record (gone i) {
+    ap (table_part grounds) (c.insert_new.ensures.table ∙ (λ i. record (gone i) {
       next = (gone i).next + 1;
       objects = with_new (record (building i) { id = id i }) (gone i).objects;
       spare = (gone i).spare - 1;
@@ -51,12 +51,12 @@ pub returns-clause-keeps : goal.returns-clause-keeps
 returns-clause-keeps c =
     let table = c.args.room.now in
     let spare : 1 ≤ table.spare = c.requires.ready.spare in
-    let gone = c.remove-site.ensures.table in
-    let new : Object = record c.building_on-building.result { id = c.insert_new-id.result } in
-    let on : IsOnTile new = subst (λ (o : Object). IsOnTile (record o { id = c.insert_new-id.result })) (sym (c.building_on-building.ensures [])) (record { column = c.requires.tile.column; row = c.requires.tile.row }) in
+    let gone = c.remove.ensures.table in
+    let new : Object = record c.building_on-building.result { id = c.insert_new.result } in
+    let on : IsOnTile new = subst (λ (o : Object). IsOnTile (record o { id = c.insert_new.result })) (sym (c.building_on-building.ensures [])) (record { column = c.requires.tile.column; row = c.requires.tile.row }) in
     let tiles = tiles_filter (λ o. not (o.id == c.args.site.id)) table.objects c.requires.ready.tiles in
     let left : Table = removed c.args.site.id table in
-    subst (Keeps table) (sym (c.insert_new-id.ensures.table ∙ ap (λ (t : Table). record t { next = t.next + 1; objects = with_new new t.objects; spare = t.spare - 1 }) gone)) (record {
+    subst (Keeps table) (sym (c.insert_new.ensures.table ∙ ap (λ (t : Table). record t { next = t.next + 1; objects = with_new new t.objects; spare = t.spare - 1 }) gone)) (record {
       index = refl;
       used = omega arith;
       later = omega arith;
@@ -68,11 +68,11 @@ pub returns-clause-tallies : goal.returns-clause-tallies
 returns-clause-tallies c = λ id has.
     let table = c.args.room.now in
     let site = c.args.site in
-    let new : Object = record c.building_on-building.result { id = c.insert_new-id.result } in
-    let made = c.insert_new-id.ensures.table ∙ ap (λ (t : Table). record t { next = t.next + 1; objects = with_new new t.objects; spare = t.spare - 1 }) c.remove-site.ensures.table in
+    let new : Object = record c.building_on-building.result { id = c.insert_new.result } in
+    let made = c.insert_new.ensures.table ∙ ap (λ (t : Table). record t { next = t.next + 1; objects = with_new new t.objects; spare = t.spare - 1 }) c.remove.ensures.table in
     let fresh = c.requires.ready.fresh in
-    let own : c.insert_new-id.result ≡ table.index * 2 ^ 32 + table.next = c.insert_new-id.ensures.id ∙ ap (λ (t : Table). t.index * 2 ^ 32 + t.next) c.remove-site.ensures.table in
-    let other : c.insert_new-id.result ≡ site.id → ⊥ = λ same. (
+    let own : c.insert_new.result ≡ table.index * 2 ^ 32 + table.next = c.insert_new.ensures.id ∙ ap (λ (t : Table). t.index * 2 ^ 32 + t.next) c.remove.ensures.table in
+    let other : c.insert_new.result ≡ site.id → ⊥ = λ same. (
     let none : ◌≡◌ {A = Option Object} None (Some c.requires.there.0) = sym fresh ∙ ap (λ (n : ℕ). find_object n table.objects) (sym own ∙ same) ∙ c.requires.there.1 in
     absurd cc) in
     ap (λ (t : Table). tally_of id t.tallies) made ∙ tallies_renewed table site.id new other id (subst (λ (t : Table). HasId id t.objects) made has)

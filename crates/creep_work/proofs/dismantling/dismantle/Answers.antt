@@ -12,15 +12,14 @@ use Rattle.world_rules.proofs.TableParts.{part_replaced}
 use Rattle.object_store.specs.Tallies.{damaged, tally_of}
 use Rattle.room_rules.specs.Calls.{IsReady, tally_with}
 use Rattle.room_rules.proofs.Calls.{ready_set, set_in}
-use Rattle.room_rules.proofs.Harmed.{blow_at, harmed_between, shown_within, unharmed, with_tallies}
+use Rattle.room_rules.proofs.Harmed.{blow_at, harmed_between, unharmed, with_tallies}
 use Rattle.room_rules.proofs.Parties.{are_there, ruled_by, target_under}
 use Rattle.creep_work.proofs.dismantling.dismantle.Goals as goal
 
 pub returns-in_default-clause-harm : goal.returns-in_default-clause-harm
 returns-in_default-clause-harm c =
     let table = c.args.room.now in
-    let within = shown_within table c.objects-objects.result c.objects-objects.ensures.all c.objects-objects.ensures.tallies in
-    harmed_between Dismantle torn_by c.args.intent.now table table None (λ grounds. sym c.in_default.is ∙ c.parties.ensures grounds) (unharmed table within)
+    harmed_between Dismantle torn_by c.args.intent.now table table None (λ grounds. sym c.in_default.is ∙ c.parties.ensures grounds) (unharmed table c.stands_in_order.ensures.tallies)
 
 pub add_damage-requires : goal.add_damage-requires
 add_damage-requires c = record { there = (c.in-Some.building, (target_under Dismantle c.args.intent.now c.args.room.now c.in-Some.creep c.in-Some.building c.in-Some.ensures).0) }
@@ -79,7 +78,6 @@ returns-clause-harm c =
     let entry = c.args.intent.now in
     let creep = c.in-Some.creep in
     let building = c.in-Some.building in
-    let within = shown_within table c.objects-objects.result c.objects-objects.ensures.all c.objects-objects.ensures.tallies in
     let named = (target_under Dismantle entry table creep building c.in-Some.ensures).1 in
     let after : Table = with_tallies (damaged entry.target c.tear-tear.result table.tallies) table in
     let more : Object = with_more c.taken-taken.result creep in
@@ -87,5 +85,5 @@ returns-clause-harm c =
     harmed_between Dismantle torn_by entry table c.fall.new.room (Some (creep, building)) c.in-Some.ensures (λ id has.
     c.fall.ensures.tallies id has
     ∙ ap (λ (t : Table). tally_of id t.tallies) last
-    ∙ blow_at table entry.target c.tear-tear.result within id
+    ∙ blow_at table entry.target c.tear-tear.result c.stands_in_order.ensures.tallies id
     ∙ (λ i. tally_with (blow (sym named i) (c.tear-tear.ensures i)) id (tally_of id table.tallies)))

@@ -1,15 +1,13 @@
-use Rattle.std.proofs.Common.{ℕ, ◌-◌, min, Option, sym, ap, subst, ◌∙◌}
+use Rattle.std.proofs.Common.{ℕ, ◌-◌, min, Option, sym, ap, ◌∙◌}
 use Rattle.object_store.specs.declared.object.Object.{Object}
 use Rattle.object_store.specs.Stores.{capacity}
-use Rattle.object_store.specs.Tables.{IsRising}
 use Rattle.world_rules.proofs.TableParts.{part_controller}
 use Rattle.creep_work.proofs.harvesting.taken.Goals as goal
 
 pub returns-clause-part : goal.returns-clause-part
 returns-clause-part c =
     let creep = c.args.creep.now in
-    let rising = subst IsRising c.objects-rising.ensures.all c.objects-rising.ensures.rising in
     λ grounds.
-    let controller = c.controller.ensures ∙ sym (part_controller grounds c.args.room.now rising) in
+    let controller = c.controller.ensures ∙ sym (part_controller grounds c.args.room.now c.stands_in_order.ensures.rising) in
     let most = c.capacity-most.ensures ∙ ap (λ (o : Option Object). capacity o creep) controller in
     c.min.ensures ∙ ap (min c.args.amount) (c.saturating_sub.ensures ∙ ap (λ (n : ℕ). n - creep.energy) most)

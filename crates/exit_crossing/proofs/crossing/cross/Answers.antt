@@ -1,11 +1,10 @@
 use Rattle.std.proofs.Common.{◌+◌, drop, get_or, subst}
-use Rattle.object_store.specs.Stored.{HaveRisingTables}
 use Rattle.exit_crossing.proofs.Underway.{Underway, starts, can_cross, next, ends, left_one, left_none}
 use Rattle.exit_crossing.proofs.Sound.{sound_then}
 use Rattle.exit_crossing.proofs.crossing.cross.Goals as goal
 
 pub loop-crosser-init : goal.loop-crosser-init
-loop-crosser-init c = starts c.args.world.now c.args.list.now c.requires.crossers c.requires.ready (subst HaveRisingTables c.room_list-rooms.ensures.all c.room_list-rooms.ensures.rising)
+loop-crosser-init c = starts c.args.world.now c.args.list.now c.requires.crossers c.requires.ready c.stands_in_order.ensures.tables
 
 pub cross_over-requires : goal.cross_over-requires
 cross_over-requires c =

@@ -37,8 +37,8 @@ put_in-requires-clause-spare c other is =
     let same = same_other rooms c.args.crosser at lands other (sym (ap (λ (rs : List Room). slice_get rs at.room) left) ∙ is) in
     subst (λ (r : Room). 1 ≤ r.table.spare) same (c.requires.spare at lands lands.other lands.entered)
 
-pub returns-in-Some-take_out : goal.returns-in-Some-take_out
-returns-in-Some-take_out c =
+pub returns : goal.returns
+returns c =
     let rooms = c.args.world.now.rooms in
     let at = c.in-Some.at in
     let lands = c.in-Some.ensures.some in

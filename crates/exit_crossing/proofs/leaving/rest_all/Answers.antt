@@ -1,9 +1,9 @@
-use Rattle.std.proofs.Common.{◌∙◌, List, ap, sym, subst, arith}
+use Rattle.std.proofs.Common.{◌∙◌, List, length, ap, sym, subst, arith}
 use Rattle.std.specs.List.{AllByRecursion}
 use Rattle.object_store.specs.declared.object.Object.{Object}
 use Rattle.object_store.specs.Tables.{Table, IsOnTile}
 use Rattle.exit_crossing.specs.inner.Resting.{rested_at, rested_to}
-use Rattle.exit_crossing.proofs.Resting.{none_rested, one_more, all_rested, tiles_rested}
+use Rattle.exit_crossing.proofs.Resting.{count_rested, none_rested, one_more, all_rested, tiles_rested}
 use Rattle.exit_crossing.proofs.leaving.rest_all.Goals as goal
 
 pub loop-place-init : goal.loop-place-init
@@ -11,8 +11,12 @@ loop-place-init c =
     let room = c.args.room.now in
     ap (λ (objects : List Object). record room { objects = objects }) (sym (none_rested room.objects))
 
-pub rest_one-requires : goal.rest_one-requires
-rest_one-requires c =
+pub rest_one-requires-clause-inside : goal.rest_one-requires-clause-inside
+rest_one-requires-clause-inside c =
+    omega (arith, c.loop-place-test.true, c.len-place-end.ensures, ap (λ (table : Table). length table.objects) c.loop-place.invariant, count_rested c.loop-place.place c.args.room.now.objects)
+
+pub rest_one-requires-clause-tiles : goal.rest_one-requires-clause-tiles
+rest_one-requires-clause-tiles c =
     let room = c.args.room.now in
     subst (λ (table : Table). AllByRecursion IsOnTile table.objects) (sym c.loop-place.invariant) (tiles_rested room.objects c.loop-place.place c.requires)
 

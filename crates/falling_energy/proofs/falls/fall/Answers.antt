@@ -47,21 +47,21 @@ returns-in-None-clause-rule c =
     let serial : table.next < 2 ^ 32 - 1 = c.requires.ready.serial in
     let room : table.next < 2 ^ 32 = omega arith in
     let new = c.pile.ensures ∙ ap (pile_of 0 c.args.x c.args.y) (c.heaped-in-None.ensures ∙ ap (min pile_bound) all) in
-    let made = c.insert_new-id.ensures.table ∙ (λ i. record table { next = table.next + 1; objects = with_new (record (new i) { id = c.insert_new-id.ensures.id i }) table.objects; spare = table.spare - 1 }) in
+    let made = c.insert_new.ensures.table ∙ (λ i. record table { next = table.next + 1; objects = with_new (record (new i) { id = c.insert_new.ensures.id i }) table.objects; spare = table.spare - 1 }) in
     λ grounds. ap (table_part grounds) made ∙ fallen_made grounds table c.args.x c.args.y c.args.amount c.pile_on.ensures.rising c.if-amount-eq0.false (table.spare - 1) room (sym c.in-None.ensures.found)
 
 pub returns-in-None-clause-keeps : goal.returns-in-None-clause-keeps
 returns-in-None-clause-keeps c =
     let table = c.args.room.now in
     let spare : 1 ≤ table.spare = c.requires.ready.spare in
-    let on : IsOnTile (record c.pile.result { id = c.insert_new-id.result }) =
-    subst (λ (o : Object). IsOnTile (record o { id = c.insert_new-id.result })) (sym c.pile.ensures) (record { column = c.requires.column; row = c.requires.row }) in
-    subst (Keeps table) (sym c.insert_new-id.ensures.table) (record {
+    let on : IsOnTile (record c.pile.result { id = c.insert_new.result }) =
+    subst (λ (o : Object). IsOnTile (record o { id = c.insert_new.result })) (sym c.pile.ensures) (record { column = c.requires.column; row = c.requires.row }) in
+    subst (Keeps table) (sym c.insert_new.ensures.table) (record {
       index = refl;
       used = omega arith;
       later = omega arith;
       made = omega arith;
-      tiles = tiles_new (record c.pile.result { id = c.insert_new-id.result }) table.objects on c.requires.ready.tiles;
+      tiles = tiles_new (record c.pile.result { id = c.insert_new.result }) table.objects on c.requires.ready.tiles;
     })
 
 pub returns-then-amount-eq0-clause-tallies : goal.returns-then-amount-eq0-clause-tallies
@@ -71,4 +71,4 @@ pub returns-in-Some-clause-tallies : goal.returns-in-Some-clause-tallies
 returns-in-Some-clause-tallies c = λ id there. ap (λ (t : Table). tally_of id t.tallies) c.set.ensures
 
 pub returns-in-None-clause-tallies : goal.returns-in-None-clause-tallies
-returns-in-None-clause-tallies c = λ id there. ap (λ (t : Table). tally_of id t.tallies) c.insert_new-id.ensures.table
+returns-in-None-clause-tallies c = λ id there. ap (λ (t : Table). tally_of id t.tallies) c.insert_new.ensures.table

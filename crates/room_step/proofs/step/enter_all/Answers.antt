@@ -2,7 +2,7 @@ use Rattle.std.proofs.Common.{◌≡◌, ℕ, ◌+◌, ◌-◌, ◌<◌, ◌≤�
 use Rattle.std.proofs.lemmas.List.Elements.{All-from_recursion}
 use Rattle.intent_book.specs.declared.intent.Intent.{Intent}
 use Rattle.kept_entries.specs.declared.entries.Entry.{Entry}
-use Rattle.object_store.specs.Tables.{Table, IsRising}
+use Rattle.object_store.specs.Tables.{Table}
 use Rattle.ruled_tick.specs.inner.Entered.{IsRuled}
 use Rattle.world_rules.specs.RoomParts.{table_part}
 use Rattle.room_step.specs.Stepping.{anybody}
@@ -53,7 +53,7 @@ loop-entry-preserved c =
       harm = told.harm;
       told = told.told;
       keeps = told.keeps;
-      rising = subst IsRising c.objects-rising.ensures.all c.objects-rising.ensures.rising;
+      rising = c.stands_in_order.ensures.rising;
     } in
     let some : 1 ≤ entry.intent.player = subst (λ (e : Entry). 1 ≤ e.intent.player) (sym c.entry-item.is) (All-from_recursion (λ (e : Entry). 1 ≤ e.intent.player) entries c.requires.players i entry inside) in
     let left : length entries - i ≡ (length entries - (i + 1)) + 1 = omega (arith, inside) in

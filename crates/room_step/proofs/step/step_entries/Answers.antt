@@ -13,7 +13,7 @@ use Rattle.room_step.proofs.step.step_entries.Goals as goal
 pub enter_all-gained-requires-clause-start : goal.enter_all-gained-requires-clause-start
 enter_all-gained-requires-clause-start c =
     let old : Table = c.args.table in
-    let rising : IsRising old.objects = subst IsRising c.objects-rising.ensures.all c.objects-rising.ensures.rising in
+    let rising : IsRising old.objects = c.stands_in_order.ensures.rising in
     subst (λ (t : Table). HasCome c.args.ground.now t [] (length c.args.entries.now) t) (sym c.in_ok-widen.ensures)
     (come_first c.args.ground.now old (length c.args.entries.now) c.requires.rules rising c.requires.serials)
 

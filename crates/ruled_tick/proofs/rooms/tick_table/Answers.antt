@@ -1,5 +1,4 @@
 use Rattle.std.proofs.Common.{◌+◌, ◌*◌, length, ap, subst, ◌∙◌}
-use Rattle.object_store.specs.Tables.{IsRising}
 use Rattle.exit_crossing.specs.Crossing.{most_arrivals}
 use Rattle.ruled_tick.specs.inner.Ticked.{HasMemory}
 use Rattle.ruled_tick.proofs.Stepped.{HasMoved, aged_index, aged_rule, ready_first, ready_hatch, ready_last, ticked_table}
@@ -100,4 +99,4 @@ returns c =
     let more = subst (λ n. HasMemory n three four) (ap (λ n. n + most_arrivals) (c.from-most_made.ensures ∙ c.len-3.ensures)) c.in_ok-take_memory-3.ensures in
     ticked_table c.args.moves.now grounds start c.upkeep_last.new.room one two three four has
     rule index tiles more
-    c.upkeep_last.ensures.rule c.upkeep_last.ensures.keeps (subst IsRising c.objects-rising.ensures.all c.objects-rising.ensures.rising)
+    c.upkeep_last.ensures.rule c.upkeep_last.ensures.keeps c.stands_in_order.ensures.rising

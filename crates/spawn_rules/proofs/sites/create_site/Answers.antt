@@ -16,11 +16,11 @@ returns-clause-rule c =
     let plan = plan_of entry (table_part ground table) in
     let holds = sym c.may_be_made.ensures ∙ c.if-not-may_be_made.false in
     let serial : table.next < 2 ^ 32 - 1 = c.requires.ready.serial in
-    let made = c.insert_new-id.ensures.table ∙ (λ i. record table { next = table.next + 1; objects = with_new (record (c.site_of.ensures ground (table_part ground table) i) { id = c.insert_new-id.ensures.id i }) table.objects; spare = table.spare - 1 }) in
+    let made = c.insert_new.ensures.table ∙ (λ i. record table { next = table.next + 1; objects = with_new (record (c.site_of.ensures ground (table_part ground table) i) { id = c.insert_new.ensures.id i }) table.objects; spare = table.spare - 1 }) in
     ap (table_part ground) made ∙ site_added ground table entry holds (omega (arith, serial))
 
-pub insert_new-id-requires-clause-tile : goal.insert_new-id-requires-clause-tile
-insert_new-id-requires-clause-tile c =
+pub insert_new-requires-clause-tile : goal.insert_new-requires-clause-tile
+insert_new-requires-clause-tile c =
     let table = c.args.room.now in
     let ground = c.args.ground.now in
     let holds = sym c.may_be_made.ensures ∙ c.if-not-may_be_made.false in
@@ -32,12 +32,12 @@ returns-clause-keeps c =
     let ground = c.args.ground.now in
     let holds = sym c.may_be_made.ensures ∙ c.if-not-may_be_made.false in
     let spare : 1 ≤ table.spare = c.requires.ready.spare in
-    let on : IsOnTile (record c.site_of.result { id = c.insert_new-id.result }) =
-    subst (λ (o : Object). IsOnTile (record o { id = c.insert_new-id.result })) (sym (c.site_of.ensures ground (table_part ground table))) (site_tile ground table c.args.intent.now holds c.insert_new-id.result) in
-    subst (Keeps table) (sym c.insert_new-id.ensures.table) (record {
+    let on : IsOnTile (record c.site_of.result { id = c.insert_new.result }) =
+    subst (λ (o : Object). IsOnTile (record o { id = c.insert_new.result })) (sym (c.site_of.ensures ground (table_part ground table))) (site_tile ground table c.args.intent.now holds c.insert_new.result) in
+    subst (Keeps table) (sym c.insert_new.ensures.table) (record {
       index = refl;
       used = omega arith;
       later = omega arith;
       made = omega arith;
-      tiles = tiles_new (record c.site_of.result { id = c.insert_new-id.result }) table.objects on c.requires.ready.tiles;
+      tiles = tiles_new (record c.site_of.result { id = c.insert_new.result }) table.objects on c.requires.ready.tiles;
     })

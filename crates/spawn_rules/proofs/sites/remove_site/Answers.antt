@@ -13,7 +13,7 @@ pub returns-then-may_be_removed-clause-rule : goal.returns-then-may_be_removed-c
 returns-then-may_be_removed-clause-rule c = λ grounds.
     let entry = c.args.intent.now in
     let told = ap (λ (actor : Option Placed). all_hold (removal_checks entry.player actor)) (c.standing.ensures.part grounds) in
-    ap (table_part grounds) c.remove-site.ensures.table
+    ap (table_part grounds) c.remove.ensures.table
     ∙ site_gone grounds c.args.room.now entry (sym told ∙ sym c.may_be_removed.ensures ∙ c.if-may_be_removed.true)
 
 pub returns-else-may_be_removed-clause-rule : goal.returns-else-may_be_removed-clause-rule
@@ -27,7 +27,7 @@ returns-then-may_be_removed-clause-keeps c =
     let table = c.args.room.now in
     let id = c.args.intent.now.actor in
     let keeps = keeps_itself (removed id table) (ready_without table id c.requires.ready) in
-    subst (Keeps table) (sym c.remove-site.ensures.table) (record { index = keeps.index; used = keeps.used; later = keeps.later; made = keeps.made; tiles = keeps.tiles })
+    subst (Keeps table) (sym c.remove.ensures.table) (record { index = keeps.index; used = keeps.used; later = keeps.later; made = keeps.made; tiles = keeps.tiles })
 
 pub returns-then-may_be_removed-clause-tallies : goal.returns-then-may_be_removed-clause-tallies
-returns-then-may_be_removed-clause-tallies c = subst (KeepsTallies c.args.room.now) (sym c.remove-site.ensures.table) (tallies_removed c.args.room.now c.args.intent.now.actor)
+returns-then-may_be_removed-clause-tallies c = subst (KeepsTallies c.args.room.now) (sym c.remove.ensures.table) (tallies_removed c.args.room.now c.args.intent.now.actor)

@@ -1,5 +1,5 @@
 use Rattle.std.proofs.Common.{◌≡◌, ◌==◌, ℕ, ◌*◌, None, length, refl, sym, ap, subst, ◌∙◌}
-use Rattle.object_store.specs.Tables.{IsOnTile, IsRising, find_object, with_object}
+use Rattle.object_store.specs.Tables.{IsOnTile, find_object, with_object}
 use Rattle.world_rules.specs.RoomParts.{table_part}
 use Rattle.world_rules.specs.Spawns.{begun_with}
 use Rattle.world_rules.specs.Steps.{by_object}
@@ -43,8 +43,7 @@ returns-clause-has c =
     let table = c.args.room.now in
     let spawn = c.in-Some.spawn.now in
     let found = sym c.in-Some.ensures in
-    let rising = subst IsRising c.objects-rising.ensures.all c.objects-rising.ensures.rising in
     let own = has_the_id c.args.id table.objects spawn found in
     let still = ap (λ (n : ℕ). find_object n table.objects) own ∙ found in
     let on = all_found IsOnTile (λ o. o.id == c.args.id) table.objects spawn c.requires.tiles found in
-    subst (HasThoseOf table) (sym c.set.ensures) (has_set table (record spawn { body = c.args.body.now; timer = 3 * c.len.result }) spawn rising c.requires.tiles (record { column = on.column; row = on.row }) refl refl refl still)
+    subst (HasThoseOf table) (sym c.set.ensures) (has_set table (record spawn { body = c.args.body.now; timer = 3 * c.len.result }) spawn c.stands_in_order.ensures.rising c.requires.tiles (record { column = on.column; row = on.row }) refl refl refl still)

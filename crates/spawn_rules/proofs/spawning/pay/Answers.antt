@@ -7,6 +7,6 @@ use Rattle.spawn_rules.proofs.spawning.pay.Goals as goal
 
 pub returns-clause-rule : goal.returns-clause-rule
 returns-clause-rule c = λ grounds.
-    both_paid c.args.owner c.from.result c.pay_all-left.result c.args.room.now c.pay_all-left.new.room c.pay_all-left-2.new.room Spawn Extension c.pay_all-left.ensures.has c.pay_all-left-2.ensures.has grounds
-    (c.pay_all-left.ensures.rule grounds) (c.pay_all-left.ensures.left grounds) (c.pay_all-left-2.ensures.rule grounds)
+    both_paid c.args.owner c.from.result c.pay_all-left.result c.args.room.now c.pay_all-left.new.room c.pay_all.new.room Spawn Extension c.pay_all-left.ensures.has c.pay_all.ensures.has grounds
+    (c.pay_all-left.ensures.rule grounds) (c.pay_all-left.ensures.left grounds) (c.pay_all.ensures.rule grounds)
     ∙ ap (λ (cost : ℕ). paid (payers c.args.owner c.args.room.now.objects) cost (table_part grounds c.args.room.now)) c.from.ensures

@@ -1,10 +1,9 @@
-use Rattle.std.proofs.Common.{◌<◌, ◌≤◌, length, subst, arith}
-use Rattle.object_store.specs.Tables.{IsRising}
+use Rattle.std.proofs.Common.{◌<◌, ◌≤◌, length, arith}
 use Rattle.upkeep_rules.proofs.Gains.{all_filled, first_filled, next_filled}
 use Rattle.upkeep_rules.proofs.filling.fill_spawns.Goals as goal
 
 pub loop-place-init : goal.loop-place-init
-loop-place-init c = first_filled c.args.room.now (subst IsRising c.objects-rising.ensures.all c.objects-rising.ensures.rising) c.requires.tiles
+loop-place-init c = first_filled c.args.room.now c.stands_in_order.ensures.rising c.requires.tiles
 
 pub loop-place-preserved : goal.loop-place-preserved
 loop-place-preserved c =

@@ -1,5 +1,4 @@
-use Rattle.std.proofs.Common.{◌<◌, ◌≤◌, length, ap, subst, ◌∙◌, arith}
-use Rattle.object_store.specs.Tables.{IsRising}
+use Rattle.std.proofs.Common.{◌<◌, ◌≤◌, length, ap, ◌∙◌, arith}
 use Rattle.world_rules.specs.RoomParts.{table_part}
 use Rattle.upkeep_rules.proofs.Parts.{passed_part}
 use Rattle.upkeep_rules.proofs.Passing.{pass_first, pass_last, pass_less, pass_more}
@@ -30,7 +29,6 @@ loop-place-preserved c =
 
 pub returns-clause-rule : goal.returns-clause-rule
 returns-clause-rule c grounds =
-    let rising = subst IsRising c.objects-rising.ensures.all c.objects-rising.ensures.rising in
     let past : length c.loop-place.room.objects ≤ c.loop-place.place = omega (arith, c.loop-place-test.false, c.len.ensures) in
     ap (table_part grounds) (pass_last c.args.step c.args.room.now c.loop-place.place c.loop-place.room c.loop-place.invariant past)
-    ∙ passed_part c.args.step c.loop-place.room.tallies grounds c.args.room.now rising
+    ∙ passed_part c.args.step c.loop-place.room.tallies grounds c.args.room.now c.stands_in_order.ensures.rising

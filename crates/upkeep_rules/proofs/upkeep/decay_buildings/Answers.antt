@@ -1,6 +1,5 @@
 use Rattle.std.proofs.Common.{sym, ap, subst, ◌∙◌}
 use Rattle.object_store.specs.Controllers.{is_owned_room}
-use Rattle.object_store.specs.Tables.{IsRising}
 use Rattle.world_rules.specs.RoomParts.{table_part}
 use Rattle.world_rules.specs.Steps.{over_objects}
 use Rattle.world_rules.specs.Upkeep.{weathered_as}
@@ -14,8 +13,7 @@ wear_all-requires c = record { ready = subst (λ n. IsReadyFor n c.args.room.now
 
 pub returns-clause-rule : goal.returns-clause-rule
 returns-clause-rule c grounds =
-    let rising = subst IsRising c.objects-rising.ensures.all c.objects-rising.ensures.rising in
-    let owned = c.is_owned_room-in_owned.ensures ∙ ap is_owned_room (c.controller.ensures ∙ sym (part_controller grounds c.args.room.now rising)) in
+    let owned = c.is_owned_room-in_owned.ensures ∙ ap is_owned_room (c.controller.ensures ∙ sym (part_controller grounds c.args.room.now c.stands_in_order.ensures.rising)) in
     c.wear_all.ensures.rule grounds (own_sums c.args.room.now) (own_are c.args.room.now)
     ∙ ap (λ b. over_objects (weathered_as b) (table_part grounds c.args.room.now)) owned
 

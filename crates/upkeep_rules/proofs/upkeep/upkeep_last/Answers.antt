@@ -1,7 +1,7 @@
-use Rattle.std.proofs.Common.{ap, subst, ◌∙◌, arith}
+use Rattle.std.proofs.Common.{ap, ◌∙◌, arith}
 use Rattle.game_tables.specs.Kinds.{source_capacity}
 use Rattle.object_store.specs.Controllers.{is_taken}
-use Rattle.object_store.specs.Tables.{Table, IsRising}
+use Rattle.object_store.specs.Tables.{Table}
 use Rattle.world_rules.specs.Upkeep.{buildings_decayed, decayed}
 use Rattle.upkeep_rules.specs.Falling.{may_fall}
 use Rattle.upkeep_rules.proofs.Renewed.{may_fall_renewed, ready_renewed, renewed_part}
@@ -14,11 +14,10 @@ decay_buildings-requires c = record {
 
 pub returns-clause-rule : goal.returns-clause-rule
 returns-clause-rule c grounds sums =
-    let rising = subst IsRising c.objects-rising.ensures.all c.objects-rising.ensures.rising in
     let capacity = c.source_capacity-capacity.ensures ∙ ap source_capacity (c.is_taken.ensures ∙ ap is_taken c.controller.ensures) in
     c.pass-2.ensures.rule grounds
     ∙ ap decayed (c.decay_buildings.ensures.rule grounds)
-    ∙ ap (λ part. decayed (buildings_decayed part)) (c.pass.ensures.rule grounds ∙ renewed_part c.source_capacity-capacity.result grounds c.args.room.now rising capacity)
+    ∙ ap (λ part. decayed (buildings_decayed part)) (c.pass.ensures.rule grounds ∙ renewed_part c.source_capacity-capacity.result grounds c.args.room.now c.stands_in_order.ensures.rising capacity)
 
 pub returns-clause-keeps : goal.returns-clause-keeps
 returns-clause-keeps c =

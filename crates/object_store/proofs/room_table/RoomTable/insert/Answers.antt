@@ -31,11 +31,11 @@ invariant_of-self c =
     let long : c.len-slot.result ≡ length slots = omega (arith, c.len-slot.ensures, was.slots.ok.0) in
     let slots_room : vec_len was.slots < vec_capacity was.slots = omega (arith, room.slots_room, one, was.slots.ok.0) in
     let order_room : vec_len was.order < vec_capacity was.order = omega (arith, room.order_room, one, was.order.ok.0) in
-    let new_slots : c.push-full.new.self.items ≡ slots ++ object ∷ [] = c.push-full.ensures.items ∙ cond-true _ _ _ (c.push-full.ensures.succeeds slots_room) in
-    let new_order : c.insert-full.new.self.items ≡ insert order place (length slots) = c.insert-full.ensures.items ∙ cond-true _ _ _ (c.insert-full.ensures.succeeds order_room) ∙ ap (insert order place) long in
+    let new_slots : c.push.new.self.items ≡ slots ++ object ∷ [] = c.push.ensures.items ∙ cond-true _ _ _ (c.push.ensures.succeeds slots_room) in
+    let new_order : c.insert.new.self.items ≡ insert order place (length slots) = c.insert.ensures.items ∙ cond-true _ _ _ (c.insert.ensures.succeeds order_room) ∙ ap (insert order place) long in
     let beside = c.self.invariant.2 in
     let tallies_room : vec_len was.tallies < vec_capacity was.tallies = omega (arith, beside.room, beside.long, one, was.tallies.ok.0) in
-    let new_tallies : c.push-full-2.new.self.items ≡ was.tallies.items ++ no_tally ∷ [] = c.push-full-2.ensures.items ∙ cond-true _ _ _ (c.push-full-2.ensures.succeeds tallies_room) in
+    let new_tallies : c.push-2.new.self.items ≡ was.tallies.items ++ no_tally ∷ [] = c.push-2.ensures.items ∙ cond-true _ _ _ (c.push-2.ensures.succeeds tallies_room) in
     let new_tiles : c.add-2.new.self.tiles ≡ tiles ++ tile_of_object object ∷ [] = c.add-2.ensures.tiles ∙ ap (λ t. tiles ++ t ∷ []) c.tile_of.ensures in
     let slots_count = ap length new_slots ∙ length_push slots object in
     let order_count = ap length new_order ∙ length-insert order place (length slots) done.within in
@@ -43,14 +43,14 @@ invariant_of-self c =
       placed_equal new_slots new_order new_tiles done.placed,
       record {
         count = omega (arith, room.count, slots_count, one);
-        slots_room = omega (arith, room.slots_room, slots_count, one, c.push-full.ensures.capacity);
-        order_room = omega (arith, room.order_room, order_count, one, c.insert-full.ensures.capacity);
+        slots_room = omega (arith, room.slots_room, slots_count, one, c.push.ensures.capacity);
+        order_room = omega (arith, room.order_room, order_count, one, c.insert.ensures.capacity);
         tiles_room = omega (arith, room.tiles_room, tiles_count, one, c.add-2.ensures.room);
         heads = λ _. c.add-2.ensures.heads;
       },
       record {
         long = ap length new_tallies ∙ length_push was.tallies.items no_tally ∙ ap (λ n. n + 1) beside.long ∙ sym slots_count;
-        room = omega (arith, beside.room, slots_count, one, c.push-full-2.ensures.capacity);
+        room = omega (arith, beside.room, slots_count, one, c.push-2.ensures.capacity);
         capped = subst (AllByRecursion IsCapped) (sym new_tallies) (capped_push was.tallies.items no_tally beside.capped none_capped);
       },
       subst (Covers c.add.new.self.remainders) (sym (standing_equal new_slots new_order ∙ done.stands)) (covers_insert _ _ object c.add.ensures.added c.add.ensures.kept (standing slots order) c.self.invariant.3 place),
@@ -71,11 +71,11 @@ returns c =
     let long : c.len-slot.result ≡ length slots = omega (arith, c.len-slot.ensures, was.slots.ok.0) in
     let slots_room : vec_len was.slots < vec_capacity was.slots = omega (arith, room.slots_room, one, was.slots.ok.0) in
     let order_room : vec_len was.order < vec_capacity was.order = omega (arith, room.order_room, one, was.order.ok.0) in
-    let new_slots : c.push-full.new.self.items ≡ slots ++ object ∷ [] = c.push-full.ensures.items ∙ cond-true _ _ _ (c.push-full.ensures.succeeds slots_room) in
-    let new_order : c.insert-full.new.self.items ≡ insert order place (length slots) = c.insert-full.ensures.items ∙ cond-true _ _ _ (c.insert-full.ensures.succeeds order_room) ∙ ap (insert order place) long in
+    let new_slots : c.push.new.self.items ≡ slots ++ object ∷ [] = c.push.ensures.items ∙ cond-true _ _ _ (c.push.ensures.succeeds slots_room) in
+    let new_order : c.insert.new.self.items ≡ insert order place (length slots) = c.insert.ensures.items ∙ cond-true _ _ _ (c.insert.ensures.succeeds order_room) ∙ ap (insert order place) long in
     let beside = c.self.invariant.2 in
     let tallies_room : vec_len was.tallies < vec_capacity was.tallies = omega (arith, beside.room, beside.long, one, was.tallies.ok.0) in
-    let new_tallies : c.push-full-2.new.self.items ≡ was.tallies.items ++ no_tally ∷ [] = c.push-full-2.ensures.items ∙ cond-true _ _ _ (c.push-full-2.ensures.succeeds tallies_room) in
+    let new_tallies : c.push-2.new.self.items ≡ was.tallies.items ++ no_tally ∷ [] = c.push-2.ensures.items ∙ cond-true _ _ _ (c.push-2.ensures.succeeds tallies_room) in
     (λ i. record {
       index = was.index;
       next = was.next;
@@ -98,8 +98,8 @@ kept_or_sought-self-inside-requires c =
     let long : c.len-slot.result ≡ length slots = omega (arith, c.len-slot.ensures, was.slots.ok.0) in
     let slots_room : vec_len was.slots < vec_capacity was.slots = omega (arith, room.slots_room, one, was.slots.ok.0) in
     let order_room : vec_len was.order < vec_capacity was.order = omega (arith, room.order_room, one, was.order.ok.0) in
-    let new_slots : c.push-full.new.self.items ≡ slots ++ object ∷ [] = c.push-full.ensures.items ∙ cond-true _ _ _ (c.push-full.ensures.succeeds slots_room) in
-    let new_order : c.insert-full.new.self.items ≡ insert order place (length slots) = c.insert-full.ensures.items ∙ cond-true _ _ _ (c.insert-full.ensures.succeeds order_room) ∙ ap (insert order place) long in record {
+    let new_slots : c.push.new.self.items ≡ slots ++ object ∷ [] = c.push.ensures.items ∙ cond-true _ _ _ (c.push.ensures.succeeds slots_room) in
+    let new_order : c.insert.new.self.items ≡ insert order place (length slots) = c.insert.ensures.items ∙ cond-true _ _ _ (c.insert.ensures.succeeds order_room) ∙ ap (insert order place) long in record {
       known = known_equal (c.deref-3.ensures.value ∙ new_slots) (c.deref-4.ensures.value ∙ new_order) done.placed.known;
       kept = λ stays. kept_equal (c.deref-3.ensures.value ∙ new_slots) (c.deref-4.ensures.value ∙ new_order) (kept_insert slots order was.tiles.tiles place object was.controller c.self.invariant.0 done.within c.self.invariant.4 (sym c.is_controller-stays.ensures ∙ not-true c.is_controller-stays.result stays));
     }

@@ -26,11 +26,11 @@ invariant_of-self c =
     let new_heads = with_items_is was.heads c.put_head-older.new.heads (ap length put ∙ length-set heads tile (length tiles + 1) ∙ sym was.heads.ok.0) ∙ put in
     let links_room : vec_len was.links < vec_capacity was.links = omega (arith, same_room, c.requires.room, was.links.ok.0, count) in
     let tiles_room : vec_len was.tiles < vec_capacity was.tiles = omega (arith, same_room, c.requires.room, was.tiles.ok.0, count) in
-    let new_links : c.push-full.new.self.items ≡ links ++ get_or heads tile 0 ∷ [] =
-    c.push-full.ensures.items ∙ cond-true _ _ _ (c.push-full.ensures.succeeds links_room) ∙ ap (λ n. links ++ n ∷ []) (c.put_head-older.ensures.was ∙ ap (λ xs. get_or xs tile 0) base) in
-    let new_tiles : c.push-full-2.new.self.items ≡ tiles ++ tile ∷ [] =
-    c.push-full-2.ensures.items ∙ cond-true _ _ _ (c.push-full-2.ensures.succeeds tiles_room) in
-    subst (λ hs. IsChained hs c.push-full.new.self.items c.push-full-2.new.self.items) (sym new_heads)
-    (subst (λ ls. IsChained (set heads tile (length tiles + 1)) ls c.push-full-2.new.self.items) (sym new_links)
+    let new_links : c.push.new.self.items ≡ links ++ get_or heads tile 0 ∷ [] =
+    c.push.ensures.items ∙ cond-true _ _ _ (c.push.ensures.succeeds links_room) ∙ ap (λ n. links ++ n ∷ []) (c.put_head-older.ensures.was ∙ ap (λ xs. get_or xs tile 0) base) in
+    let new_tiles : c.push-2.new.self.items ≡ tiles ++ tile ∷ [] =
+    c.push-2.ensures.items ∙ cond-true _ _ _ (c.push-2.ensures.succeeds tiles_room) in
+    subst (λ hs. IsChained hs c.push.new.self.items c.push-2.new.self.items) (sym new_heads)
+    (subst (λ ls. IsChained (set heads tile (length tiles + 1)) ls c.push-2.new.self.items) (sym new_links)
     (subst (λ ts. IsChained (set heads tile (length tiles + 1)) (links ++ get_or heads tile 0 ∷ []) ts) (sym new_tiles)
     (chained_more heads links tiles tile c.self.invariant wide (omega (arith, c.requires.count, count)))))

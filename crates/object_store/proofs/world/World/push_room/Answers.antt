@@ -29,13 +29,13 @@ invariant_of-self-2 c =
     let point = subst (λ n. IsPartitionPoint (λ k. sort_number names k < name_number name * 2 ^ 32 + n) (λ k. name_number name * 2 ^ 32 + n ≤ sort_number names k) order place) long same_number in
     let reserved : c.reserve.new.self.items ≡ order = c.reserve.ensures.items in
     let room_for_one : vec_len c.reserve.new.self < vec_capacity c.reserve.new.self = omega (arith, c.in_ok-reserve.ensures.ok) in
-    let new_order : c.insert-full.new.self.items ≡ insert order place (length names) = c.insert-full.ensures.items ∙ cond-true _ _ _ (c.insert-full.ensures.succeeds room_for_one) ∙ ap (λ (os : List ℕ). insert os place c.len-index.result) reserved ∙ ap (insert order place) long in
+    let new_order : c.insert.new.self.items ≡ insert order place (length names) = c.insert.ensures.items ∙ cond-true _ _ _ (c.insert.ensures.succeeds room_for_one) ∙ ap (λ (os : List ℕ). insert os place c.len-index.result) reserved ∙ ap (insert order place) long in
     let new_rooms : c.push.new.self.items ≡ rooms ++ room ∷ [] = c.in_ok-push.ensures.items in
     let new_names : room_names c.push.new.self.items ≡ names ++ name ∷ [] = ap room_names new_rooms ∙ map_push (λ (r : Room). r.name) rooms room in
     let more = ap length (ap (λ (w : Stored). w.rooms) c.self.view_is) in
     let sorted = by_name_more names order place name small c.self.invariant.1 within point in (
       omega (arith, ap length new_rooms, length_push rooms room, more, c.requires.room),
-      subst (λ ns. AreByName ns c.insert-full.new.self.items) (sym new_names) (subst (λ os. AreByName (names ++ name ∷ []) os) (sym new_order) sorted),
+      subst (λ ns. AreByName ns c.insert.new.self.items) (sym new_names) (subst (λ os. AreByName (names ++ name ∷ []) os) (sym new_order) sorted),
       c.self.invariant.2,
       c.self.invariant.3,
     )
