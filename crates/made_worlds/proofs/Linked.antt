@@ -5,20 +5,20 @@ use Rattle.std.specs.List.{list_any}
 use Rattle.std.proofs.lemmas.Bool.{eq-eqb, false≢true}
 use Rattle.std.proofs.lemmas.List.Elements.{All-from_recursion}
 use Rattle.std.proofs.lemmas.Option.{same_Some}
-use Rattle.wasm_module.specs.Entries.{Function}
-use Rattle.wasm_module.specs.Syntax.{Ops}
-use Rattle.wasm_module.specs.View.{ops_of}
+use Rattle.wasm_module.specs.sections.Entries.{Function}
+use Rattle.wasm_module.specs.values.Syntax.{Ops}
+use Rattle.wasm_module.specs.values.View.{ops_of}
 use Rattle.wasm_module.specs.declared.host_sig.HostSig.{HostSig}
-use Rattle.wasm_module.specs.declared.imports.Import.{Import}
-use Rattle.wasm_module.specs.declared.imports.ImportDesc.TheVariants as import
-use Rattle.wasm_module.specs.declared.exports.ExportDesc.TheVariants as export
-use Rattle.wasm_module.specs.declared.types.FuncType.{FuncType}
-use Rattle.wasm_module.specs.declared.types.ValType.TheVariants.{I32, I64}
-use Rattle.wasm_validate.specs.Context.{locals_of}
+use Rattle.wasm_module.specs.declared.sections.imports.Import.{Import}
+use Rattle.wasm_module.specs.declared.sections.imports.ImportDesc.TheVariants as import
+use Rattle.wasm_module.specs.declared.sections.exports.ExportDesc.TheVariants as export
+use Rattle.wasm_module.specs.declared.values.types.FuncType.{FuncType}
+use Rattle.wasm_module.specs.declared.values.types.ValType.TheVariants.{I32, I64}
+use Rattle.wasm_validate.specs.typing.Context.{locals_of}
 use Rattle.wasm_steps.specs.Program.{Program, defined, imported}
 use Rattle.wasm_link.specs.Linking.{HasLoop, IsLinked, IsOfKind, IsProgram, Names}
 use Rattle.wasm_link.proofs.Names.{one_number}
-use Rattle.host_calls.specs.Calls.{AreSignatures, all_calls, row}
+use Rattle.host_calls.specs.Calls.{AreSignatures, all_calls, host_module, row}
 use Rattle.host_calls.specs.declared.call.Call.{Call}
 use Rattle.host_calls.specs.declared.call.Call.TheVariants as call
 use Rattle.rule_check.proofs.Found.{mapped_at, mapped_back}
@@ -28,6 +28,7 @@ use Rattle.world_gen.specs.PlayerModule.{host_calls, host_types, imported as imp
 
 abbrev pub signature : Call → HostSig
 signature of = record {
+  «module» = record { ref_ptr = (0, 0); now = host_module };
   name = record { ref_ptr = (0, 0); now = (row of).name };
   params = record { ref_ptr = (0, 0); now = (row of).params };
   result = Some (row of).result;
@@ -38,7 +39,7 @@ signatures = map signature all_calls
 
 all_signatures : (calls : List Call) → AreSignatures (map signature calls) calls
 all_signatures [] = tt
-all_signatures (of ∷ calls) = (record { name = refl; params = refl; result_is = refl }, all_signatures calls)
+all_signatures (of ∷ calls) = (record { host = refl; name = refl; params = refl; result_is = refl }, all_signatures calls)
 
 pub are_signatures : AreSignatures signatures all_calls
 are_signatures = all_signatures all_calls
@@ -74,7 +75,7 @@ named name kind number of there same none = record {
   stands = mapped_at signature all_calls number of there;
   host = refl;
   name = same;
-  first = λ earlier other less at equal.
+  first = λ earlier other less at host equal.
       let back = mapped_back signature all_calls earlier other at in
       let letters : front (row back.0).name ≡ front name =
       ap (λ (sig : HostSig). front sig.name.now) back.2 ∙ ap front (sym equal) in

@@ -1,42 +1,43 @@
 -- The code of the players' module has the types of a function that takes and gives nothing.
 use Rattle.std.proofs.Common.{◌≡◌, ℕ, ◌<◌, ℤ, negsuc, List, [], ◌∷◌, ◌++◌, Option, Some, None, refl, lit<}
 use Rattle.std.specs.Prelude.{slice_get}
-use Rattle.wasm_module.specs.Syntax.{Op, Ops, next, call, drop_value, local_get, local_set, i32_const, i64_const, numeric}
-use Rattle.wasm_module.specs.View.{ops_of}
-use Rattle.wasm_module.specs.declared.types.ValType.{ValType}
-use Rattle.wasm_module.specs.declared.types.ValType.TheVariants.{I32, I64}
-use Rattle.wasm_validate.specs.Context.{Context}
-use Rattle.wasm_validate.specs.Operations.{binary, signature_of, unary}
-use Rattle.wasm_validate.specs.Typing.{HasType, Typed, br_typed, call_typed, drop_typed, i32_const_typed, i64_const_typed, if_typed, local_get_typed, local_set_typed, loop_typed, next_typed, none_typed, numeric_typed}
+use Rattle.wasm_module.specs.values.Syntax.{Op, Ops, next, call, drop_value, local_get, local_set, i32_const, i64_const, numeric}
+use Rattle.wasm_module.specs.values.View.{ops_of}
+use Rattle.wasm_module.specs.declared.values.types.ValType.{ValType}
+use Rattle.wasm_module.specs.declared.values.types.ValType.TheVariants.{I32, I64}
+use Rattle.wasm_validate.specs.typing.Context.{Context}
+use Rattle.wasm_module.specs.values.Opcodes.{meaning, meaning_in, opcodes}
+use Rattle.wasm_validate.specs.typing.Operations.{of_one, of_two, signature_of}
+use Rattle.wasm_validate.specs.typing.Typing.{HasType, Typed, br_typed, call_typed, drop_typed, i32_const_typed, i64_const_typed, if_typed, local_get_typed, local_set_typed, loop_typed, next_typed, none_typed, numeric_typed}
 use Rattle.world_gen.specs.PlayerModule.{again, both_fields, both_ids, delivers, direction, drops, either, field, harvests, has_room, in_room, is_seen, look, of_kind, on_code, own, own_creep, seek, sign, source_sought, spawn_sought, steps, takes, to_next, turn, turns, visit, when}
 
 -- ---- operations on numbers
 
-to_i32 : (signature_of 0x45 ≡ unary I32 I32) × (signature_of 0xa7 ≡ unary I64 I32)
-unfolding signature_of
+to_i32 : (signature_of 0x45 ≡ Some (of_one I32 I32)) × (signature_of 0xa7 ≡ Some (of_one I64 I32))
+unfolding signature_of meaning meaning_in opcodes
 to_i32 = (refl, refl)
 
-to_i64 : signature_of 0xad ≡ unary I32 I64
-unfolding signature_of
+to_i64 : signature_of 0xad ≡ Some (of_one I32 I64)
+unfolding signature_of meaning meaning_in opcodes
 to_i64 = refl
 
-both_i64 : signature_of 0x88 ≡ binary I64 I64
-unfolding signature_of
+both_i64 : signature_of 0x88 ≡ Some (of_two I64 I64)
+unfolding signature_of meaning meaning_in opcodes
 both_i64 = refl
 
 pub record AreBinary : Type 0 where
-  pub eq : signature_of 0x46 ≡ binary I32 I32
-  pub less : signature_of 0x49 ≡ binary I32 I32
-  pub add : signature_of 0x6a ≡ binary I32 I32
-  pub sub : signature_of 0x6b ≡ binary I32 I32
-  pub mul : signature_of 0x6c ≡ binary I32 I32
-  pub and : signature_of 0x71 ≡ binary I32 I32
-  pub same : signature_of 0x51 ≡ binary I64 I32
-  pub below : signature_of 0x53 ≡ binary I64 I32
-  pub above : signature_of 0x55 ≡ binary I64 I32
+  pub eq : signature_of 0x46 ≡ Some (of_two I32 I32)
+  pub less : signature_of 0x49 ≡ Some (of_two I32 I32)
+  pub add : signature_of 0x6a ≡ Some (of_two I32 I32)
+  pub sub : signature_of 0x6b ≡ Some (of_two I32 I32)
+  pub mul : signature_of 0x6c ≡ Some (of_two I32 I32)
+  pub and : signature_of 0x71 ≡ Some (of_two I32 I32)
+  pub same : signature_of 0x51 ≡ Some (of_two I64 I32)
+  pub below : signature_of 0x53 ≡ Some (of_two I64 I32)
+  pub above : signature_of 0x55 ≡ Some (of_two I64 I32)
 
 are_binary : AreBinary
-unfolding signature_of
+unfolding signature_of meaning meaning_in opcodes
 are_binary =
     record { eq = refl; less = refl; add = refl; sub = refl; mul = refl; and = refl; same = refl; below = refl; above = refl }
 
@@ -86,16 +87,16 @@ module _ (cx : Context) (is : IsPlayerContext cx) where
   with_i64 {below = below} q = next_typed below i64_const_typed q
 
   computed : {labels : Labels} {rest : Ops} {below to : List ValType} (op : ℕ) (from result : ValType)
-      → signature_of op ≡ binary from result → Typed cx labels rest (result ∷ below) to
+      → signature_of op ≡ Some (of_two from result) → Typed cx labels rest (result ∷ below) to
       → Typed cx labels (next (numeric op) rest) (from ∷ from ∷ below) to
   computed {below = below} op from result known q =
-      next_typed below (numeric_typed (record { operands = from ∷ from ∷ []; result = result }) known) q
+      next_typed below (numeric_typed (of_two from result) known) q
 
   turned : {labels : Labels} {rest : Ops} {below to : List ValType} (op : ℕ) (from result : ValType)
-      → signature_of op ≡ unary from result → Typed cx labels rest (result ∷ below) to
+      → signature_of op ≡ Some (of_one from result) → Typed cx labels rest (result ∷ below) to
       → Typed cx labels (next (numeric op) rest) (from ∷ below) to
   turned {below = below} op from result known q =
-      next_typed below (numeric_typed (record { operands = from ∷ []; result = result }) known) q
+      next_typed below (numeric_typed (of_one from result) known) q
 
   counted : {labels : Labels} {rest : Ops} {below to : List ValType}
       → Typed cx labels rest (I32 ∷ below) to → Typed cx labels (next (call 0) rest) below to

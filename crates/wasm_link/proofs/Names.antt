@@ -1,42 +1,29 @@
 -- The calls that imports name, and their types.
-use Rattle.std.proofs.Common.{◌≡◌, ℕ, ◌+◌, ◌<◌, ◌≤◌, ◌⊎◌, inl, inr, List, [], ◌∷◌, ◌++◌, length, get_or, take, map, option_to_list, max, Bool, true, false, refl, ap, sym, ◌∙◌, subst, arith, codes, Option, Some, None, slice_get, All}
+use Rattle.std.proofs.Common.{◌≡◌, ℕ, ◌+◌, ◌<◌, ◌≤◌, ◌⊎◌, inl, inr, List, [], ◌∷◌, ◌++◌, length, get_or, take, map, option_to_list, max, Bool, true, false, refl, ap, sym, ◌∙◌, subst, arith, Some, slice_get, All}
 use Rattle.std.proofs.lemmas.Option.{slice_get_within, slice_get-get_or, get_or_from_slice_get}
 use Rattle.std.specs.List.{filter_map}
-use Rattle.std.specs.Option.{MatchOption}
 use Rattle.std.proofs.lemmas.List.{map_push}
-use Rattle.wasm_validate.specs.Context.{imported_func}
+use Rattle.wasm_validate.specs.typing.Context.{imported_func}
 use Rattle.wasm_validate.proofs.Imported.{filtered_more}
 use Rattle.std.proofs.lemmas.Slice.Eq.{bytes_eq-Decides}
 use Rattle.std.specs.Str.{bytes_eq}
 use Rattle.wasm_module.specs.declared.host_sig.HostSig.{HostSig}
-use Rattle.wasm_module.specs.declared.imports.Import.{Import}
-use Rattle.wasm_module.specs.declared.imports.ImportDesc.TheVariants as import
-use Rattle.wasm_module.specs.declared.types.FuncType.{FuncType}
+use Rattle.wasm_module.specs.declared.sections.imports.Import.{Import}
+use Rattle.wasm_module.specs.declared.sections.imports.ImportDesc.TheVariants as import
+use Rattle.wasm_module.specs.declared.values.types.FuncType.{FuncType}
 use Rattle.wasm_link.specs.declared.entries.Entry.{Entry}
 use Rattle.wasm_link.specs.declared.entries.Entry.TheVariants as code
+use Rattle.wasm_validate.specs.inner.Stands.{Exactly}
 use Rattle.wasm_link.specs.Linking.{Names, IsKnown, IsOfKind, FirstNot}
-use Rattle.wasm_link.specs.Made.{HasName, IsFirstOf, IsNamed, IsNamedAt, AreNamed, HasKind, EachAt, IsImportedAt, IsNumberOf, kind_of}
+use Rattle.wasm_link.specs.Made.{HasNames, IsNamed, IsNamedAt, AreNamed, HasKind, EachAt, IsImportedAt, IsNumberOf, kind_of}
 use Rattle.wasm_link.proofs.Each.{same_found, before_or, below_or, found, all_from, each_push}
-
-pub named_from : (sigs : List HostSig) (entry : Import) (number : ℕ) → entry.module ≡ codes "screeps" → IsFirstOf sigs entry.name number → IsNamed sigs entry number
-named_from sigs entry number host h = (h.0, record { stands = h.1; host = host; name = h.2; first = h.3 })
-
-pub unnamed : (sigs : List HostSig) (entry : Import) → (HasName sigs entry.name → ⊥) → IsKnown sigs entry → ⊥
-unnamed sigs entry none k = none (k.0, k.1, k.2.stands, k.2.name)
-
-pub not_host : (sigs : List HostSig) (entry : Import) → (entry.module ≡ codes "screeps" → ⊥) → IsKnown sigs entry → ⊥
-not_host sigs entry other k = other k.2.host
-
-pub call_named : (sigs : List HostSig) (entry : Import) (name : List ℕ) (r : Option ℕ) → entry.module ≡ codes "screeps" → name ≡ entry.name → MatchOption r (HasName sigs name → ⊥) (IsFirstOf sigs name) → MatchOption r (IsKnown sigs entry → ⊥) (IsNamed sigs entry)
-call_named sigs entry name None host is h = unnamed sigs entry (subst (λ (z : List ℕ). HasName sigs z → ⊥) is h)
-call_named sigs entry name (Some number) host is h = named_from sigs entry number host (subst (λ (z : List ℕ). IsFirstOf sigs z number) is h)
 
 -- an import names one call
 pub one_number : {sigs : List HostSig} {entry : Import} (a b : ℕ) (one other : HostSig) → Names sigs entry a one → Names sigs entry b other → a ≡ b
 one_number a b one other n k = elim (before_or a b) [
-  | inl less ↦ absurd (k.first a one less n.stands n.name)
+  | inl less ↦ absurd (k.first a one less n.stands n.host n.name)
   | inr more ↦ elim (before_or b a) [
-    | inl less ↦ absurd (n.first b other less k.stands k.name)
+    | inl less ↦ absurd (n.first b other less k.stands k.host k.name)
     | inr least ↦ omega (arith, more, least)
   ]
 ]
@@ -104,21 +91,34 @@ all_of_kind sigs types imports functions count imported = all_from (IsOfKind sig
 
 -- ---- one step of a search among the calls
 
-module _ (sigs : List HostSig) (at : ℕ) (name text : List ℕ) (d : HostSig) (below : at < length sigs) (is : text ≡ (get_or sigs at d).name.now)
-    (before : (earlier : ℕ) (other : HostSig) → earlier < at → slice_get sigs earlier ≡ Some other → name ≡ other.name.now → ⊥) where
-  pub first_here : (r : Bool) → r ≡ bytes_eq text name → r ≡ true → IsFirstOf sigs name at
-  first_here r e t = (get_or sigs at d, slice_get-get_or sigs at d below, sym ((bytes_eq-Decides text name).0 (sym e ∙ t)) ∙ is, before)
+pub text_is : (text seen bytes : List ℕ) (b : Bool) → seen ≡ text → b ≡ bytes_eq seen bytes → Exactly (bytes ≡ text) b
+text_is text seen bytes true is e = sym ((bytes_eq-Decides seen bytes).0 (sym e)) ∙ is
+text_is text seen bytes false is e = λ same. let t = (bytes_eq-Decides seen bytes).1 (is ∙ sym same) in absurd cc
 
-  none_at : (r : Bool) → r ≡ bytes_eq text name → r ≡ false → (earlier : ℕ) (other : HostSig) → (earlier < at) ⊎ (earlier ≡ at) → slice_get sigs earlier ≡ Some other → name ≡ other.name.now → ⊥
-  none_at r e f earlier other (inl less) g same = before earlier other less g same
-  none_at r e f earlier other (inr there) g same =
-      let one : get_or sigs at d ≡ other = same_found (slice_get sigs at) (slice_get-get_or sigs at d below) (subst (λ (z : ℕ). slice_get sigs z ≡ Some other) there g) in
-      let equal : text ≡ name = is ∙ ap (λ (z : HostSig). z.name.now) one ∙ sym same in
-      let t : bytes_eq text name ≡ true = (bytes_eq-Decides text name).1 equal in
-      absurd cc
+pub exactly_true : {P : Type 0} (b : Bool) → Exactly P b → b ≡ true → P
+exactly_true true h e = h
+exactly_true false h e = absurd cc
 
-  pub none_more : (r : Bool) → r ≡ bytes_eq text name → r ≡ false → (earlier : ℕ) (other : HostSig) → earlier < at + 1 → slice_get sigs earlier ≡ Some other → name ≡ other.name.now → ⊥
-  none_more r e f earlier other less = none_at r e f earlier other (below_or earlier at less)
+pub exactly_false : {P : Type 0} (b : Bool) → Exactly P b → b ≡ false → P → ⊥
+exactly_false false h e = h
+exactly_false true h e = absurd cc
+
+module _ (sigs : List HostSig) (entry : Import) (at : ℕ) (sig : HostSig) (is : slice_get sigs at ≡ Some sig)
+    (before : (earlier : ℕ) (other : HostSig) → earlier < at → slice_get sigs earlier ≡ Some other → HasNames other entry → ⊥) where
+  pub found_here : HasNames sig entry → IsNamed sigs entry at
+  found_here h = (sig, record { stands = is; host = h.0; name = h.1; first = λ earlier other less e host name. before earlier other less e (host, name) })
+
+  none_at : (HasNames sig entry → ⊥) → (earlier : ℕ) (other : HostSig) → (earlier < at) ⊎ (earlier ≡ at) → slice_get sigs earlier ≡ Some other → HasNames other entry → ⊥
+  none_at never earlier other (inl less) e h = before earlier other less e h
+  none_at never earlier other (inr there) e h =
+      let one : other ≡ sig = same_found (slice_get sigs at) (subst (λ (z : ℕ). slice_get sigs z ≡ Some other) there e) is in
+      never (subst (λ (z : HostSig). HasNames z entry) one h)
+
+  pub none_more : (HasNames sig entry → ⊥) → (earlier : ℕ) (other : HostSig) → earlier < at + 1 → slice_get sigs earlier ≡ Some other → HasNames other entry → ⊥
+  none_more never earlier other less = none_at never earlier other (below_or earlier at less)
+
+pub unknown : (sigs : List HostSig) (entry : Import) → ((number : ℕ) (sig : HostSig) → slice_get sigs number ≡ Some sig → HasNames sig entry → ⊥) → IsKnown sigs entry → ⊥
+unknown sigs entry none k = none k.0 k.1 k.2.stands (k.2.host, k.2.name)
 
 -- ---- the most parameters so far
 

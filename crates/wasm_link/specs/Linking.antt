@@ -4,18 +4,18 @@ use Rattle.std.specs.Prelude.{◌≡◌, ℕ, ◌+◌, ◌<◌, ◌≤◌, List,
 use Rattle.std.specs.Prelude.{Option, Some, None, slice_get, take, drop, All}
 use Rattle.std.specs.Option.{unwrap_or}
 use Rattle.std.specs.Int.{w32, w64, cast_unsigned}
-use Rattle.wasm_module.specs.Syntax.{Ops, no_ops, next, i32_const, i64_const}
-use Rattle.wasm_module.specs.Entries.{Elements, Data, Function}
-use Rattle.wasm_module.specs.Sections.{Syntax}
-use Rattle.wasm_module.specs.declared.types.FuncType.{FuncType}
-use Rattle.wasm_module.specs.declared.types.Bounds.{Bounds}
-use Rattle.wasm_module.specs.declared.imports.Import.{Import}
-use Rattle.wasm_module.specs.declared.imports.ImportDesc.TheVariants as import
-use Rattle.wasm_module.specs.declared.exports.Export.{Export}
-use Rattle.wasm_module.specs.declared.exports.ExportDesc.TheVariants as export
+use Rattle.wasm_module.specs.values.Syntax.{Ops, no_ops, next, i32_const, i64_const}
+use Rattle.wasm_module.specs.sections.Entries.{Elements, Data, Function}
+use Rattle.wasm_module.specs.sections.Sections.{Syntax}
+use Rattle.wasm_module.specs.declared.values.types.FuncType.{FuncType}
+use Rattle.wasm_module.specs.declared.values.types.Bounds.{Bounds}
+use Rattle.wasm_module.specs.declared.sections.imports.Import.{Import}
+use Rattle.wasm_module.specs.declared.sections.imports.ImportDesc.TheVariants as import
+use Rattle.wasm_module.specs.declared.sections.exports.Export.{Export}
+use Rattle.wasm_module.specs.declared.sections.exports.ExportDesc.TheVariants as export
 use Rattle.wasm_store.specs.Memory.{Memory, fresh, written, most_pages}
-use Rattle.wasm_validate.specs.Context.{module_context, locals_of}
-use Rattle.wasm_validate.specs.Typing.{HasType}
+use Rattle.wasm_validate.specs.typing.Context.{module_context, locals_of}
+use Rattle.wasm_validate.specs.typing.Typing.{HasType}
 use Rattle.wasm_steps.specs.Program.{imported, defined, Program, Store}
 use Rattle.wasm_module.specs.declared.host_sig.HostSig.{HostSig}
 use Rattle.wasm_link.specs.declared.fault.LinkFault.{LinkFault}
@@ -26,10 +26,10 @@ use Rattle.wasm_link.specs.declared.fault.LinkFault.TheVariants as fault
 -- The import names the call of this number.
 pub record Names (sigs : List HostSig) (entry : Import) (number : ℕ) (sig : HostSig) : Type 0 where
   pub stands : slice_get sigs number ≡ Some sig
-  pub host : entry.module ≡ codes "screeps"
+  pub host : entry.module ≡ sig.module.now
   pub name : entry.name ≡ sig.name.now
   pub first : (earlier : ℕ) (other : HostSig) → earlier < number → slice_get sigs earlier ≡ Some other
-      → entry.name ≡ other.name.now → ⊥
+      → entry.module ≡ other.module.now → entry.name ≡ other.name.now → ⊥
 
 abbrev pub IsKnown : List HostSig → Import → Type 0
 IsKnown sigs entry = (number : ℕ) × (sig : HostSig) × Names sigs entry number sig

@@ -2,23 +2,24 @@
 use Rattle.std.specs.Prelude.{◌≡◌, ◌⊎◌, ℕ, ◌+◌, ◌<◌, ◌≤◌, ◌^◌, List, [], ◌∷◌, length, map, codes, Option}
 use Rattle.std.specs.Prelude.{Some, None, slice_get, All}
 use Rattle.std.specs.Option.{unwrap_or}
-use Rattle.wasm_module.specs.Syntax.{Ops, no_ops}
-use Rattle.wasm_module.specs.View.{instrs_view}
-use Rattle.wasm_module.specs.Entries.{Function}
-use Rattle.wasm_module.specs.Sections.{Syntax}
-use Rattle.wasm_module.specs.declared.elements.Element.{Element}
-use Rattle.wasm_module.specs.declared.exports.Export.{Export}
-use Rattle.wasm_module.specs.declared.exports.ExportDesc.TheVariants as export
+use Rattle.wasm_module.specs.values.Syntax.{Ops, no_ops}
+use Rattle.wasm_module.specs.values.View.{instrs_view}
+use Rattle.wasm_module.specs.sections.Entries.{Function}
+use Rattle.wasm_module.specs.sections.Sections.{Syntax}
+use Rattle.wasm_module.specs.declared.sections.elements.Element.{Element}
+use Rattle.wasm_module.specs.declared.sections.exports.Export.{Export}
+use Rattle.wasm_module.specs.declared.sections.exports.ExportDesc.TheVariants as export
 use Rattle.wasm_module.specs.declared.host_sig.HostSig.{HostSig}
-use Rattle.wasm_module.specs.declared.imports.Import.{Import}
-use Rattle.wasm_module.specs.declared.imports.ImportDesc.{ImportDesc}
-use Rattle.wasm_module.specs.declared.imports.ImportDesc.TheVariants as import
-use Rattle.wasm_module.specs.declared.segments.Segment.{Segment}
-use Rattle.wasm_module.specs.declared.types.Bounds.{Bounds}
-use Rattle.wasm_module.specs.declared.types.FuncType.{FuncType}
-use Rattle.wasm_module.specs.declared.types.ValType.{ValType}
-use Rattle.wasm_module.specs.declared.types.ValType.TheVariants.{I32, I64, F32, F64}
-use Rattle.wasm_validate.specs.Context.{locals_of}
+use Rattle.wasm_module.specs.declared.sections.imports.Import.{Import}
+use Rattle.wasm_module.specs.declared.sections.imports.ImportDesc.{ImportDesc}
+use Rattle.wasm_module.specs.declared.sections.imports.ImportDesc.TheVariants as import
+use Rattle.wasm_module.specs.declared.sections.segments.Segment.{Segment}
+use Rattle.wasm_module.specs.declared.values.types.Bounds.{Bounds}
+use Rattle.wasm_module.specs.declared.values.types.FuncType.{FuncType}
+use Rattle.wasm_module.specs.declared.values.types.ValType.{ValType}
+use Rattle.wasm_module.specs.declared.values.types.ValType.TheVariants.{I32, I64, F32, F64}
+use Rattle.wasm_validate.specs.typing.Context.{locals_of}
+use Rattle.wasm_store.specs.Memory.{most_pages}
 use Rattle.wasm_steps.specs.Program.{imported, defined, Program}
 use Rattle.wasm_steps.specs.Program as steps
 use Rattle.wasm_steps.specs.Threads.{arity}
@@ -34,16 +35,9 @@ pub record EachAt {A : Type 0} (P : ℕ → A → Type 0) (entries : List A) : T
 
 -- ---- the names of imports
 
--- A call has this name.
-abbrev pub HasName : List HostSig → List ℕ → Type 0
-HasName sigs name =
-    (number : ℕ) × (sig : HostSig) × (slice_get sigs number ≡ Some sig) × (name ≡ sig.name.now)
-
--- It is the number of the first call of the name.
-abbrev pub IsFirstOf : List HostSig → List ℕ → ℕ → Type 0
-IsFirstOf sigs name number = (sig : HostSig) × (slice_get sigs number ≡ Some sig) × (name ≡ sig.name.now)
-    × ((earlier : ℕ) (other : HostSig) → earlier < number → slice_get sigs earlier ≡ Some other
-    → name ≡ other.name.now → ⊥)
+-- The call has the module and the name of the import.
+abbrev pub HasNames : HostSig → Import → Type 0
+HasNames sig entry = (entry.module ≡ sig.module.now) × (entry.name ≡ sig.name.now)
 
 -- The import names the call of this number.
 abbrev pub IsNamed : List HostSig → Import → ℕ → Type 0
@@ -133,9 +127,9 @@ abbrev pub data_span : ℕ → Segment → Span
 data_span size segment =
     record { offset = constant (instrs_view segment.offset); count = length segment.bytes; size = size }
 
--- A memory that may be made: no more than 256 pages at first, and no more than its most.
+-- A memory that may be made: no more pages at first than there may be, and no more than its most.
 abbrev pub IsSmall : Bounds → Type 0
-IsSmall bounds = (bounds.min ≤ 256) × ((most : ℕ) → bounds.max ≡ Some most → bounds.min ≤ most)
+IsSmall bounds = (bounds.min ≤ most_pages) × ((most : ℕ) → bounds.max ≡ Some most → bounds.min ≤ most)
 
 -- ---- types
 

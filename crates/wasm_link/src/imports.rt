@@ -1,10 +1,10 @@
 // The calls of the host that a module imports.
 ghost use Rattle.std.specs.Prelude.{◌≡◌, ◌<◌, ◌^◌, length, map, IfOk, IfErr, MatchOption};
 ghost use Rattle.std.specs.List.{filter_map};
-ghost use Rattle.wasm_validate.specs.Context.{imported_func};
+ghost use Rattle.wasm_validate.specs.typing.Context.{imported_func};
 ghost use Rattle.wasm_validate.specs.inner.Stands.{Exactly};
 ghost use Rattle.wasm_link.specs.Linking.{IsKnown};
-ghost use Rattle.wasm_link.specs.Made.{kind_of, IsNamed, IsFirstOf, HasName, AreNamed, HasKind, AreImported};
+ghost use Rattle.wasm_link.specs.Made.{kind_of, IsNamed, HasNames, AreNamed, HasKind, AreImported};
 ghost use Rattle.wasm_link.specs.Made.{IsUnknown, IsOtherKind, EachAt, IsNumberOf, HaveMost};
 
 use crate::entries::Entry;
@@ -12,30 +12,33 @@ use crate::fault::LinkFault;
 use std::alloc::Global;
 use wasm_module::{FuncType, HostSig, Import, ImportDesc, ValType};
 
-/// The number of the first call of a name.
-fn first_of(sigs: &[HostSig], name: &[u8]) -> Option<u32>
+/// Whether these are the bytes of a text.
+fn is_text(text: &str, bytes: &[u8]) -> bool
+    ensures { Exactly (bytes.now ≡ text.now) result }
+{
+    text.as_bytes() == bytes
+}
+
+/// Whether a call has the module and the name of an import.
+fn has_names(sig: &HostSig, entry: &Import) -> bool
+    ensures { Exactly (HasNames sig.now entry.now) result }
+{
+    is_text(sig.module, entry.module.as_slice()) && is_text(sig.name, entry.name.as_slice())
+}
+
+/// The number of the call that an import names, the first of its module and name.
+fn call_of(sigs: &[HostSig], entry: &Import) -> Option<u32>
     requires { length sigs.now < 2 ^ 32 }
-    ensures { MatchOption result (HasName sigs.now name.now → ⊥) (IsFirstOf sigs.now name.now) }
+    ensures { MatchOption result (IsKnown sigs.now entry.now → ⊥) (IsNamed sigs.now entry.now) }
 {
     let mut at = 0usize;
     while at < sigs.len() {
-        if sigs[at].name.as_bytes() == name {
+        if has_names(&sigs[at], entry) {
             return Some(at as u32);
         }
         at += 1;
     }
     None
-}
-
-/// The number of the call that an import names.
-fn call_of(sigs: &[HostSig], entry: &Import) -> Option<u32>
-    requires { length sigs.now < 2 ^ 32 }
-    ensures { MatchOption result (IsKnown sigs.now entry.now → ⊥) (IsNamed sigs.now entry.now) }
-{
-    if entry.module.as_slice() != b"screeps".as_slice() {
-        return None;
-    }
-    first_of(sigs, entry.name.as_slice())
 }
 
 /// The number of its call for each import.

@@ -2,11 +2,11 @@
 use Rattle.std.proofs.Common.{◌≡◌, ℕ, ◌≤◌, inl, inr, max, List, [], ◌∷◌, ◌++◌, map, refl, ap, sym, ◌∙◌, append_assoc, arith, length, length-append, subst}
 use Rattle.std.proofs.lemmas.List.{append-nil, map-append}
 use Rattle.byte_fields.specs.Front.{Begins, BeginsOnly, BeginsNone}
-use Rattle.wasm_module.specs.Syntax.{Op, Ops, no_ops, next, nesting, ops_nesting}
-use Rattle.wasm_module.specs.Instructions.{SpellsOp, SpellsOps, spells_none, spells_next, spells_memory, spells_numeric, spells_float_plain}
-use Rattle.wasm_module.specs.View.{ops_of, instr_view, items_view}
+use Rattle.wasm_module.specs.values.Syntax.{Op, Ops, no_ops, next, nesting, ops_nesting}
+use Rattle.wasm_module.specs.values.Instructions.{SpellsOp, SpellsOps, spells_none, spells_next, spells_memory, spells_numeric, spells_float_plain}
+use Rattle.wasm_module.specs.values.View.{ops_of, instr_view, items_view}
 use Rattle.wasm_module.specs.inner.Nested.{SpellsShallow, SpellsBody, IsEnd}
-use Rattle.wasm_module.specs.declared.instr.Instr.{Instr}
+use Rattle.wasm_module.specs.declared.values.instr.Instr.{Instr}
 use Rattle.wasm_module.proofs.Opcodes.{op_never, memory_low, numeric_high, plain_high}
 
 -- instructions behind others

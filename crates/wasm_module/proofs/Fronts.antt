@@ -1,7 +1,7 @@
 -- What stands at the front of bytes: one text behind another.
 use Rattle.std.proofs.Common.{◌≡◌, ℕ, List, ◌++◌, refl, ap, sym, ◌∙◌, append_assoc}
 use Rattle.byte_fields.specs.Front.{Begins, BeginsOnly, BeginsNone}
-use Rattle.wasm_module.specs.Spelling.{Then}
+use Rattle.wasm_module.specs.values.Spelling.{Then}
 
 -- Behind a text that spells the first value stands one that spells the second.
 pub then_begins : {V W : Type 0} (First : List ℕ → V → Type 0) (Second : List ℕ → W → Type 0) (bytes middle rest : List ℕ) (v : V) (w : W) → Begins First bytes v middle → Begins Second middle w rest → Begins (Then First Second) bytes (v, w) rest

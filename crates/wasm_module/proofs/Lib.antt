@@ -2,6 +2,7 @@ pub mod Fronts
 pub mod Lists
 pub mod Tags
 pub mod Spelled
+pub mod Groups
 pub mod Opcodes
 pub mod Fixed
 pub mod Views

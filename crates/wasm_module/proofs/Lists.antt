@@ -2,7 +2,7 @@
 use Rattle.std.proofs.Common.{◌≡◌, ℕ, ◌<◌, ◌+◌, List, [], ◌∷◌, ◌++◌, refl, ap, sym, ◌∙◌, append_assoc, length, length-append, arith, subst}
 use Rattle.std.proofs.lemmas.List.{append-nil}
 use Rattle.byte_fields.specs.Front.{Begins, BeginsOnly, BeginsNone}
-use Rattle.wasm_module.specs.Spelling.{SpellsU32, SpellsEach, each_none, each_next, SpellsList, SpellsBytes}
+use Rattle.wasm_module.specs.values.Spelling.{SpellsU32, SpellsEach, each_none, each_next, SpellsList, SpellsBytes}
 
 -- One more text behind the others.
 pub each_more : {V : Type 0} {Spells : List ℕ → V → Type 0} {texts text : List ℕ} {values : List V} {value : V} → SpellsEach Spells texts values → Spells text value → SpellsEach Spells (texts ++ text) (values ++ value ∷ [])

@@ -1,14 +1,14 @@
 -- Blocks, and the parts of an `if`.
 use Rattle.std.proofs.Common.{◌≡◌, ℕ, ◌-◌, ◌<◌, ◌⊎◌, inl, inr, List, [], ◌∷◌, ◌++◌, refl, ap, sym, ◌∙◌, append_assoc, arith, Option, map}
 use Rattle.byte_fields.specs.Front.{Begins, BeginsOnly, BeginsNone}
-use Rattle.wasm_module.specs.Spelling.{Then}
-use Rattle.wasm_module.specs.Values.{SpellsBlockType}
-use Rattle.wasm_module.specs.Syntax.{Op, Ops, block, loop, if_else, no_ops}
-use Rattle.wasm_module.specs.View.{instrs_view, ops_of, instr_view}
-use Rattle.wasm_module.specs.Instructions.{spells_block, spells_loop, spells_if, spells_if_else, spells_memory, spells_numeric, spells_float_plain}
+use Rattle.wasm_module.specs.values.Spelling.{Then}
+use Rattle.wasm_module.specs.values.Values.{SpellsBlockType}
+use Rattle.wasm_module.specs.values.Syntax.{Op, Ops, block, loop, if_else, no_ops}
+use Rattle.wasm_module.specs.values.View.{instrs_view, ops_of, instr_view}
+use Rattle.wasm_module.specs.values.Instructions.{spells_block, spells_loop, spells_if, spells_if_else, spells_memory, spells_numeric, spells_float_plain}
 use Rattle.wasm_module.specs.inner.Nested.{SpellsShallow, SpellsInner, SpellsBranches, branches_one, branches_two, SpellsBody}
-use Rattle.wasm_module.specs.declared.types.ValType.{ValType}
-use Rattle.wasm_module.specs.declared.instr.Instrs.{Instrs}
+use Rattle.wasm_module.specs.declared.values.types.ValType.{ValType}
+use Rattle.wasm_module.specs.declared.values.instr.Instrs.{Instrs}
 use Rattle.wasm_module.proofs.Fronts.{begins_along}
 use Rattle.wasm_module.proofs.Tags.{IsTag, tag_found, tag_only, tag_none}
 use Rattle.wasm_module.proofs.Opcodes.{op_never, memory_low, numeric_high, plain_high}

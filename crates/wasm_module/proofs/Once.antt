@@ -4,16 +4,16 @@ use Rattle.std.proofs.lemmas.List.{append-nil}
 use Rattle.byte_fields.specs.Front.{Begins, BeginsOnly}
 use Rattle.byte_fields.specs.Leb.{SpellsSigned}
 use Rattle.byte_fields.proofs.Fronts.{IsLebSpelling, front_only, unsigned_32, signed_32, signed_64}
-use Rattle.wasm_module.specs.Spelling.{SpellsU32, Then, SpellsByte, SpellsMark, SpellsEach, each_none, each_next, SpellsList, SpellsBytes, SpellsSized}
-use Rattle.wasm_module.specs.Values.{SpellsName, SpellsValType, SpellsBlockType, spells_no_result, spells_one_result, IsResult, result_none, result_one, SpellsResult, SpellsFuncType, SpellsBounds, spells_open, spells_closed, SpellsTableType, SpellsMutable, SpellsGlobalType, SpellsImportDesc, imports_func, imports_table, imports_memory, imports_global, SpellsImport, SpellsExportDesc, exports_func, exports_table, exports_memory, exports_global, SpellsExport}
-use Rattle.wasm_module.specs.declared.types.ValType.{ValType}
-use Rattle.wasm_module.specs.declared.types.FuncType.{FuncType}
-use Rattle.wasm_module.specs.declared.types.Bounds.{Bounds}
-use Rattle.wasm_module.specs.declared.types.GlobalType.{GlobalType}
-use Rattle.wasm_module.specs.declared.imports.Import.{Import}
-use Rattle.wasm_module.specs.declared.imports.ImportDesc.{ImportDesc}
-use Rattle.wasm_module.specs.declared.exports.Export.{Export}
-use Rattle.wasm_module.specs.declared.exports.ExportDesc.{ExportDesc}
+use Rattle.wasm_module.specs.values.Spelling.{SpellsU32, Then, SpellsByte, SpellsMark, SpellsEach, each_none, each_next, SpellsList, SpellsBytes, SpellsSized}
+use Rattle.wasm_module.specs.values.Values.{SpellsName, SpellsValType, SpellsBlockType, spells_no_result, spells_one_result, IsResult, result_none, result_one, SpellsResult, SpellsFuncType, SpellsBounds, spells_open, spells_closed, SpellsTableType, SpellsMutable, SpellsGlobalType, SpellsImportDesc, imports_func, imports_table, imports_memory, imports_global, SpellsImport, SpellsExportDesc, exports_func, exports_table, exports_memory, exports_global, SpellsExport}
+use Rattle.wasm_module.specs.declared.values.types.ValType.{ValType}
+use Rattle.wasm_module.specs.declared.values.types.FuncType.{FuncType}
+use Rattle.wasm_module.specs.declared.values.types.Bounds.{Bounds}
+use Rattle.wasm_module.specs.declared.values.types.GlobalType.{GlobalType}
+use Rattle.wasm_module.specs.declared.sections.imports.Import.{Import}
+use Rattle.wasm_module.specs.declared.sections.imports.ImportDesc.{ImportDesc}
+use Rattle.wasm_module.specs.declared.sections.exports.Export.{Export}
+use Rattle.wasm_module.specs.declared.sections.exports.ExportDesc.{ExportDesc}
 use Rattle.wasm_module.proofs.Fronts.{then_parts, then_only}
 use Rattle.wasm_module.proofs.Lists.{list_later, list_parts, bytes_parts, bytes_only}
 use Rattle.wasm_module.proofs.Sizes.{sized_only}

@@ -1,12 +1,12 @@
 -- Bytes begin with one expression at most.
 use Rattle.std.proofs.Common.{◌≡◌, ℕ, ◌-◌, ◌≤◌, ◌<◌, max, inl, inr, List, [], ◌∷◌, ◌++◌, refl, ap, sym, ◌∙◌, append_assoc, arith, Option}
 use Rattle.byte_fields.specs.Front.{Begins, BeginsOnly}
-use Rattle.wasm_module.specs.Spelling.{SpellsU32, Then}
-use Rattle.wasm_module.specs.Syntax.{Op, Ops, no_ops, next, nesting, ops_nesting}
-use Rattle.wasm_module.specs.Values.{SpellsBlockType}
-use Rattle.wasm_module.specs.Instructions.{SpellsOp, spells_unreachable, spells_nop, spells_block, spells_loop, spells_if, spells_if_else, spells_br, spells_br_if, spells_br_table, spells_return, spells_call, spells_call_indirect, spells_drop, spells_select, spells_local_get, spells_local_set, spells_local_tee, spells_global_get, spells_global_set, spells_memory, spells_memory_size, spells_memory_grow, spells_i32_const, spells_i64_const, spells_f32_const, spells_f64_const, spells_numeric, spells_float_plain, SpellsOps, spells_none, spells_next, SpellsExpression, IsMemory}
+use Rattle.wasm_module.specs.values.Spelling.{SpellsU32, Then}
+use Rattle.wasm_module.specs.values.Syntax.{Op, Ops, no_ops, next, nesting, ops_nesting}
+use Rattle.wasm_module.specs.values.Values.{SpellsBlockType}
+use Rattle.wasm_module.specs.values.Instructions.{SpellsOp, spells_unreachable, spells_nop, spells_block, spells_loop, spells_if, spells_if_else, spells_br, spells_br_if, spells_br_table, spells_return, spells_call, spells_call_indirect, spells_drop, spells_select, spells_local_get, spells_local_set, spells_local_tee, spells_global_get, spells_global_set, spells_memory, spells_memory_size, spells_memory_grow, spells_i32_const, spells_i64_const, spells_f32_const, spells_f64_const, spells_numeric, spells_float_plain, SpellsOps, spells_none, spells_next, SpellsExpression, IsMemory}
 use Rattle.wasm_module.specs.inner.Nested.{SpellsShallow, SpellsInner, IsEnd, SpellsBody}
-use Rattle.wasm_module.specs.declared.types.ValType.{ValType}
+use Rattle.wasm_module.specs.declared.values.types.ValType.{ValType}
 use Rattle.wasm_module.proofs.Fronts.{then_only}
 use Rattle.wasm_module.proofs.Tags.{IsTag, tag_only}
 use Rattle.wasm_module.proofs.Opcodes.{op_unreachable, op_nop, op_br, op_br_if, op_br_table, op_return, op_call, op_call_indirect, op_drop, op_select, op_local_get, op_local_set, op_local_tee, op_global_get, op_global_set, op_memory_size, op_memory_grow, op_i32_const, op_i64_const, op_f32_const, op_f64_const, memory_low, memory_high, numeric_high, plain_high, memory_only, plain_only}

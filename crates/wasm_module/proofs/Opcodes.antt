@@ -1,11 +1,11 @@
 -- The spellings of instructions, taken apart by their opcode.
 use Rattle.std.proofs.Common.{◌≡◌, ℕ, ℤ, ◌≤◌, ◌<◌, ◌^◌, ◌⊎◌, inl, inr, List, [], ◌∷◌, ◌++◌, refl, ap, sym, ◌∙◌, arith, subst}
-use native.Mathlib.Decide.{dec_le}
 use Rattle.byte_fields.specs.Leb.{SpellsSigned}
-use Rattle.wasm_module.specs.Spelling.{SpellsU32, Then, SpellsMark, SpellsList}
-use Rattle.wasm_module.specs.Syntax.{nesting, Op, unreachable, nop, br, br_if, br_table, return, call, call_indirect, drop_value, select, local_get, local_set, local_tee, global_get, global_set, memory_size, memory_grow, i32_const, i64_const, float_const, numeric, float_plain}
-use Rattle.wasm_module.specs.Instructions.{SpellsOp, spells_unreachable, spells_nop, spells_block, spells_loop, spells_if, spells_if_else, spells_br, spells_br_if, spells_br_table, spells_return, spells_call, spells_call_indirect, spells_drop, spells_select, spells_local_get, spells_local_set, spells_local_tee, spells_global_get, spells_global_set, spells_memory, spells_memory_size, spells_memory_grow, spells_i32_const, spells_i64_const, spells_f32_const, spells_f64_const, spells_numeric, spells_float_plain, IsMemory, is_load, is_store, is_float_memory, IsLoad, IsStore, IsFloatMemory, IsNumeric, compares_i32, compares_i64, computes_i32, computes_i64, wraps, IsFloatPlain, computes_float, truncates_i32}
-use Rattle.wasm_module.specs.declared.instr.FloatBytes.TheVariants.{Four, Eight}
+use Rattle.wasm_module.specs.values.Spelling.{SpellsU32, Then, SpellsMark, SpellsList}
+use Rattle.wasm_module.specs.values.Syntax.{nesting, Op, unreachable, nop, br, br_if, br_table, return, call, call_indirect, drop_value, select, local_get, local_set, local_tee, global_get, global_set, memory_size, memory_grow, i32_const, i64_const, float_const, numeric, float_plain}
+use Rattle.wasm_module.specs.values.Instructions.{SpellsOp, spells_unreachable, spells_nop, spells_block, spells_loop, spells_if, spells_if_else, spells_br, spells_br_if, spells_br_table, spells_return, spells_call, spells_call_indirect, spells_drop, spells_select, spells_local_get, spells_local_set, spells_local_tee, spells_global_get, spells_global_set, spells_memory, spells_memory_size, spells_memory_grow, spells_i32_const, spells_i64_const, spells_f32_const, spells_f64_const, spells_numeric, spells_float_plain, IsMemory, is_load, is_store, is_float_memory, IsLoad, load_row, IsStore, store_row, IsFloatMemory, IsNumeric, unary_row, binary_row, IsFloatPlain}
+use Rattle.wasm_module.proofs.Groups.{load_bounds, store_bounds, float_memory_bounds, numeric_bounds, float_plain_bounds}
+use Rattle.wasm_module.specs.declared.values.instr.FloatBytes.TheVariants.{Four, Eight}
 use Rattle.byte_fields.specs.Front.{Begins, BeginsOnly, BeginsNone}
 use Rattle.byteorder.specs.Endian.{little_bytes}
 use Rattle.wasm_module.proofs.Tags.{IsTag, tag_found, tag_only, tag_none}
@@ -25,16 +25,20 @@ abbrev pub IsAlone : ℕ → Type 0
 IsAlone tag = (tag < 0x25) ⊎ ((0x3f ≤ tag) × (tag ≤ 0x44))
 
 pub memory_low : {code align offset : ℕ} {op : Op} → IsMemory code align offset op → 0x28 ≤ code
-memory_low r = grind arith
+memory_low {code = code} (is_load r) = (load_bounds code r).0
+memory_low {code = code} (is_store r) = (store_bounds code r).0
+memory_low {code = code} (is_float_memory r) = (float_memory_bounds code r).0
 
 pub memory_high : {code align offset : ℕ} {op : Op} → IsMemory code align offset op → code ≤ 0x3e
-memory_high r = grind arith
+memory_high {code = code} (is_load r) = (load_bounds code r).1
+memory_high {code = code} (is_store r) = (store_bounds code r).1
+memory_high {code = code} (is_float_memory r) = (float_memory_bounds code r).1
 
 pub numeric_high : (tag : ℕ) → IsNumeric tag → 0x45 ≤ tag
-numeric_high tag r = grind arith
+numeric_high tag r = (numeric_bounds tag r).0
 
 pub plain_high : (tag : ℕ) → IsFloatPlain tag → 0x45 ≤ tag
-plain_high tag r = grind arith
+plain_high tag r = (float_plain_bounds tag r).0
 
 -- Nothing behind the opcode.
 abbrev pub SpellsNothing : List ℕ → Unit {0} → Type 0
@@ -188,30 +192,12 @@ op_f32_const = record { never = op_never; spell = λ text inner s. rw s.1 (spell
 pub op_f64_const : IsTag Op ℕ SpellsOp (SpellsLittle 8) (λ (n : ℕ). float_const (Eight n)) 0x44
 op_f64_const = record { never = op_never; spell = λ text inner s. rw s.1 (spells_f64_const s.0); behind = λ text op s. elim (lone 0x44 (inr (omega arith, omega arith)) text op s) [ lone_f64_const m ↦ m ] }
 
-pub numeric_wraps : (code : ℕ) → code ≡ 0xa7 → IsNumeric code
-numeric_wraps code e = rw e wraps
-
-pub numeric_compares : (code : ℕ) → 0x45 ≤ code → code ≤ 0x5a → IsNumeric code
-numeric_compares code low high = elim (dec_le code 0x4f) [ yes h ↦ compares_i32 low h | no h ↦ compares_i64 (omega arith) high ]
-
-pub numeric_computes : (code : ℕ) → 0x67 ≤ code → code ≤ 0x8a → IsNumeric code
-numeric_computes code low high = elim (dec_le code 0x78) [ yes h ↦ computes_i32 low h | no h ↦ computes_i64 (omega arith) high ]
-
-pub plain_between : (code : ℕ) → 0x8b ≤ code → code ≤ 0xab → (code ≡ 0xa7 → ⊥) → IsFloatPlain code
-plain_between code low high not = elim (dec_le code 0xa6) [ yes h ↦ computes_float low h | no h ↦ truncates_i32 (omega arith) high ]
-
-numeric_top : (code : ℕ) → IsNumeric code → code ≤ 0xad
-numeric_top code r = grind arith
-
-plain_top : (code : ℕ) → IsFloatPlain code → code ≤ 0xbf
-plain_top code r = grind arith
-
 -- No instruction has an opcode past BF.
 high_kind : {code : ℕ} {text : List ℕ} {op : Op} → 0xc0 ≤ code → Kind code text op → ⊥
 high_kind high (kind_lone a s) = grind arith
 high_kind high (kind_memory r s) = let top = memory_high r in omega (arith, top)
-high_kind {code = code} high (kind_numeric r) = let top = numeric_top code r in omega (arith, top)
-high_kind {code = code} high (kind_float_plain r) = let top = plain_top code r in omega (arith, top)
+high_kind {code = code} high (kind_numeric r) = let top = (numeric_bounds code r).1 in omega (arith, top)
+high_kind {code = code} high (kind_float_plain r) = let top = (float_plain_bounds code r).1 in omega (arith, top)
 
 pub high_unknown : (code : ℕ) → 0xc0 ≤ code → (text : List ℕ) (op : Op) → SpellsOp (code ∷ text) op → ⊥
 high_unknown code high text op s = high_kind high (kind_of code text op s)
@@ -224,13 +210,13 @@ memory_kind {code = code} low high (kind_numeric r) = let top = numeric_high cod
 memory_kind {code = code} low high (kind_float_plain r) = let top = plain_high code r in absurd (omega (arith, top))
 
 load_store : (code : ℕ) → IsLoad code → IsStore code → ⊥
-load_store code r s = grind arith
+load_store code (load_row e) (store_row f) = cc
 
 load_float : (code : ℕ) → IsLoad code → IsFloatMemory code → ⊥
-load_float code r s = grind arith
+load_float code (load_row e) f = cc
 
 store_float : (code : ℕ) → IsStore code → IsFloatMemory code → ⊥
-store_float code r s = grind arith
+store_float code (store_row e) f = cc
 
 memory_once : {align offset : ℕ} {x y : Op} (code : ℕ) → IsMemory code align offset x → IsMemory code align offset y → x ≡ y
 memory_once code (is_load r) (is_load s) = refl
@@ -289,7 +275,8 @@ operation_kind low (kind_numeric r) = is_numeric r
 operation_kind low (kind_float_plain r) = is_float_plain r
 
 numeric_plain : (code : ℕ) → IsNumeric code → IsFloatPlain code → ⊥
-numeric_plain code r s = grind arith
+numeric_plain code (unary_row e) f = cc
+numeric_plain code (binary_row e) f = cc
 
 operation_once : {code : ℕ} {a b : List ℕ} {x y : Op} → IsOperation code a x → IsOperation code b y → (x ≡ y) × (a ≡ b)
 operation_once (is_numeric r) (is_numeric t) = (refl, refl)

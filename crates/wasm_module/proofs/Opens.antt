@@ -2,16 +2,16 @@
 use Rattle.std.proofs.Common.{◌≡◌, ℕ, ◌≤◌, inl, inr, List, [], ◌∷◌, ◌++◌, refl, ap, sym, ◌∙◌, append_assoc, arith, subst, Option}
 use native.Mathlib.Decide.{dec_le}
 use Rattle.byte_fields.specs.Front.{Begins, BeginsOnly, BeginsNone}
-use Rattle.wasm_module.specs.Spelling.{Then}
-use Rattle.wasm_module.specs.Values.{SpellsBlockType}
-use Rattle.wasm_module.specs.Syntax.{Op, Ops, block, loop, nesting}
-use Rattle.wasm_module.specs.Instructions.{SpellsOp, SpellsOps, spells_none, spells_next, spells_block, spells_loop, spells_if, spells_if_else}
+use Rattle.wasm_module.specs.values.Spelling.{Then}
+use Rattle.wasm_module.specs.values.Values.{SpellsBlockType}
+use Rattle.wasm_module.specs.values.Syntax.{Op, Ops, block, loop, nesting}
+use Rattle.wasm_module.specs.values.Instructions.{SpellsOp, SpellsOps, spells_none, spells_next, spells_block, spells_loop, spells_if, spells_if_else}
 use Rattle.wasm_module.specs.inner.Nested.{IsEnd, SpellsShallow, SpellsInner, SpellsBranches, branches_one, branches_two}
 use Rattle.wasm_module.specs.inner.Skimmed.{SpellsSome}
 use Rattle.wasm_module.specs.inner.Opens.{Closes, closes_all, closes_block, closes_first, closes_second, ClosesBefore, ClosesAlike}
-use Rattle.wasm_module.specs.declared.types.ValType.{ValType}
-use Rattle.wasm_module.specs.declared.skim.Open.{Open}
-use Rattle.wasm_module.specs.declared.skim.Open.TheVariants.{Block, First}
+use Rattle.wasm_module.specs.declared.values.types.ValType.{ValType}
+use Rattle.wasm_module.specs.declared.values.skim.Open.{Open}
+use Rattle.wasm_module.specs.declared.values.skim.Open.TheVariants.{Block, First}
 use Rattle.wasm_module.proofs.Fronts.{then_parts}
 use Rattle.wasm_module.proofs.Tags.{IsTag, tagged}
 use Rattle.wasm_module.proofs.Bodies.{no_end}

@@ -1,10 +1,10 @@
 -- The result of a function's type: a list of one value type at most.
 use Rattle.std.proofs.Common.{◌≡◌, ℕ, List, [], ◌∷◌, refl, ap, subst, Option, Some, None, ◌<◌, ◌≤◌, length, get_or, arith}
 use Rattle.byte_fields.specs.Front.{Begins, BeginsOnly, BeginsNone}
-use Rattle.wasm_module.specs.Spelling.{SpellsList, Then, SpellsMark}
-use Rattle.wasm_module.specs.Values.{SpellsValType, IsResult, result_none, result_one, SpellsResult, SpellsFuncType}
-use Rattle.wasm_module.specs.declared.types.ValType.{ValType}
-use Rattle.wasm_module.specs.declared.types.FuncType.{FuncType}
+use Rattle.wasm_module.specs.values.Spelling.{SpellsList, Then, SpellsMark}
+use Rattle.wasm_module.specs.values.Values.{SpellsValType, IsResult, result_none, result_one, SpellsResult, SpellsFuncType}
+use Rattle.wasm_module.specs.declared.values.types.ValType.{ValType}
+use Rattle.wasm_module.specs.declared.values.types.FuncType.{FuncType}
 
 pub is_once : {list : List ValType} {a b : Option ValType} → IsResult list a → IsResult list b → b ≡ a
 is_once result_none result_none = refl

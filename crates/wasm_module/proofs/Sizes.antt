@@ -2,7 +2,7 @@
 use Rattle.std.proofs.Common.{◌≡◌, ℕ, List, [], ◌∷◌, ◌++◌, length, refl, ap, sym, ◌∙◌, subst}
 use Rattle.std.proofs.lemmas.List.{append-nil}
 use Rattle.byte_fields.specs.Front.{Begins, BeginsOnly, BeginsNone}
-use Rattle.wasm_module.specs.Spelling.{SpellsBytes, SpellsSized}
+use Rattle.wasm_module.specs.values.Spelling.{SpellsBytes, SpellsSized}
 
 pub sized_found : {V : Type 0} (Spells : List ℕ → V → Type 0) (bytes content rest left : List ℕ) (value : V) → Begins SpellsBytes bytes content rest → Begins Spells content value left → left ≡ [] → Begins (SpellsSized Spells) bytes value rest
 sized_found {V} Spells bytes content rest left value (text, s, e) (inside, t, f) none =

@@ -1,18 +1,18 @@
 -- The spellings of types and descriptions, taken apart by their first byte.
 use Rattle.std.proofs.Common.{◌≡◌, ℕ, List, [], ◌∷◌, ◌++◌, refl, ap, Option, Some, None, arith, Bool, subst}
-use Rattle.wasm_module.specs.Spelling.{SpellsU32, Then}
-use Rattle.wasm_module.specs.Values.{SpellsValType, SpellsBlockType, spells_no_result, spells_one_result, SpellsBounds, spells_open, spells_closed, SpellsImportDesc, imports_func, imports_table, imports_memory, imports_global, SpellsExportDesc, exports_func, exports_table, exports_memory, exports_global, SpellsTableType, SpellsGlobalType}
+use Rattle.wasm_module.specs.values.Spelling.{SpellsU32, Then}
+use Rattle.wasm_module.specs.values.Values.{SpellsValType, SpellsBlockType, spells_no_result, spells_one_result, SpellsBounds, spells_open, spells_closed, SpellsImportDesc, imports_func, imports_table, imports_memory, imports_global, SpellsExportDesc, exports_func, exports_table, exports_memory, exports_global, SpellsTableType, SpellsGlobalType}
 use Rattle.wasm_module.proofs.Tags.{IsTag}
-use Rattle.wasm_module.specs.declared.types.ValType.{ValType}
-use Rattle.wasm_module.specs.declared.types.Bounds.{Bounds}
-use Rattle.wasm_module.specs.declared.types.GlobalType.{GlobalType}
-use Rattle.wasm_module.specs.declared.codes.LocalRun.{LocalRun}
-use Rattle.wasm_module.specs.declared.imports.Import.{Import}
-use Rattle.wasm_module.specs.declared.exports.Export.{Export}
-use Rattle.wasm_module.specs.declared.imports.ImportDesc.{ImportDesc}
-use Rattle.wasm_module.specs.declared.imports.ImportDesc.TheVariants as import
-use Rattle.wasm_module.specs.declared.exports.ExportDesc.{ExportDesc}
-use Rattle.wasm_module.specs.declared.exports.ExportDesc.TheVariants as export
+use Rattle.wasm_module.specs.declared.values.types.ValType.{ValType}
+use Rattle.wasm_module.specs.declared.values.types.Bounds.{Bounds}
+use Rattle.wasm_module.specs.declared.values.types.GlobalType.{GlobalType}
+use Rattle.wasm_module.specs.declared.sections.codes.LocalRun.{LocalRun}
+use Rattle.wasm_module.specs.declared.sections.imports.Import.{Import}
+use Rattle.wasm_module.specs.declared.sections.exports.Export.{Export}
+use Rattle.wasm_module.specs.declared.sections.imports.ImportDesc.{ImportDesc}
+use Rattle.wasm_module.specs.declared.sections.imports.ImportDesc.TheVariants as import
+use Rattle.wasm_module.specs.declared.sections.exports.ExportDesc.{ExportDesc}
+use Rattle.wasm_module.specs.declared.sections.exports.ExportDesc.TheVariants as export
 
 abbrev pub global_type_of : ValType × Bool → GlobalType
 global_type_of both = record { value = both.0; mutable = both.1 }

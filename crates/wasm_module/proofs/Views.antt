@@ -3,14 +3,14 @@ use Rattle.std.proofs.Common.{◌≡◌, ℕ, ℤ, List, ap, sym, ◌∙◌, Opt
 use Rattle.std.proofs.lemmas.Int.{to_z-of_z}
 use mir.Val.{to_z, of_z}
 use Rattle.std.proofs.Common.{SFits}
-use Rattle.wasm_module.specs.Syntax.{Op, Ops, unreachable, nop, block, loop, if_else, br, br_if, br_table, return, call, call_indirect, drop_value, select, local_get, local_set, local_tee, global_get, global_set, load, store, memory_size, memory_grow, i32_const, i64_const, numeric, float_memory, float_const, float_plain}
-use Rattle.wasm_module.specs.View.{instr_view, op_step, instrs_step, instrs_view, items_view}
-use Rattle.wasm_module.specs.declared.types.ValType.{ValType}
-use Rattle.wasm_module.specs.declared.instr.FloatBytes.{FloatBytes}
-use Rattle.wasm_module.specs.declared.instr.Instr.TheOpen.{Instr-F}
-use Rattle.wasm_module.specs.declared.instr.Instr.TheFolds.{fold-roll-Instr, fold_out-Instrs}
-use Rattle.wasm_module.specs.declared.instr.Instr.TheVariants as code
-use Rattle.wasm_module.specs.declared.instr.Instrs.{Instrs}
+use Rattle.wasm_module.specs.values.Syntax.{Op, Ops, unreachable, nop, block, loop, if_else, br, br_if, br_table, return, call, call_indirect, drop_value, select, local_get, local_set, local_tee, global_get, global_set, load, store, memory_size, memory_grow, i32_const, i64_const, numeric, float_memory, float_const, float_plain}
+use Rattle.wasm_module.specs.values.View.{instr_view, op_step, instrs_step, instrs_view, items_view}
+use Rattle.wasm_module.specs.declared.values.types.ValType.{ValType}
+use Rattle.wasm_module.specs.declared.values.instr.FloatBytes.{FloatBytes}
+use Rattle.wasm_module.specs.declared.values.instr.Instr.TheOpen.{Instr-F}
+use Rattle.wasm_module.specs.declared.values.instr.Instr.TheFolds.{fold-roll-Instr, fold_out-Instrs}
+use Rattle.wasm_module.specs.declared.values.instr.Instr.TheVariants as code
+use Rattle.wasm_module.specs.declared.values.instr.Instrs.{Instrs}
 
 pub view_unreachable : instr_view code.Unreachable ≡ unreachable
 view_unreachable = ap instr_view (sym code.rolls-Unreachable) ∙ fold-roll-Instr Op Ops op_step instrs_step Instr-F.Unreachable

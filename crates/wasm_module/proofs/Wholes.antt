@@ -2,7 +2,7 @@
 use Rattle.std.proofs.Common.{◌≡◌, ℕ, List, [], ◌∷◌, ◌++◌, refl, ap, sym, ◌∙◌, subst}
 use Rattle.std.proofs.lemmas.List.{append-nil}
 use Rattle.byte_fields.specs.Front.{Begins, BeginsOnly, BeginsNone}
-use Rattle.wasm_module.specs.Spelling.{SpellsByte}
+use Rattle.wasm_module.specs.values.Spelling.{SpellsByte}
 
 -- A text that is the whole is one at the front, with nothing left.
 begins_whole : {V : Type 0} (Spells : List ℕ → V → Type 0) (content : List ℕ) (value : V) → Spells content value → Begins Spells content value []

@@ -1,11 +1,4 @@
 pub mod formers
-pub mod Spelling
-pub mod Syntax
-pub mod View
-pub mod Values
-pub mod Instructions
-pub mod Entries
-pub mod Sections
-pub mod Limits
-pub mod Faults
+pub mod values
+pub mod sections
 pub mod inner

@@ -1,1 +1,1 @@
-pub mod entry_lists
+pub mod values

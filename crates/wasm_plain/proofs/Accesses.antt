@@ -1,18 +1,21 @@
 -- What the instructions on the memory find on a typed stack, and that they do what they are to do and keep it typed.
-use Rattle.std.proofs.Common.{◌≡◌, ◌≢◌, ℕ, ◌+◌, ◌*◌, ◌^◌, ◌<◌, ◌≤◌, ◌↔◌, List, [], ◌∷◌, length, drop, get_or, refl, sym, ap, ◌∙◌, subst, Option, None, Some, inl, inr, IsNone, IsSome, IfSome, IsTrue, true, false, MatchOption, arith, length-drop}
+use Rattle.std.proofs.Common.{◌≡◌, ◌≢◌, ℕ, ◌+◌, ◌*◌, ◌^◌, ◌<◌, ◌≤◌, ◌↔◌, List, [], ◌∷◌, length, drop, get_or, refl, sym, ap, ◌∙◌, subst, Option, None, Some, inl, inr, IsNone, IsSome, IfSome, IsTrue, Bool, true, false, MatchOption, arith, length-drop}
 use Rattle.std.specs.Option.{unwrap_or, option_map}
 use Rattle.std.proofs.lemmas.Option.{same_Some}
 use Rattle.std.proofs.lemmas.Int.{ints}
 use Rattle.std.proofs.lemmas.Bool.Decides.{nat_tests}
-use Rattle.wasm_module.specs.Syntax.{no_ops, load, store, memory_size, memory_grow}
-use Rattle.wasm_module.specs.declared.types.ValType.{ValType}
-use Rattle.wasm_module.specs.declared.types.ValType.TheVariants.{I32, I64}
+use Rattle.wasm_module.specs.values.Syntax.{no_ops, load, store, memory_size, memory_grow}
+use Rattle.wasm_module.specs.declared.values.types.ValType.{ValType}
+use Rattle.wasm_module.specs.declared.values.types.ValType.TheVariants.{I32, I64}
 use Rattle.wasm_store.specs.Bytes.{le_bytes, le_number}
 use Rattle.wasm_store.specs.Memory.{Memory, page_count, grown, span, written}
-use Rattle.wasm_validate.specs.Operations.{Access, moves, load_of, store_of}
+use Rattle.wasm_module.specs.values.Opcodes.{meaning, meaning_in, opcodes}
+use Rattle.wasm_validate.specs.typing.Operations.{Access, load_of, store_of}
+use Rattle.wasm_validate.specs.inner.Ranges.{load_by_bounds}
+use Rattle.wasm_validate.proofs.Ranges.{load_within}
 use Rattle.wasm_steps.specs.Program.{Store, most_values}
 use Rattle.wasm_steps.specs.Threads.{size}
-use Rattle.wasm_steps.specs.Plain.{Does, does_load, does_store, does_memory_size, does_memory_grow, does_not_grow, fails_load, fails_store, loaded, signed_32, signed_64, refused}
+use Rattle.wasm_steps.specs.Plain.{Does, does_load, does_store, does_memory_size, does_memory_grow, does_not_grow, fails_load, fails_store, loaded, carried_on, signed_32, signed_64, refused}
 use Rattle.wasm_steps.specs.declared.outcome.Trap.TheVariants as traps
 use Rattle.wasm_soundness.specs.Typed.{IsValue, no_values, next_value}
 use Rattle.wasm_soundness.proofs.Values.{one_value, two_values}
@@ -55,14 +58,14 @@ has_address {h} op align offset n =
 
 pub load_done : {h new : Held} {first s : Store} {memory : Memory} (op align offset address value : ℕ) (access : Access)
     → IsNext (load op align offset) h first → s.memory ≡ memory → load_of op ≡ Some access → address ≡ get_or h.operands 0 0 + offset
-    → address + access.bytes ≤ length memory.bytes → value ≡ loaded op access.bytes (le_number (span memory address access.bytes)) → IsValue access.value value
+    → address + access.bytes ≤ length memory.bytes → value ≡ loaded access (le_number (span memory address access.bytes)) → IsValue access.value value
     → new ≡ replaced 1 value h → IsDone (load op align offset) h s new s
 load_done {h} {new} {first} {s} {memory} op align offset address value access n same known at within is v e =
     let f = has_address op align offset n in
     let place = get_or h.operands 0 0 + offset in
     let there : place + access.bytes ≤ length s.memory.bytes = subst (λ (m : Memory). place + access.bytes ≤ length m.bytes) (sym same) (omega (arith, within, at)) in
-    let taken : value ≡ loaded op access.bytes (le_number (span s.memory place access.bytes)) =
-    is ∙ ap (λ (m : Memory). loaded op access.bytes (le_number (span m address access.bytes))) (sym same) ∙ ap (λ (x : ℕ). loaded op access.bytes (le_number (span s.memory x access.bytes))) at in
+    let taken : value ≡ loaded access (le_number (span s.memory place access.bytes)) =
+    is ∙ ap (λ (m : Memory). loaded access (le_number (span m address access.bytes))) (sym same) ∙ ap (λ (x : ℕ). loaded access (le_number (span s.memory x access.bytes))) at in
     subst (λ (z : Held). IsDone (load op align offset) h s z s) (sym e) (record {
       does = subst (λ (x : ℕ). Does (load op align offset) (data_of h s) (data_of (replaced 1 x h) s)) (sym taken) (does_load access known (top_of h.operands f.there) there);
       levels = refl;
@@ -215,7 +218,7 @@ grow_done {h} {new} {first} {s} {memory} {after} by answer found n same top g is
 abbrev pub Reads : ℕ → Memory → ℕ → Option ℕ → Type 0
 Reads op memory address result = (access : Access) → load_of op ≡ Some access
     → MatchOption result (length memory.bytes < address + access.bytes)
-    (λ value. (address + access.bytes ≤ length memory.bytes) × (value ≡ loaded op access.bytes (le_number (span memory address access.bytes))) × IsValue access.value value)
+    (λ value. (address + access.bytes ≤ length memory.bytes) × (value ≡ loaded access (le_number (span memory address access.bytes))) × IsValue access.value value)
 
 -- what `Pages::load` says
 pub record IsFound (memory : Memory) (address bytes : ℕ) (found : Option ℕ) : Type 0 where
@@ -226,79 +229,85 @@ pub record IsFound (memory : Memory) (address bytes : ℕ) (found : Option ℕ) 
 within_of : {a b : ℕ} (n : ℕ) → (IsNone (Some n) ↔ (a < b)) → b ≤ a
 within_of n r = grind (arith, r.1)
 
-reads_known : (op : ℕ) (memory : Memory) (address : ℕ) (result : Option ℕ) (type : ValType) (bytes : ℕ) → load_of op ≡ moves type bytes
-    → MatchOption result (length memory.bytes < address + bytes)
-    (λ value. (address + bytes ≤ length memory.bytes) × (value ≡ loaded op bytes (le_number (span memory address bytes))) × IsValue type value)
+reads_known : (op : ℕ) (memory : Memory) (address : ℕ) (result : Option ℕ) (access : Access) → load_of op ≡ Some access
+    → MatchOption result (length memory.bytes < address + access.bytes)
+    (λ value. (address + access.bytes ≤ length memory.bytes) × (value ≡ loaded access (le_number (span memory address access.bytes))) × IsValue access.value value)
     → Reads op memory address result
-reads_known op memory address result type bytes known p access e =
+reads_known op memory address result access known p other e =
     subst (λ (z : Access). MatchOption result (length memory.bytes < address + z.bytes)
-    (λ value. (address + z.bytes ≤ length memory.bytes) × (value ≡ loaded op z.bytes (le_number (span memory address z.bytes))) × IsValue z.value value))
-    (same_Some (record { value = type; bytes = bytes }) access (sym known ∙ e)) p
+    (λ value. (address + z.bytes ≤ length memory.bytes) × (value ≡ loaded z (le_number (span memory address z.bytes))) × IsValue z.value value))
+    (same_Some access other (sym known ∙ e)) p
 
-module _ (op : ℕ) (memory : Memory) (address : ℕ) (type : ValType) (bytes : ℕ) (known : load_of op ≡ moves type bytes) where
+abbrev reading : ValType → ℕ → Bool → Access
+reading type bytes signed = record { value = type; bytes = bytes; signed = signed }
+
+module _ (op : ℕ) (memory : Memory) (address : ℕ) (type : ValType) (bytes : ℕ) where
   -- as it stands
-  whole : (found : Option ℕ) → ((n : ℕ) → loaded op bytes n ≡ n) → ((n : ℕ) → n < 2 ^ (8 * bytes) → IsValue type n) → IsFound memory address bytes found
+  whole : load_of op ≡ Some (reading type bytes false) → (found : Option ℕ) → ((n : ℕ) → n < 2 ^ (8 * bytes) → IsValue type n) → IsFound memory address bytes found
       → Reads op memory address found
-  whole None same small r = reads_known op memory address None type bytes known (r.range.0 refl)
-  whole (Some n) same small r = reads_known op memory address (Some n) type bytes known (within_of n r.range, r.value ∙ sym (same (le_number (span memory address bytes))), small n r.narrow)
+  whole known None small r = reads_known op memory address None (reading type bytes false) known (r.range.0 refl)
+  whole known (Some n) small r = reads_known op memory address (Some n) (reading type bytes false) known (within_of n r.range, r.value, small n r.narrow)
 
   -- with its sign carried on
-  signed : (found : Option ℕ) (extended : ℕ → ℕ) → ((n : ℕ) → loaded op bytes n ≡ extended n) → ((n : ℕ) → n < 2 ^ (8 * bytes) → IsValue type (extended n)) → IsFound memory address bytes found
+  signed : load_of op ≡ Some (reading type bytes true) → (found : Option ℕ) (extended : ℕ → ℕ) → ((n : ℕ) → carried_on type bytes n ≡ extended n) → ((n : ℕ) → n < 2 ^ (8 * bytes) → IsValue type (extended n)) → IsFound memory address bytes found
       → Reads op memory address (option_map extended found)
-  signed None extended same small r = reads_known op memory address None type bytes known (r.range.0 refl)
-  signed (Some n) extended same small r =
-      reads_known op memory address (Some (extended n)) type bytes known (within_of n r.range, ap extended r.value ∙ sym (same (le_number (span memory address bytes))), small n r.narrow)
+  signed known None extended same small r = reads_known op memory address None (reading type bytes true) known (r.range.0 refl)
+  signed known (Some n) extended same small r =
+      reads_known op memory address (Some (extended n)) (reading type bytes true) known (within_of n r.range, ap extended r.value ∙ sym (same (le_number (span memory address bytes))), small n r.narrow)
 
 module _ (memory : Memory) (address : ℕ) (found : Option ℕ) where
   pub reads_i32 : IsFound memory address 4 found → Reads 0x28 memory address found
-  unfolding load_of
-  reads_i32 = whole 0x28 memory address I32 4 refl found (λ n. refl) (λ n h. h)
+  unfolding load_of meaning meaning_in opcodes
+  reads_i32 = whole 0x28 memory address I32 4 refl found (λ n h. h)
 
   pub reads_i64 : IsFound memory address 8 found → Reads 0x29 memory address found
-  unfolding load_of
-  reads_i64 = whole 0x29 memory address I64 8 refl found (λ n. refl) (λ n h. h)
+  unfolding load_of meaning meaning_in opcodes
+  reads_i64 = whole 0x29 memory address I64 8 refl found (λ n h. h)
 
   pub reads_i32_8_s : IsFound memory address 1 found → Reads 0x2c memory address (option_map (signed_32 1) found)
-  unfolding load_of
+  unfolding load_of meaning meaning_in opcodes
   reads_i32_8_s = signed 0x2c memory address I32 1 refl found (signed_32 1) (λ n. refl) (λ n h. omega (arith, ints))
 
   pub reads_i32_8_u : IsFound memory address 1 found → Reads 0x2d memory address found
-  unfolding load_of
-  reads_i32_8_u = whole 0x2d memory address I32 1 refl found (λ n. refl) (λ n h. omega arith)
+  unfolding load_of meaning meaning_in opcodes
+  reads_i32_8_u = whole 0x2d memory address I32 1 refl found (λ n h. omega arith)
 
   pub reads_i32_16_s : IsFound memory address 2 found → Reads 0x2e memory address (option_map (signed_32 2) found)
-  unfolding load_of
+  unfolding load_of meaning meaning_in opcodes
   reads_i32_16_s = signed 0x2e memory address I32 2 refl found (signed_32 2) (λ n. refl) (λ n h. omega (arith, ints))
 
   pub reads_i32_16_u : IsFound memory address 2 found → Reads 0x2f memory address found
-  unfolding load_of
-  reads_i32_16_u = whole 0x2f memory address I32 2 refl found (λ n. refl) (λ n h. omega arith)
+  unfolding load_of meaning meaning_in opcodes
+  reads_i32_16_u = whole 0x2f memory address I32 2 refl found (λ n h. omega arith)
 
   pub reads_i64_8_s : IsFound memory address 1 found → Reads 0x30 memory address (option_map (signed_64 1) found)
-  unfolding load_of
+  unfolding load_of meaning meaning_in opcodes
   reads_i64_8_s = signed 0x30 memory address I64 1 refl found (signed_64 1) (λ n. refl) (λ n h. omega (arith, ints))
 
   pub reads_i64_8_u : IsFound memory address 1 found → Reads 0x31 memory address found
-  unfolding load_of
-  reads_i64_8_u = whole 0x31 memory address I64 1 refl found (λ n. refl) (λ n h. omega arith)
+  unfolding load_of meaning meaning_in opcodes
+  reads_i64_8_u = whole 0x31 memory address I64 1 refl found (λ n h. omega arith)
 
   pub reads_i64_16_s : IsFound memory address 2 found → Reads 0x32 memory address (option_map (signed_64 2) found)
-  unfolding load_of
+  unfolding load_of meaning meaning_in opcodes
   reads_i64_16_s = signed 0x32 memory address I64 2 refl found (signed_64 2) (λ n. refl) (λ n h. omega (arith, ints))
 
   pub reads_i64_16_u : IsFound memory address 2 found → Reads 0x33 memory address found
-  unfolding load_of
-  reads_i64_16_u = whole 0x33 memory address I64 2 refl found (λ n. refl) (λ n h. omega arith)
+  unfolding load_of meaning meaning_in opcodes
+  reads_i64_16_u = whole 0x33 memory address I64 2 refl found (λ n h. omega arith)
 
   pub reads_i64_32_s : IsFound memory address 4 found → Reads 0x34 memory address (option_map (signed_64 4) found)
-  unfolding load_of
+  unfolding load_of meaning meaning_in opcodes
   reads_i64_32_s = signed 0x34 memory address I64 4 refl found (signed_64 4) (λ n. refl) (λ n h. omega (arith, ints))
 
   pub reads_i64_32_u : IsFound memory address 4 found → Reads 0x35 memory address found
-  unfolding load_of
-  reads_i64_32_u = whole 0x35 memory address I64 4 refl found (λ n. refl) (λ n h. omega arith)
+  unfolding load_of meaning meaning_in opcodes
+  reads_i64_32_u = whole 0x35 memory address I64 4 refl found (λ n h. omega arith)
 
 -- The opcodes of loads lie side by side, but for two of floats.
+load_between : (op : ℕ) (access : Access) → load_by_bounds op ≡ Some access → (0x28 ≤ op) × (op ≤ 0x35) × (op ≢ 0x2a) × (op ≢ 0x2b)
+unfolding load_by_bounds
+load_between op access e = (grind (arith, nat_tests), grind (arith, nat_tests), grind (arith, nat_tests), grind (arith, nat_tests))
+
 pub load_known : (op : ℕ) (access : Access) → load_of op ≡ Some access → (0x28 ≤ op) × (op ≤ 0x35) × (op ≢ 0x2a) × (op ≢ 0x2b)
-unfolding load_of
-load_known op access e = (grind (arith, nat_tests), grind (arith, nat_tests), grind (arith, nat_tests), grind (arith, nat_tests))
+load_known op access e = load_between op (record access { signed = false }) (load_within op access e)

@@ -1,9 +1,11 @@
 -- The types of the operations on numbers, by their groups.
-use Rattle.std.proofs.Common.{◌≡◌, ◌≢◌, ℕ, ◌<◌, ◌≤◌, ◌^◌, ◌⊎◌, List, [], ◌∷◌, Some, refl, sym, subst, inl, inr, arith}
+use Rattle.std.proofs.Common.{◌≡◌, ◌≢◌, ℕ, ◌<◌, ◌≤◌, ◌^◌, ◌⊎◌, List, [], ◌∷◌, Some, refl, sym, ◌∙◌, subst, inl, inr, arith}
 use Rattle.std.proofs.lemmas.Bool.Decides.{nat_tests}
-use Rattle.wasm_module.specs.declared.types.ValType.{ValType}
-use Rattle.wasm_module.specs.declared.types.ValType.TheVariants.{I32, I64}
-use Rattle.wasm_validate.specs.Operations.{Signature, signature_of}
+use Rattle.wasm_module.specs.declared.values.types.ValType.{ValType}
+use Rattle.wasm_module.specs.declared.values.types.ValType.TheVariants.{I32, I64}
+use Rattle.wasm_validate.specs.typing.Operations.{Signature, signature_of}
+use Rattle.wasm_validate.specs.inner.Ranges.{signature_by_bounds}
+use Rattle.wasm_validate.proofs.Ranges.{signature_is}
 use Rattle.wasm_numeric.specs.Opcodes.{IsFrom, IsUnary, IsBinary, IsCompare, IsConvert}
 use Rattle.wasm_steps.specs.Plain.{IsTest}
 use Rattle.wasm_soundness.specs.Typed.{IsValue}
@@ -11,6 +13,13 @@ use Rattle.wasm_soundness.specs.Typed.{IsValue}
 -- The operation takes operands of these types, and gives a result of that type.
 abbrev pub Takes : ℕ → List ValType → ValType → Type 0
 Takes op operands result = signature_of op ≡ Some (record { operands = operands; result = result })
+
+-- The same by the bounds of the opcodes.
+abbrev IsBounded : ℕ → List ValType → ValType → Type 0
+IsBounded op operands result = signature_by_bounds op ≡ Some (record { operands = operands; result = result })
+
+taken : (op : ℕ) (operands : List ValType) (result : ValType) → IsBounded op operands result → Takes op operands result
+taken op operands result e = signature_is op ∙ e
 
 -- A value of the type is one of 32 bits up to an opcode, and one of 64 bits behind it.
 pub record Fits (op last : ℕ) (type : ValType) : Type 0 where
@@ -23,58 +32,58 @@ fits_32 op last h = record { narrow = λ n v k. v; wide = λ n v w. v h }
 fits_64 : (op last : ℕ) → last < op → Fits op last I64
 fits_64 op last h = record { narrow = λ n v k. absurd (omega arith); wide = λ n v w. w }
 
-unary_32 : (op : ℕ) → IsFrom 0x67 0x69 op → Takes op (I32 ∷ []) I32
-unfolding signature_of
+unary_32 : (op : ℕ) → IsFrom 0x67 0x69 op → IsBounded op (I32 ∷ []) I32
+unfolding signature_by_bounds
 unary_32 op h = grind (arith, nat_tests)
 
-unary_64 : (op : ℕ) → IsFrom 0x79 0x7b op → Takes op (I64 ∷ []) I64
-unfolding signature_of
+unary_64 : (op : ℕ) → IsFrom 0x79 0x7b op → IsBounded op (I64 ∷ []) I64
+unfolding signature_by_bounds
 unary_64 op h = grind (arith, nat_tests)
 
-binary_32 : (op : ℕ) → IsFrom 0x6a 0x78 op → Takes op (I32 ∷ I32 ∷ []) I32
-unfolding signature_of
+binary_32 : (op : ℕ) → IsFrom 0x6a 0x78 op → IsBounded op (I32 ∷ I32 ∷ []) I32
+unfolding signature_by_bounds
 binary_32 op h = grind (arith, nat_tests)
 
-binary_64 : (op : ℕ) → IsFrom 0x7c 0x8a op → Takes op (I64 ∷ I64 ∷ []) I64
-unfolding signature_of
+binary_64 : (op : ℕ) → IsFrom 0x7c 0x8a op → IsBounded op (I64 ∷ I64 ∷ []) I64
+unfolding signature_by_bounds
 binary_64 op h = grind (arith, nat_tests)
 
-compare_32 : (op : ℕ) → IsFrom 0x46 0x4f op → Takes op (I32 ∷ I32 ∷ []) I32
-unfolding signature_of
+compare_32 : (op : ℕ) → IsFrom 0x46 0x4f op → IsBounded op (I32 ∷ I32 ∷ []) I32
+unfolding signature_by_bounds
 compare_32 op h = grind (arith, nat_tests)
 
-compare_64 : (op : ℕ) → IsFrom 0x51 0x5a op → Takes op (I64 ∷ I64 ∷ []) I32
-unfolding signature_of
+compare_64 : (op : ℕ) → IsFrom 0x51 0x5a op → IsBounded op (I64 ∷ I64 ∷ []) I32
+unfolding signature_by_bounds
 compare_64 op h = grind (arith, nat_tests)
 
 test_at : (op : ℕ) → IsTest op → (op ≡ 0x45) ⊎ (op ≡ 0x50)
 test_at op h = grind (arith, nat_tests)
 
-test_32 : Takes 0x45 (I32 ∷ []) I32
-unfolding signature_of
+test_32 : IsBounded 0x45 (I32 ∷ []) I32
+unfolding signature_by_bounds
 test_32 = refl
 
-test_64 : Takes 0x50 (I64 ∷ []) I32
-unfolding signature_of
+test_64 : IsBounded 0x50 (I64 ∷ []) I32
+unfolding signature_by_bounds
 test_64 = refl
 
-wraps : Takes 0xa7 (I64 ∷ []) I32
-unfolding signature_of
+wraps : IsBounded 0xa7 (I64 ∷ []) I32
+unfolding signature_by_bounds
 wraps = refl
 
-extends : (op : ℕ) → IsFrom 0xac 0xad op → Takes op (I32 ∷ []) I64
-unfolding signature_of
+extends : (op : ℕ) → IsFrom 0xac 0xad op → IsBounded op (I32 ∷ []) I64
+unfolding signature_by_bounds
 extends op h = grind (arith, nat_tests)
 
 -- ---- the groups
 
 pub takes_unary : (op : ℕ) → IsUnary op → (type : ValType) × Takes op (type ∷ []) type × Fits op 0x69 type
-takes_unary op (inl h) = (I32, unary_32 op h, fits_32 op 0x69 h.1)
-takes_unary op (inr h) = (I64, unary_64 op h, fits_64 op 0x69 (omega (arith, h)))
+takes_unary op (inl h) = (I32, taken op (I32 ∷ []) I32 (unary_32 op h), fits_32 op 0x69 h.1)
+takes_unary op (inr h) = (I64, taken op (I64 ∷ []) I64 (unary_64 op h), fits_64 op 0x69 (omega (arith, h)))
 
 pub takes_binary : (op : ℕ) → IsBinary op → (type : ValType) × Takes op (type ∷ type ∷ []) type × Fits op 0x78 type
-takes_binary op (inl h) = (I32, binary_32 op h, fits_32 op 0x78 h.1)
-takes_binary op (inr h) = (I64, binary_64 op h, fits_64 op 0x78 (omega (arith, h)))
+takes_binary op (inl h) = (I32, taken op (I32 ∷ I32 ∷ []) I32 (binary_32 op h), fits_32 op 0x78 h.1)
+takes_binary op (inr h) = (I64, taken op (I64 ∷ I64 ∷ []) I64 (binary_64 op h), fits_64 op 0x78 (omega (arith, h)))
 
 -- a test is a comparison
 pub compares_first : (op : ℕ) → IsTest op → IsCompare op
@@ -82,8 +91,8 @@ compares_first op h = elim (test_at op h) [ inl e ↦ inl (omega (arith, e)) | i
 
 pub takes_test : (op : ℕ) → IsTest op → (type : ValType) × Takes op (type ∷ []) I32 × Fits op 0x4f type
 takes_test op h = elim (test_at op h) [
-  | inl e ↦ (I32, subst (λ n. Takes n (I32 ∷ []) I32) (sym e) test_32, fits_32 op 0x4f (omega (arith, e)))
-  | inr e ↦ (I64, subst (λ n. Takes n (I64 ∷ []) I32) (sym e) test_64, fits_64 op 0x4f (omega (arith, e)))
+  | inl e ↦ (I32, taken op (I32 ∷ []) I32 (subst (λ n. IsBounded n (I32 ∷ []) I32) (sym e) test_32), fits_32 op 0x4f (omega (arith, e)))
+  | inr e ↦ (I64, taken op (I64 ∷ []) I32 (subst (λ n. IsBounded n (I64 ∷ []) I32) (sym e) test_64), fits_64 op 0x4f (omega (arith, e)))
 ]
 
 no_test_32 : (op : ℕ) → (IsTest op → ⊥) → op ≢ 0x45
@@ -93,8 +102,8 @@ no_test_64 : (op : ℕ) → (IsTest op → ⊥) → op ≢ 0x50
 no_test_64 op h e = h (grind (arith, nat_tests))
 
 pub takes_compare : (op : ℕ) → IsCompare op → (IsTest op → ⊥) → (type : ValType) × Takes op (type ∷ type ∷ []) I32 × Fits op 0x4f type
-takes_compare op (inl h) two = (I32, compare_32 op (omega (arith, h, no_test_32 op two), h.1), fits_32 op 0x4f h.1)
-takes_compare op (inr h) two = (I64, compare_64 op (omega (arith, h, no_test_64 op two), h.1), fits_64 op 0x4f (omega (arith, h)))
+takes_compare op (inl h) two = (I32, taken op (I32 ∷ I32 ∷ []) I32 (compare_32 op (omega (arith, h, no_test_32 op two), h.1)), fits_32 op 0x4f h.1)
+takes_compare op (inr h) two = (I64, taken op (I64 ∷ I64 ∷ []) I32 (compare_64 op (omega (arith, h, no_test_64 op two), h.1)), fits_64 op 0x4f (omega (arith, h)))
 
 -- the operand and the result of a conversion
 pub record Converts (op : ℕ) : Type 0 where
@@ -105,10 +114,13 @@ pub record Converts (op : ℕ) : Type 0 where
   pub wide : (n : ℕ) → (op ≡ 0xa7 → n < 2 ^ 32) → n < 2 ^ 64 → IsValue to n
 
 pub takes_convert : (op : ℕ) → IsConvert op → Converts op
-takes_convert op (inl e) = record { from = I64; to = I32; takes = subst (λ n. Takes n (I64 ∷ []) I32) (sym e) wraps; narrow = λ n v k. absurd (omega (arith, e, k)); wide = λ n v w. v e }
-takes_convert op (inr h) = record { from = I32; to = I64; takes = extends op h; narrow = λ n v k. v; wide = λ n v w. w }
+takes_convert op (inl e) = record { from = I64; to = I32; takes = taken op (I64 ∷ []) I32 (subst (λ n. IsBounded n (I64 ∷ []) I32) (sym e) wraps); narrow = λ n v k. absurd (omega (arith, e, k)); wide = λ n v w. v e }
+takes_convert op (inr h) = record { from = I32; to = I64; takes = taken op (I32 ∷ []) I64 (extends op h); narrow = λ n v k. v; wide = λ n v w. w }
 
 -- an operation that has a type is of one of the groups
+grouped_between : (op : ℕ) (signature : Signature) → signature_by_bounds op ≡ Some signature → IsFrom 0x45 0x5a op ⊎ IsFrom 0x67 0x8a op ⊎ IsConvert op
+unfolding signature_by_bounds
+grouped_between op signature h = grind (arith, nat_tests)
+
 pub grouped : (op : ℕ) (signature : Signature) → signature_of op ≡ Some signature → IsFrom 0x45 0x5a op ⊎ IsFrom 0x67 0x8a op ⊎ IsConvert op
-unfolding signature_of
-grouped op signature h = grind (arith, nat_tests)
+grouped op signature h = grouped_between op signature (sym (signature_is op) ∙ h)

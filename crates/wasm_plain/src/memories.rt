@@ -1,9 +1,10 @@
 // The instructions on the memory.
 ghost use Rattle.std.specs.Prelude.{◌≡◌, ◌+◌, ◌^◌, ◌<◌, ◌≤◌, IfSome, MatchOption, length};
 ghost use Rattle.std.specs.Prelude.{option_map};
-ghost use Rattle.wasm_module.specs.Syntax.{load as op_load, store as op_store, memory_size as op_memory_size};
-ghost use Rattle.wasm_module.specs.Syntax.{memory_grow as op_memory_grow};
-ghost use Rattle.wasm_validate.specs.Operations.{Access, load_of, store_of};
+ghost use Rattle.wasm_module.specs.values.Syntax.{load as op_load, store as op_store};
+ghost use Rattle.wasm_module.specs.values.Syntax.{memory_size as op_memory_size};
+ghost use Rattle.wasm_module.specs.values.Syntax.{memory_grow as op_memory_grow};
+ghost use Rattle.wasm_validate.specs.typing.Operations.{Access, load_of, store_of};
 ghost use Rattle.wasm_store.specs.Bytes.{IsWidth, le_number};
 ghost use Rattle.wasm_store.specs.Memory.{span};
 ghost use Rattle.wasm_steps.specs.Program.{Store};
@@ -50,7 +51,7 @@ fn value_at(pages: &Pages, op: u8, address: u64) -> Option<u64>
     ensures { (access : Access) → load_of op ≡ Some access
         → MatchOption result (length pages.now.bytes < address + access.bytes)
         (λ value. (address + access.bytes ≤ length pages.now.bytes)
-        × (value ≡ loaded op access.bytes (le_number (span pages.now address access.bytes)))
+        × (value ≡ loaded access (le_number (span pages.now address access.bytes)))
         × IsValue access.value value) }
 {
     match op {
@@ -144,7 +145,6 @@ pub fn store(
 
 // How many bytes the store of an opcode writes.
 #[inline]
-#[tactic(auto, unfolding(wasm_validate::specs::Operations::store_of))]
 fn stored_width(op: u8) -> u8
     requires { (access : Access) × (store_of op ≡ Some access) }
     ensures access { (access : Access) → store_of op ≡ Some access → result ≡ access.bytes }

@@ -2,12 +2,13 @@
 -- operands.
 use Rattle.std.specs.Prelude.{◌≡◌, ℕ, ◌+◌, ◌^◌, ◌<◌, ◌≤◌, List, [], ◌∷◌, ◌++◌, length, map, Option, Some}
 use Rattle.std.specs.Prelude.{slice_get}
-use Rattle.wasm_module.specs.Syntax.{Ops, no_ops, ops_nesting}
-use Rattle.wasm_module.specs.declared.types.ValType.{ValType}
-use Rattle.wasm_module.specs.declared.types.ValType.TheVariants.{I32, I64, F32, F64}
-use Rattle.wasm_module.specs.declared.types.FuncType.{FuncType}
-use Rattle.wasm_validate.specs.Context.{Context}
-use Rattle.wasm_validate.specs.Typing.{types_of, Typed, TypedBody}
+use Rattle.wasm_module.specs.values.Syntax.{Ops, no_ops, ops_nesting}
+use Rattle.wasm_module.specs.sections.Limits.{most_nesting}
+use Rattle.wasm_module.specs.declared.values.types.ValType.{ValType}
+use Rattle.wasm_module.specs.declared.values.types.ValType.TheVariants.{I32, I64, F32, F64}
+use Rattle.wasm_module.specs.declared.values.types.FuncType.{FuncType}
+use Rattle.wasm_validate.specs.typing.Context.{Context}
+use Rattle.wasm_validate.specs.typing.Typing.{types_of, Typed, TypedBody}
 use Rattle.wasm_steps.specs.Program.{Function, defined, type_of, Program, Store, most_frames, most_values}
 use Rattle.wasm_steps.specs.Threads.{Level, label, frame, Thread, arity, frame_count, size}
 
@@ -28,10 +29,9 @@ pub data AreValues : List ValType → List ℕ → Type 0 where
 
 -- ---- threads
 
--- A function holds at most so many blocks within one another, and has one label more: that of the function
--- itself.
+-- A function has a label for each of the blocks within one another that it may hold, and one of its own.
 abbrev pub most_labels : ℕ
-most_labels = 201
+most_labels = most_nesting + 1
 
 -- The context of a function with locals of these types and this result.
 abbrev pub inside : Context → List ValType → Option ValType → Context

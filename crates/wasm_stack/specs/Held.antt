@@ -1,17 +1,14 @@
 -- What contracts see of a stack: what a thread holds beside the instructions that it runs.
 use Rattle.std.specs.Prelude.{◌≡◌, ℕ, ◌*◌, ◌≤◌, List, [], ◌∷◌, ◌++◌, length, drop, take, reverse, replicate}
 use Rattle.std.specs.Prelude.{slice_set}
-use Rattle.wasm_module.specs.Syntax.{Ops}
+use Rattle.wasm_module.specs.values.Syntax.{Ops}
 use Rattle.wasm_steps.specs.Program.{most_frames}
 use Rattle.wasm_steps.specs.Threads.{Level, label, frame, Thread}
-
--- how many levels a function makes at most: 200 blocks, and its frame
-abbrev pub labels_a_frame : ℕ
-labels_a_frame = 201
+use Rattle.wasm_soundness.specs.Typed.{most_labels}
 
 -- how many blocks and frames stand at most
 abbrev pub most_controls : ℕ
-most_controls = most_frames * labels_a_frame
+most_controls = most_frames * most_labels
 
 -- The operands of the innermost block with the top first, the locals of the function, and the blocks and
 -- frames around, the innermost first.

@@ -3,14 +3,16 @@
 use Rattle.std.specs.Prelude.{◌≡◌, ◌≢◌, ℕ, ℤ, ◌+◌, ◌<◌, ◌≤◌, ◌==◌, ◌||◌, if◌then◌else◌, List, ◌∷◌, length}
 use Rattle.std.specs.Prelude.{Some, None, slice_get, slice_set, true, cond}
 use Rattle.std.specs.Int.{w8, w16, w32, w64, cast_signed, cast_unsigned}
-use Rattle.wasm_module.specs.Syntax.{Op, nop, unreachable, drop_value, select, local_get, local_set}
-use Rattle.wasm_module.specs.Syntax.{local_tee, global_get, global_set, load, store, memory_size, memory_grow}
-use Rattle.wasm_module.specs.Syntax.{i32_const, i64_const, numeric}
+use Rattle.wasm_module.specs.values.Syntax.{Op, nop, unreachable, drop_value, select, local_get, local_set}
+use Rattle.wasm_module.specs.values.Syntax.{local_tee, global_get, global_set, load, store, memory_size}
+use Rattle.wasm_module.specs.values.Syntax.{memory_grow, i32_const, i64_const, numeric}
+use Rattle.wasm_module.specs.declared.values.types.ValType.{ValType}
+use Rattle.wasm_module.specs.declared.values.types.ValType.TheVariants.{I32}
 use Rattle.wasm_numeric.specs.Opcodes.{IsUnary, IsBinary, IsCompare, IsConvert, unary_value, binary_value}
 use Rattle.wasm_numeric.specs.Opcodes.{compare_value, convert_value}
 use Rattle.wasm_store.specs.Bytes.{le_bytes, le_number}
 use Rattle.wasm_store.specs.Memory.{page_count, grown, span, written}
-use Rattle.wasm_validate.specs.Operations.{Access, load_of, store_of}
+use Rattle.wasm_validate.specs.typing.Operations.{Access, load_of, store_of}
 use Rattle.wasm_steps.specs.Program.{Store}
 use Rattle.wasm_steps.specs.declared.outcome.Trap.{Trap}
 use Rattle.wasm_steps.specs.declared.outcome.Trap.TheVariants as traps
@@ -37,12 +39,14 @@ signed_64 bytes n =
     if bytes == 1 then cast_unsigned w64 (cast_signed w8 n) else if bytes == 2
     then cast_unsigned w64 (cast_signed w16 n) else cast_unsigned w64 (cast_signed w32 n)
 
--- what a load makes of the number in its bytes: the signed ones of 8, 16 and 32 bits carry the sign on
-abbrev pub loaded : ℕ → ℕ → ℕ → ℕ
-loaded op bytes n =
-    if op == 0x2c || op == 0x2e then signed_32 bytes n
-    else if op == 0x30 || op == 0x32 || op == 0x34 then signed_64 bytes n
-    else n
+-- the same to the width of a type of integers
+abbrev pub carried_on : ValType → ℕ → ℕ → ℕ
+carried_on I32 bytes n = signed_32 bytes n
+carried_on _ bytes n = signed_64 bytes n
+
+-- what a load makes of the number in its bytes: a signed one carries the sign on to the width of its type
+abbrev pub loaded : Access → ℕ → ℕ
+loaded access n = if access.signed then carried_on access.value access.bytes n else n
 
 -- -1 as an i32: the answer of a growth that is refused
 abbrev pub refused : ℕ
@@ -106,7 +110,7 @@ pub data Does : Op → Data → Data → Type 0 where
       → a + offset + access.bytes ≤ length held.store.memory.bytes
       → Does (load op align offset) held (record held {
         operands =
-            loaded op access.bytes (le_number (span held.store.memory (a + offset) access.bytes)) ∷ below;
+            loaded access (le_number (span held.store.memory (a + offset) access.bytes)) ∷ below;
       })
   does_store : {held : Data} {op align offset a b : ℕ} {below : List ℕ} (access : Access)
       → store_of op ≡ Some access → held.operands ≡ b ∷ a ∷ below

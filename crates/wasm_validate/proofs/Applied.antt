@@ -5,15 +5,15 @@ use Rattle.std.proofs.lemmas.Bool.Decides.{leb_tells}
 use Rattle.std.proofs.Math.Dec.{leb}
 use Rattle.std.proofs.Math.Pow.{pow-lt, pow_mono}
 use Rattle.std.proofs.lemmas.Result.{IfOk-weaker}
-use Rattle.wasm_module.specs.Syntax.{Op, numeric, load, store}
-use Rattle.wasm_module.specs.declared.types.ValType.{ValType}
-use Rattle.wasm_module.specs.declared.types.ValType.TheVariants.{I32}
-use Rattle.wasm_validate.specs.Context.{Context}
-use Rattle.wasm_validate.specs.Operations.{Signature, signature_of, Access, load_of, store_of}
-use Rattle.wasm_validate.specs.Typing.{HasMemory, TypedOp, numeric_typed, load_typed, store_typed}
+use Rattle.wasm_module.specs.values.Syntax.{Op, numeric, load, store}
+use Rattle.wasm_module.specs.declared.values.types.ValType.{ValType}
+use Rattle.wasm_module.specs.declared.values.types.ValType.TheVariants.{I32}
+use Rattle.wasm_validate.specs.typing.Context.{Context}
+use Rattle.wasm_validate.specs.typing.Operations.{Signature, signature_of, Access, load_of, store_of}
+use Rattle.wasm_validate.specs.typing.Typing.{HasMemory, TypedOp, numeric_typed, load_typed, store_typed}
 use Rattle.wasm_validate.specs.inner.Stands.{State, Popped, Applies, Checks, Exactly}
 use Rattle.wasm_validate.specs.inner.Tables.{operands_of}
-use Rattle.wasm_validate.specs.declared.numbers.Operation.{Operation}
+use Rattle.wasm_validate.specs.declared.typing.numbers.Operation.{Operation}
 use Rattle.wasm_validate.proofs.Stacks.{popped_join, stop_later}
 use Rattle.wasm_validate.proofs.Images.{Only, only_checks}
 use Rattle.wasm_validate.proofs.Instructions.{only_numeric, only_load, only_store}

@@ -5,9 +5,9 @@ use Rattle.std.proofs.lemmas.List.Concat.{get_or-flat_map}
 use Rattle.std.proofs.lemmas.Grind.{flat_map-append}
 use Rattle.std.proofs.lemmas.Option.{slice_get-get_or}
 use Rattle.std.proofs.lemmas.Bool.Decides.{eqb_tells}
-use Rattle.wasm_module.specs.declared.types.ValType.{ValType}
-use Rattle.wasm_module.specs.declared.codes.LocalRun.{LocalRun}
-use Rattle.wasm_validate.specs.Context.{locals_of}
+use Rattle.wasm_module.specs.declared.values.types.ValType.{ValType}
+use Rattle.wasm_module.specs.declared.sections.codes.LocalRun.{LocalRun}
+use Rattle.wasm_validate.specs.typing.Context.{locals_of}
 use Rattle.wasm_validate.specs.inner.Runs.{reach, AreEnds, IsRunOf}
 
 one_run : (run : LocalRun) → length (locals_of (run ∷ [])) ≡ run.count

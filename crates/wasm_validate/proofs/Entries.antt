@@ -7,9 +7,9 @@ use Rattle.std.specs.Option.{option_eq}
 use Rattle.std.proofs.lemmas.Bool.Decides.{eqb_tells}
 use Rattle.std.proofs.Math.Dec.{eqb}
 use Rattle.wasm_validate.specs.inner.Stands.{Exactly, Fits, State, Popped, NotOnTop, Off, Bare, TopOff}
-use Rattle.wasm_module.specs.declared.types.ValType.{ValType}
-use Rattle.wasm_module.specs.declared.types.ValType.TheVariants.{I32, I64, F32, F64}
-use Rattle.wasm_module.specs.contracts.types.ValTypePartialEq.TheImpl.{eq-value}
+use Rattle.wasm_module.specs.declared.values.types.ValType.{ValType}
+use Rattle.wasm_module.specs.declared.values.types.ValType.TheVariants.{I32, I64, F32, F64}
+use Rattle.wasm_module.specs.contracts.values.types.ValTypePartialEq.TheImpl.{eq-value}
 use Rattle.wasm_validate.proofs.Stacks.{off_entry, popped_more, popped_anything, stop_none, stop_other}
 
 abbrev pub Entries : Type 0

@@ -2,15 +2,15 @@
 use Rattle.std.proofs.Common.{◌≡◌, ℕ, List, [], ◌∷◌, ◌++◌, map, refl, ap, sym, ◌∙◌, Option, None, length, take, ◌-◌, arith}
 use Rattle.std.proofs.lemmas.List.{append-nil}
 use Rattle.std.specs.List.{filter_map}
-use Rattle.wasm_module.specs.Entries.{global_view}
-use Rattle.wasm_module.specs.Sections.{module_view}
-use Rattle.wasm_module.specs.declared.imports.Import.{Import}
-use Rattle.wasm_module.specs.declared.globals.GlobalDef.{GlobalDef}
-use Rattle.wasm_module.specs.declared.module.Module.{Module}
-use Rattle.wasm_module.specs.declared.types.FuncType.{FuncType}
-use Rattle.wasm_module.specs.declared.types.Bounds.{Bounds}
-use Rattle.wasm_module.specs.declared.types.GlobalType.{GlobalType}
-use Rattle.wasm_validate.specs.Context.{Context, module_context, imported_func, imported_table, imported_memory, imported_global}
+use Rattle.wasm_module.specs.sections.Entries.{global_view}
+use Rattle.wasm_module.specs.sections.Sections.{module_view}
+use Rattle.wasm_module.specs.declared.sections.imports.Import.{Import}
+use Rattle.wasm_module.specs.declared.sections.globals.GlobalDef.{GlobalDef}
+use Rattle.wasm_module.specs.declared.sections.module.Module.{Module}
+use Rattle.wasm_module.specs.declared.values.types.FuncType.{FuncType}
+use Rattle.wasm_module.specs.declared.values.types.Bounds.{Bounds}
+use Rattle.wasm_module.specs.declared.values.types.GlobalType.{GlobalType}
+use Rattle.wasm_validate.specs.typing.Context.{Context, module_context, imported_func, imported_table, imported_memory, imported_global}
 
 pub gathered : {Y : Type 0} (h : Import → Option Y) (start imported middle new own own_there : List Y) (imports imports_there : List Import)
     → start ≡ [] → imported ≡ start ++ filter_map h imports_there → imports_there ≡ imports → middle ≡ imported ++ own_there → own_there ≡ own → new ≡ middle ++ []

@@ -1,11 +1,11 @@
 -- An instruction is checked exactly where the new stack stands for what the instruction makes of what the old one stands for.
 use Rattle.std.proofs.Common.{◌≡◌, List, [], ◌∷◌, ◌++◌, refl, ap, sym, ◌∙◌, subst, append_assoc, Bool, true, false, Option, Some}
 use Rattle.std.proofs.lemmas.List.{append-nil}
-use Rattle.wasm_module.specs.Syntax.{Op, drop_value, select}
-use Rattle.wasm_module.specs.declared.types.ValType.{ValType}
-use Rattle.wasm_module.specs.declared.types.ValType.TheVariants.{I32}
-use Rattle.wasm_validate.specs.Context.{Context}
-use Rattle.wasm_validate.specs.Typing.{TypedOp, drop_typed, select_typed}
+use Rattle.wasm_module.specs.values.Syntax.{Op, drop_value, select}
+use Rattle.wasm_module.specs.declared.values.types.ValType.{ValType}
+use Rattle.wasm_module.specs.declared.values.types.ValType.TheVariants.{I32}
+use Rattle.wasm_validate.specs.typing.Context.{Context}
+use Rattle.wasm_validate.specs.typing.Typing.{TypedOp, drop_typed, select_typed}
 use Rattle.wasm_validate.specs.inner.Stands.{open_end, entry, State, Means, Steps, framed, Popped, NotOnTop, Off, Bare, Joins, Applies, Image, NoImage, Checks, pushed}
 use Rattle.wasm_validate.proofs.Stacks.{inhabited, some_type, split_top, push_forth, push_back}
 

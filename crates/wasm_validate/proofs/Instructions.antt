@@ -1,14 +1,14 @@
 -- Which types each instruction can have, once what it names has been looked up.
 use Rattle.std.proofs.Common.{◌≡◌, ℕ, ◌≤◌, ◌^◌, ℤ, List, [], ◌∷◌, ◌++◌, refl, ap, sym, ◌∙◌, subst, true, false, Option, None, Some, slice_get, reverse, All}
-use Rattle.wasm_module.specs.Syntax.{Op, Ops, unreachable, nop, block, loop, if_else, br, br_if, br_table, return, call, call_indirect, local_get, local_set, local_tee, global_get, global_set, load, store, memory_size, memory_grow, i32_const, i64_const, numeric, float_memory, float_const, float_plain}
-use Rattle.wasm_module.specs.declared.instr.FloatBytes.{FloatBytes}
-use Rattle.wasm_module.specs.declared.types.ValType.{ValType}
-use Rattle.wasm_module.specs.declared.types.ValType.TheVariants.{I32, I64}
-use Rattle.wasm_module.specs.declared.types.FuncType.{FuncType}
-use Rattle.wasm_module.specs.declared.types.GlobalType.{GlobalType}
-use Rattle.wasm_validate.specs.Context.{Context}
-use Rattle.wasm_validate.specs.Operations.{Signature, signature_of, Access, load_of, store_of}
-use Rattle.wasm_validate.specs.Typing.{types_of, Takes, HasType, HasMemory, HasTable, TypedOp, Typed, unreachable_typed, nop_typed, i32_const_typed, i64_const_typed, numeric_typed, local_get_typed, local_set_typed, local_tee_typed, global_get_typed, global_set_typed, load_typed, store_typed, memory_size_typed, memory_grow_typed, call_typed, call_indirect_typed, return_typed, block_typed, loop_typed, if_typed, br_typed, br_if_typed, br_table_typed}
+use Rattle.wasm_module.specs.values.Syntax.{Op, Ops, unreachable, nop, block, loop, if_else, br, br_if, br_table, return, call, call_indirect, local_get, local_set, local_tee, global_get, global_set, load, store, memory_size, memory_grow, i32_const, i64_const, numeric, float_memory, float_const, float_plain}
+use Rattle.wasm_module.specs.declared.values.instr.FloatBytes.{FloatBytes}
+use Rattle.wasm_module.specs.declared.values.types.ValType.{ValType}
+use Rattle.wasm_module.specs.declared.values.types.ValType.TheVariants.{I32, I64}
+use Rattle.wasm_module.specs.declared.values.types.FuncType.{FuncType}
+use Rattle.wasm_module.specs.declared.values.types.GlobalType.{GlobalType}
+use Rattle.wasm_validate.specs.typing.Context.{Context}
+use Rattle.wasm_validate.specs.typing.Operations.{Signature, signature_of, Access, load_of, store_of}
+use Rattle.wasm_validate.specs.typing.Typing.{types_of, Takes, HasType, HasMemory, HasTable, TypedOp, Typed, unreachable_typed, nop_typed, i32_const_typed, i64_const_typed, numeric_typed, local_get_typed, local_set_typed, local_tee_typed, global_get_typed, global_set_typed, load_typed, store_typed, memory_size_typed, memory_grow_typed, call_typed, call_indirect_typed, return_typed, block_typed, loop_typed, if_typed, br_typed, br_if_typed, br_table_typed}
 use Rattle.wasm_validate.specs.inner.Stands.{State, Image}
 use Rattle.wasm_validate.proofs.Stacks.{popped_none}
 use Rattle.wasm_validate.proofs.Images.{Only, Leaves, only_image, leaves_image}

@@ -4,6 +4,7 @@ pub mod Instructions
 pub mod Lists
 pub mod Seen
 pub mod Applied
+pub mod Ranges
 pub mod Entries
 pub mod Ends
 pub mod Parts

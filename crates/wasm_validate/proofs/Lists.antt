@@ -1,10 +1,10 @@
 -- From one instruction to lists of them, and to the bodies of blocks.
 use Rattle.std.proofs.Common.{◌≡◌, List, [], ◌++◌, refl, sym, ◌∙◌, subst, false, Option}
-use Rattle.wasm_module.specs.Syntax.{Op, Ops, no_ops, next}
-use Rattle.wasm_validate.specs.Typing.{Typed, none_typed, next_typed}
-use Rattle.wasm_validate.specs.Context.{Context}
+use Rattle.wasm_module.specs.values.Syntax.{Op, Ops, no_ops, next}
+use Rattle.wasm_validate.specs.typing.Typing.{Typed, none_typed, next_typed}
+use Rattle.wasm_validate.specs.typing.Context.{Context}
 use Rattle.wasm_validate.specs.inner.Stands.{closed, State, Means, Steps, framed, Image, NoImage, Goes, Reached}
-use Rattle.wasm_module.specs.declared.types.ValType.{ValType}
+use Rattle.wasm_module.specs.declared.values.types.ValType.{ValType}
 use Rattle.wasm_validate.proofs.Stacks.{closed_only}
 
 -- What can be reached by all of the instructions from the old stack is what can be reached by the rest of them from the new one.

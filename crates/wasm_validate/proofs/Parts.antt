@@ -1,8 +1,8 @@
 -- Laws of the typing: instructions may be cut anywhere, types below stay.
 use Rattle.std.proofs.Common.{◌++◌, append_assoc, refl}
-use Rattle.wasm_module.specs.Syntax.{no_ops, next}
-use Rattle.wasm_validate.specs.Typing.{Typed, none_typed, next_typed}
-use Rattle.wasm_validate.specs.Laws.{MayBeCut, MayBeJoined, MayStandHigher, BeginsTyped}
+use Rattle.wasm_module.specs.values.Syntax.{no_ops, next}
+use Rattle.wasm_validate.specs.typing.Typing.{Typed, none_typed, next_typed}
+use Rattle.wasm_validate.specs.typing.Laws.{MayBeCut, MayBeJoined, MayStandHigher, BeginsTyped}
 
 pub stand_higher : MayStandHigher
 stand_higher cx labels ops from to below none_typed = none_typed

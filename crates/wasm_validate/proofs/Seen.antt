@@ -2,14 +2,14 @@
 use Rattle.std.proofs.Common.{◌≡◌, ℕ, suc, zero, ◌+◌, ◌≤◌, ◌<◌, List, [], ◌∷◌, length, get_or, drop, ap, sym, ◌∙◌, subst, arith, add-one, drop-cons, Bool, false, Option, None, Result, IfOk}
 use Rattle.std.proofs.lemmas.Result.{IfOk-weaker}
 use Rattle.std.proofs.Math.ListN.{drop_of_length-le}
-use Rattle.wasm_module.specs.Syntax.{Op, Ops, next, block, loop, if_else, nesting, ops_nesting}
-use Rattle.wasm_module.specs.View.{instr_view, items_view}
-use Rattle.wasm_validate.specs.Typing.{TypedOp, Typed, types_of, block_typed, loop_typed, if_typed}
-use Rattle.wasm_validate.specs.Context.{Context}
+use Rattle.wasm_module.specs.values.Syntax.{Op, Ops, next, block, loop, if_else, nesting, ops_nesting}
+use Rattle.wasm_module.specs.values.View.{instr_view, items_view}
+use Rattle.wasm_validate.specs.typing.Typing.{TypedOp, Typed, types_of, block_typed, loop_typed, if_typed}
+use Rattle.wasm_validate.specs.typing.Context.{Context}
 use Rattle.wasm_validate.specs.inner.Stands.{State, Means, Popped, Applies, Image, NoImage, Checks, Goes, Reached, pushed}
-use Rattle.wasm_module.specs.declared.types.ValType.{ValType}
-use Rattle.wasm_module.specs.declared.types.ValType.TheVariants.{I32}
-use Rattle.wasm_module.specs.declared.instr.Instr.{Instr}
+use Rattle.wasm_module.specs.declared.values.types.ValType.{ValType}
+use Rattle.wasm_module.specs.declared.values.types.ValType.TheVariants.{I32}
+use Rattle.wasm_module.specs.declared.values.instr.Instr.{Instr}
 use Rattle.wasm_validate.proofs.Stacks.{popped_none}
 use Rattle.wasm_validate.proofs.Images.{Only, only_checks, only_image, never}
 use Rattle.wasm_validate.proofs.Instructions.{only_block, only_loop, only_if, block_body, loop_body, if_bodies}

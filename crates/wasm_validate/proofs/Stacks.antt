@@ -2,8 +2,8 @@
 use Rattle.std.proofs.Common.{◌≡◌, List, [], ◌∷◌, ◌++◌, map, refl, ap, sym, ◌∙◌, subst, append_assoc, Bool, true, false, Option, None, Some}
 use Rattle.wasm_validate.specs.inner.Stands.{Fits, Stands, closed, open_end, entry, State, Means, Popped, NotOnTop, Off, Bare, Exactly, Ends}
 use Rattle.std.proofs.lemmas.List.{append-nil}
-use Rattle.wasm_module.specs.declared.types.ValType.{ValType}
-use Rattle.wasm_module.specs.declared.types.ValType.TheVariants.{I32}
+use Rattle.wasm_module.specs.declared.values.types.ValType.{ValType}
+use Rattle.wasm_module.specs.declared.values.types.ValType.TheVariants.{I32}
 
 -- a stack of entries stands for some stack
 pub inhabited : (o : Bool) (es : List (Option ValType)) → (types : List ValType) × Stands o es types

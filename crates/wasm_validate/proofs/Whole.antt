@@ -4,16 +4,16 @@ use Rattle.std.proofs.lemmas.List.{length-map}
 use Rattle.std.proofs.lemmas.Option.{slice_get-map, slice_get_within}
 use Rattle.std.proofs.lemmas.Result.{IfOk-weaker}
 use Rattle.std.proofs.Math.Seq.{take-append_seam}
-use Rattle.wasm_module.specs.Entries.{Function, code_view, global_view}
-use Rattle.wasm_module.specs.Syntax.{Ops}
-use Rattle.wasm_module.specs.Sections.{Syntax, module_view}
-use Rattle.wasm_module.specs.declared.codes.Code.{Code}
-use Rattle.wasm_module.specs.declared.exports.Export.{Export}
-use Rattle.wasm_module.specs.declared.module.Module.{Module}
-use Rattle.wasm_module.specs.declared.types.GlobalType.{GlobalType}
-use Rattle.wasm_validate.specs.Context.{Context, module_context, imported_globals}
+use Rattle.wasm_module.specs.sections.Entries.{Function, code_view, global_view}
+use Rattle.wasm_module.specs.values.Syntax.{Ops}
+use Rattle.wasm_module.specs.sections.Sections.{Syntax, module_view}
+use Rattle.wasm_module.specs.declared.sections.codes.Code.{Code}
+use Rattle.wasm_module.specs.declared.sections.exports.Export.{Export}
+use Rattle.wasm_module.specs.declared.sections.module.Module.{Module}
+use Rattle.wasm_module.specs.declared.values.types.GlobalType.{GlobalType}
+use Rattle.wasm_validate.specs.typing.Context.{Context, module_context, imported_globals}
 use Rattle.wasm_validate.specs.inner.Groups.{AreDeclared, AreMade, AreFunctions}
-use Rattle.wasm_validate.specs.Modules.{IsValid, IsFunction, NamesDiffer}
+use Rattle.wasm_validate.specs.modules.Modules.{IsValid, IsFunction, NamesDiffer}
 use Rattle.wasm_validate.specs.inner.Stands.{Exactly}
 
 -- the globals that are imported

@@ -2,6 +2,7 @@
 pub mod Adds
 pub mod Groups
 pub mod Tables
+pub mod Ranges
 pub mod Runs
 pub mod Scopes
 pub mod Stands

@@ -5,15 +5,15 @@ use Rattle.std.specs.Str.{IsUtf8}
 use Rattle.std.proofs.lemmas.Int.{ints}
 use Rattle.std.proofs.lemmas.List.Elements.{All-from_recursion}
 use Rattle.std.proofs.lemmas.Str.{IsUtf8-from_ascii}
-use Rattle.wasm_module.specs.Syntax.{Op, Ops}
-use Rattle.wasm_module.specs.View.{ops_of}
-use Rattle.wasm_module.specs.Instructions.{compares_i32, compares_i64, computes_i32, computes_i64, wraps, extends}
-use Rattle.wasm_module.specs.Entries.{Function}
-use Rattle.wasm_module.specs.Sections.{Spells}
-use Rattle.wasm_module.specs.declared.types.ValType.TheVariants.{I32}
-use Rattle.wasm_module.specs.declared.imports.Import.{Import}
-use Rattle.wasm_module.specs.declared.exports.Export.{Export}
-use Rattle.wasm_module.specs.declared.codes.LocalRun.{LocalRun}
+use Rattle.wasm_module.specs.values.Syntax.{Op, Ops}
+use Rattle.wasm_module.specs.values.View.{ops_of}
+use Rattle.wasm_module.proofs.Groups.{compares, computes, wraps, extends}
+use Rattle.wasm_module.specs.sections.Entries.{Function}
+use Rattle.wasm_module.specs.sections.Sections.{Spells}
+use Rattle.wasm_module.specs.declared.values.types.ValType.TheVariants.{I32}
+use Rattle.wasm_module.specs.declared.sections.imports.Import.{Import}
+use Rattle.wasm_module.specs.declared.sections.exports.Export.{Export}
+use Rattle.wasm_module.specs.declared.sections.codes.LocalRun.{LocalRun}
 use Rattle.wasm_encode.specs.Encodable.{AreInstructions, IsEncodable, IsExported, IsImported, IsSigned, IsU32, weight}
 use Rattle.wasm_encode.specs.inner.Gains.{IsSpelled}
 use Rattle.wasm_encode.proofs.Exists.{encodable_spelled}
@@ -41,13 +41,13 @@ sound_field object number p q = (p, (small number q, (lit< tt, tt)))
 sound_of_kind : (object kind : ℕ) → object < 2 ^ 32 → kind < 2 ^ 63 → Sound (of_kind object kind)
 unfolding of_kind
 sound_of_kind object kind p q =
-    joined (field object 1) _ (sound_field object 1 p (lit< tt)) (long kind q, (compares_i64 (lit≤ tt) (lit≤ tt), tt))
+    joined (field object 1) _ (sound_field object 1 p (lit< tt)) (long kind q, (compares (lit≤ tt) (lit≤ tt), tt))
 
 sound_own : (object : ℕ) → object < 2 ^ 32 → Sound (own object)
 unfolding own
 sound_own object p =
     joined (field object 5) _ (sound_field object 5 p (lit< tt))
-    (lit< tt, (extends (lit≤ tt) (lit≤ tt), (compares_i64 (lit≤ tt) (lit≤ tt), tt)))
+    (lit< tt, (extends (lit≤ tt) (lit≤ tt), (compares (lit≤ tt) (lit≤ tt), tt)))
 
 sound_both_fields : (number : ℕ) → number < 2 ^ 31 → Sound (both_fields number)
 unfolding both_fields
@@ -56,15 +56,15 @@ sound_both_fields number q =
 
 sound_in_room : Sound in_room
 unfolding in_room
-sound_in_room = joined (both_fields 2) _ (sound_both_fields 2 (lit< tt)) (compares_i64 (lit≤ tt) (lit≤ tt), tt)
+sound_in_room = joined (both_fields 2) _ (sound_both_fields 2 (lit< tt)) (compares (lit≤ tt) (lit≤ tt), tt)
 
 sound_to_next : (object : ℕ) → object < 2 ^ 32 → Sound (to_next object)
 unfolding to_next
-sound_to_next object p = (p, (small 1 (lit< tt), (computes_i32 (lit≤ tt) (lit≤ tt), (p, (lit< tt, tt)))))
+sound_to_next object p = (p, (small 1 (lit< tt), (computes (lit≤ tt) (lit≤ tt), (p, (lit< tt, tt)))))
 
 sound_is_seen : (object : ℕ) → object < 2 ^ 32 → Sound (is_seen object)
 unfolding is_seen
-sound_is_seen object p = (p, (lit< tt, (compares_i32 (lit≤ tt) (lit≤ tt), tt)))
+sound_is_seen object p = (p, (lit< tt, (compares (lit≤ tt) (lit≤ tt), tt)))
 
 sound_when : (code : List Op) → Sound code → Sound (when code)
 unfolding when
@@ -82,23 +82,23 @@ sound_source_sought : Sound source_sought
 unfolding source_sought
 sound_source_sought =
     joined (of_kind 1 1) _ (sound_of_kind 1 1 (lit< tt) (lit< tt))
-    (joined in_room _ sound_in_room (computes_i32 (lit≤ tt) (lit≤ tt), tt))
+    (joined in_room _ sound_in_room (computes (lit≤ tt) (lit≤ tt), tt))
 
 sound_spawn_sought : Sound spawn_sought
 unfolding spawn_sought
 sound_spawn_sought =
     joined (of_kind 1 4) _ (sound_of_kind 1 4 (lit< tt) (lit< tt))
     (joined (own 1) _ (sound_own 1 (lit< tt))
-    (computes_i32 (lit≤ tt) (lit≤ tt), joined in_room _ sound_in_room (computes_i32 (lit≤ tt) (lit≤ tt), tt)))
+    (computes (lit≤ tt) (lit≤ tt), joined in_room _ sound_in_room (computes (lit≤ tt) (lit≤ tt), tt)))
 
 sound_look : (sought : List Op) → Sound sought → Sound (look sought)
 unfolding look
 sound_look sought p =
     joined (is_seen 1) _ (sound_is_seen 1 (lit< tt))
     (joined sought _ p (
-      compares_i32 (lit≤ tt) (lit≤ tt),
+      compares (lit≤ tt) (lit≤ tt),
       (
-        computes_i32 (lit≤ tt) (lit≤ tt),
+        computes (lit≤ tt) (lit≤ tt),
         sound_when (to_next 1) (sound_to_next 1 (lit< tt)),
       ),
     ))
@@ -114,15 +114,15 @@ sound_both_ids =
 
 sound_on_code : (number : ℤ) (code : List Op) → IsSigned 32 number → Sound code → Sound (on_code number code)
 unfolding on_code
-sound_on_code number code p q = (lit< tt, (p, (compares_i32 (lit≤ tt) (lit≤ tt), sound_when code q)))
+sound_on_code number code p q = (lit< tt, (p, (compares (lit≤ tt) (lit≤ tt), sound_when code q)))
 
 sound_sign : (number : ℕ) → number < 2 ^ 31 → Sound (sign number)
 unfolding sign
 sound_sign number p =
     joined (both_fields number) _ (sound_both_fields number p) (
-      compares_i64 (lit≤ tt) (lit≤ tt),
+      compares (lit≤ tt) (lit≤ tt),
       joined (both_fields number) _ (sound_both_fields number p)
-          (compares_i64 (lit≤ tt) (lit≤ tt), (computes_i32 (lit≤ tt) (lit≤ tt), tt)),
+          (compares (lit≤ tt) (lit≤ tt), (computes (lit≤ tt) (lit≤ tt), tt)),
     )
 
 sound_direction : Sound direction
@@ -133,24 +133,24 @@ sound_direction = (
       (joined (sign 4) _ (sound_sign 4 (lit< tt)) (
         small 3 (lit< tt),
         (
-          computes_i32 (lit≤ tt) (lit≤ tt),
+          computes (lit≤ tt) (lit≤ tt),
           (
-            computes_i32 (lit≤ tt) (lit≤ tt),
+            computes (lit≤ tt) (lit≤ tt),
             (
               small 4 (lit< tt),
               (
-                computes_i32 (lit≤ tt) (lit≤ tt),
+                computes (lit≤ tt) (lit≤ tt),
                 (
                   small 4 (lit< tt),
                   (
-                    computes_i32 (lit≤ tt) (lit≤ tt),
+                    computes (lit≤ tt) (lit≤ tt),
                     (
                       extends (lit≤ tt) (lit≤ tt),
                       (
-                        computes_i64 (lit≤ tt) (lit≤ tt),
+                        computes (lit≤ tt) (lit≤ tt),
                         (
-                          wraps,
-                          (small 15 (lit< tt), (computes_i32 (lit≤ tt) (lit≤ tt), tt)),
+                          wraps refl,
+                          (small 15 (lit< tt), (computes (lit≤ tt) (lit≤ tt), tt)),
                         ),
                       ),
                     ),
@@ -197,7 +197,7 @@ sound_has_room : Sound has_room
 unfolding has_room
 sound_has_room =
     joined (field 0 8) _ (sound_field 0 8 (lit< tt) (lit< tt))
-    (joined (field 0 9) _ (sound_field 0 9 (lit< tt) (lit< tt)) (compares_i64 (lit≤ tt) (lit≤ tt), tt))
+    (joined (field 0 9) _ (sound_field 0 9 (lit< tt) (lit< tt)) (compares (lit≤ tt) (lit≤ tt), tt))
 
 sound_turn : Sound turn
 unfolding turn
@@ -210,7 +210,7 @@ sound_own_creep : Sound own_creep
 unfolding own_creep
 sound_own_creep =
     joined (of_kind 0 3) _ (sound_of_kind 0 3 (lit< tt) (lit< tt))
-    (joined (own 0) _ (sound_own 0 (lit< tt)) (computes_i32 (lit≤ tt) (lit≤ tt), tt))
+    (joined (own 0) _ (sound_own 0 (lit< tt)) (computes (lit≤ tt) (lit≤ tt), tt))
 
 sound_visit : Sound visit
 unfolding visit

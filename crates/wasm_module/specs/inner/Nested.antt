@@ -1,7 +1,8 @@
 -- Parts of instructions that hold others, up to a nesting: for the readers.
-use Rattle.std.specs.Prelude.{◌≡◌, ℕ, suc, ◌≤◌, ◌⊎◌, max, List, [], ◌∷◌, ◌++◌}
-use Rattle.wasm_module.specs.Syntax.{Op, Ops, no_ops, nesting, ops_nesting}
-use Rattle.wasm_module.specs.Instructions.{SpellsOp, SpellsOps, SpellsExpression}
+use Rattle.std.specs.Prelude.{◌≡◌, ℕ, suc, ◌+◌, ◌≤◌, ◌⊎◌, max, List, [], ◌∷◌, ◌++◌}
+use Rattle.wasm_module.specs.values.Syntax.{Op, Ops, no_ops, nesting, ops_nesting}
+use Rattle.wasm_module.specs.values.Instructions.{SpellsOp, SpellsOps, SpellsExpression}
+use Rattle.wasm_module.specs.sections.Limits.{most_nesting}
 
 -- An instruction that nests no deeper.
 abbrev pub SpellsShallow : ℕ → List ℕ → Op → Type 0
@@ -35,4 +36,4 @@ SpellsBody depth bytes body =
 
 -- An expression within the limit: at most 200 blocks within one another.
 abbrev pub SpellsLimited : List ℕ → Ops → Type 0
-SpellsLimited = SpellsInner 201
+SpellsLimited = SpellsInner (most_nesting + 1)

@@ -1,11 +1,11 @@
 -- Expressions of which a part was read: what is still to come, by the blocks that are open.
 use Rattle.std.specs.Prelude.{◌≡◌, ◌↔◌, ℕ, List, [], ◌∷◌, ◌++◌, Option, None, Some, reverse}
-use Rattle.wasm_module.specs.Syntax.{Ops}
-use Rattle.wasm_module.specs.Instructions.{SpellsOps}
-use Rattle.wasm_module.specs.declared.skim.Open.{Open}
-use Rattle.wasm_module.specs.declared.skim.Open.TheVariants.{Block, First}
-use Rattle.wasm_module.specs.declared.skim.Turn.{Turn}
-use Rattle.wasm_module.specs.declared.skim.Turn.TheVariants.{End, Else, Begin, Pass}
+use Rattle.wasm_module.specs.values.Syntax.{Ops}
+use Rattle.wasm_module.specs.values.Instructions.{SpellsOps}
+use Rattle.wasm_module.specs.declared.values.skim.Open.{Open}
+use Rattle.wasm_module.specs.declared.values.skim.Open.TheVariants.{Block, First}
+use Rattle.wasm_module.specs.declared.values.skim.Turn.{Turn}
+use Rattle.wasm_module.specs.declared.values.skim.Turn.TheVariants.{End, Else, Begin, Pass}
 
 -- The bytes go on to the end of each open block, the innermost of them first.
 pub data Closes : List Open → List ℕ → Type 0 where

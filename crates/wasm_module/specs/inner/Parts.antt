@@ -1,9 +1,9 @@
 -- How the sections that a reader found are seen, and what it read of them.
 use Rattle.std.specs.Prelude.{map}
-use Rattle.wasm_module.specs.Entries.{Global, Elements, Function, Data}
-use Rattle.wasm_module.specs.Sections.{Section, Syntax}
-use Rattle.wasm_module.specs.declared.parts.Parts.{Parts}
-use Rattle.wasm_module.specs.declared.sections.Section.{Section as Found}
+use Rattle.wasm_module.specs.sections.Entries.{Global, Elements, Function, Data}
+use Rattle.wasm_module.specs.sections.Sections.{Section, Syntax}
+use Rattle.wasm_module.specs.declared.sections.parts.Parts.{Parts}
+use Rattle.wasm_module.specs.declared.sections.outline.Section.{Section as Found}
 
 abbrev pub section_view : Found → Section
 section_view section = (section.number, section.content.now)

@@ -1,8 +1,8 @@
 -- What a context gains, behind what it has.
 use Rattle.std.specs.Prelude.{◌≡◌, ℕ, List, ◌++◌}
-use Rattle.wasm_module.specs.declared.types.Bounds.{Bounds}
-use Rattle.wasm_module.specs.declared.types.GlobalType.{GlobalType}
-use Rattle.wasm_validate.specs.Context.{Context}
+use Rattle.wasm_module.specs.declared.values.types.Bounds.{Bounds}
+use Rattle.wasm_module.specs.declared.values.types.GlobalType.{GlobalType}
+use Rattle.wasm_validate.specs.typing.Context.{Context}
 
 pub record Adds (old new : Context) (more_funcs : List ℕ) (more_tables more_memories : List Bounds)
     (more_globals : List GlobalType) : Type 0 where

@@ -1,7 +1,7 @@
 -- Where the runs of locals end.
 use Rattle.std.specs.Prelude.{◌≡◌, ℕ, ◌+◌, ◌-◌, ◌^◌, ◌<◌, ◌≤◌, min, List, length, take, slice_get, Some}
-use Rattle.wasm_module.specs.declared.codes.LocalRun.{LocalRun}
-use Rattle.wasm_validate.specs.Context.{locals_of}
+use Rattle.wasm_module.specs.declared.sections.codes.LocalRun.{LocalRun}
+use Rattle.wasm_validate.specs.typing.Context.{locals_of}
 
 -- How many locals so many runs from the first on say.
 abbrev pub reach : List LocalRun → ℕ → ℕ

@@ -2,10 +2,10 @@
 -- the set for the new stack is the
 -- image, under the rules of typing, of the set for the old one.
 use Rattle.std.specs.Prelude.{◌≡◌, List, [], ◌∷◌, ◌++◌, map, Option, None, Some, Bool, true, false}
-use Rattle.wasm_module.specs.Syntax.{Op, Ops}
-use Rattle.wasm_module.specs.declared.types.ValType.{ValType}
-use Rattle.wasm_validate.specs.Context.{Context}
-use Rattle.wasm_validate.specs.Typing.{TypedOp, Typed}
+use Rattle.wasm_module.specs.values.Syntax.{Op, Ops}
+use Rattle.wasm_module.specs.declared.values.types.ValType.{ValType}
+use Rattle.wasm_validate.specs.typing.Context.{Context}
+use Rattle.wasm_validate.specs.typing.Typing.{TypedOp, Typed}
 
 -- A test that is exact.
 abbrev pub Exactly : Type 0 → Bool → Type 0

@@ -1,12 +1,12 @@
 -- What the values of the code's tables stand for.
 use Rattle.std.specs.Prelude.{ℕ, ◌^◌, List, [], ◌∷◌, true, false, Bool, Option, Some, None}
-use Rattle.wasm_module.specs.declared.types.ValType.{ValType}
-use Rattle.wasm_validate.specs.Operations.{Signature, Access}
-use Rattle.wasm_validate.specs.Context.{Context}
-use Rattle.wasm_validate.specs.Typing.{HasType}
-use Rattle.wasm_module.specs.declared.types.FuncType.{FuncType}
-use Rattle.wasm_validate.specs.declared.numbers.Operation.{Operation}
-use Rattle.wasm_validate.specs.declared.memories.Move.{Move}
+use Rattle.wasm_module.specs.declared.values.types.ValType.{ValType}
+use Rattle.wasm_validate.specs.typing.Operations.{Signature, Access}
+use Rattle.wasm_validate.specs.typing.Context.{Context}
+use Rattle.wasm_validate.specs.typing.Typing.{HasType}
+use Rattle.wasm_module.specs.declared.values.types.FuncType.{FuncType}
+use Rattle.wasm_validate.specs.declared.typing.numbers.Operation.{Operation}
+use Rattle.wasm_validate.specs.declared.typing.memories.Move.{Move}
 
 abbrev pub operands_of : ValType → Bool → List ValType
 operands_of operand true = operand ∷ operand ∷ []
@@ -16,9 +16,9 @@ abbrev pub signature_view : Operation → Signature
 signature_view operation =
     record { operands = operands_of operation.operand operation.is_binary; result = operation.value }
 
--- The bytes that are moved are a power of two.
+-- The bytes that are moved are a power of two. The sign, which no type shows, is left out.
 abbrev pub access_view : Move → Access
-access_view access = record { value = access.value; bytes = 2 ^ access.power }
+access_view access = record { value = access.value; bytes = 2 ^ access.power; signed = false }
 
 -- What a look-up of the type of a function finds.
 abbrev pub Finds : Context → ℕ → Option FuncType → Type 0

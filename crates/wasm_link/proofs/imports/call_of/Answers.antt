@@ -1,16 +1,16 @@
-use Rattle.std.proofs.Common.{◌≡◌, ◌∙◌, ℕ, List, refl, sym, Bool, true, false, not}
-use Rattle.std.specs.Str.{bytes_eq}
-use Rattle.std.proofs.lemmas.Slice.Eq.{bytes_eq-Decides}
-use Rattle.wasm_link.proofs.Names.{call_named}
+use Rattle.std.proofs.Common.{arith}
+use Rattle.std.proofs.lemmas.Option.{slice_get_within, slice_get-get_or}
+use Rattle.wasm_link.proofs.Names.{exactly_true, exactly_false, found_here, none_more, unknown}
 use Rattle.wasm_link.proofs.imports.call_of.Goals as goal
 
-turned : (b : Bool) → not b ≡ false → b ≡ true
-turned true e = refl
-turned false e = absurd cc
+pub returns-then-has_names : goal.returns-then-has_names
+returns-then-has_names c = found_here c.args.sigs.now c.args.entry.now c.loop-at.at _ (slice_get-get_or c.args.sigs.now c.loop-at.at _ c.loop-at-test.true) c.loop-at.invariant.before (exactly_true c.has_names.result c.has_names.ensures c.if-has_names.true)
 
-equal : (r : Bool) (a b : List ℕ) → r ≡ not (bytes_eq a b) → r ≡ false → a ≡ b
-equal r a b e f = (bytes_eq-Decides a b).0 (turned (bytes_eq a b) (sym e ∙ f))
+pub loop-at-preserved : goal.loop-at-preserved
+loop-at-preserved c = record {
+  within = omega (arith, c.loop-at-test.true);
+  before = none_more c.args.sigs.now c.args.entry.now c.loop-at.at _ (slice_get-get_or c.args.sigs.now c.loop-at.at _ c.loop-at-test.true) c.loop-at.invariant.before (exactly_false c.has_names.result c.has_names.ensures c.if-has_names.false);
+}
 
 pub returns : goal.returns
-returns c = call_named c.args.sigs.now c.args.entry.now c.as_slice-3.result.now c.first_of.result
-    (sym c.as_slice.ensures ∙ equal c.ne.result c.as_slice.result.now c.as_slice-2.result.now c.ne.ensures c.if-ne.false ∙ c.as_slice-2.ensures) c.as_slice-3.ensures c.first_of.ensures
+returns c = unknown c.args.sigs.now c.args.entry.now (λ number sig e h. c.loop-at.invariant.before number sig (let w = slice_get_within c.args.sigs.now number sig e in omega (arith, w, c.loop-at-test.false)) e h)

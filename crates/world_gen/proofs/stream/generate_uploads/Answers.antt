@@ -1,4 +1,4 @@
-use Rattle.wasm_module.specs.Sections.{module_view}
+use Rattle.wasm_module.specs.sections.Sections.{module_view}
 use Rattle.world_gen.specs.Generator.{players_of}
 use Rattle.world_gen.proofs.Streamed.{uploads_are, uploads_found}
 use Rattle.world_gen.proofs.stream.generate_uploads.Goals as goal

@@ -1,0 +1,55 @@
+// A module, and why bytes are refused as one.
+use crate::sections::codes::Codes;
+use crate::sections::elements::Elements;
+use crate::sections::exports::Exports;
+use crate::sections::globals::Globals;
+use crate::sections::imports::Imports;
+use crate::sections::segments::Segments;
+use crate::values::entry_lists::Indices;
+use crate::values::types::{FuncTypes, MemoryTypes, TableTypes};
+
+/// A module: WebAssembly Core 1.0, chapter 2.5. Custom sections are not kept.
+#[derive(Drop)]
+pub struct Module {
+    pub types: FuncTypes,
+    pub imports: Imports,
+    /// The index of its type for each function that the module defines.
+    pub funcs: Indices,
+    pub tables: TableTypes,
+    pub memories: MemoryTypes,
+    pub globals: Globals,
+    pub exports: Exports,
+    /// The index of the function that runs before all others.
+    pub start: Option<u32>,
+    pub elements: Elements,
+    /// One for each entry of `funcs`, where the module was decoded.
+    pub codes: Codes,
+    pub segments: Segments,
+}
+
+/// A limit of what is taken as a module.
+#[derive(Clone, Copy, Debug, PartialEq, Eq)]
+pub enum Limit {
+    /// 1 MiB.
+    Bytes,
+    /// 10,000 functions.
+    Functions,
+    /// Blocks within one another, 200.
+    Nesting,
+    /// 65,536 locals of a function, its parameters counted.
+    Locals,
+    /// A memory's least size, 256 pages.
+    Pages,
+    /// A table's least size, 65,536 entries.
+    TableEntries,
+}
+
+/// Why bytes are not taken as a module.
+#[derive(Clone, Copy, Debug, PartialEq, Eq)]
+pub enum DecodeFault {
+    /// They spell no module.
+    Malformed,
+    /// They pass this limit, and none before it in the list.
+    TooLarge(Limit),
+    Memory,
+}

@@ -1,0 +1,15 @@
+use Rattle.std.proofs.Common.{[], ◌∷◌}
+use Rattle.wasm_module.specs.values.Syntax.{memory_size}
+use Rattle.wasm_module.specs.declared.values.types.ValType.TheVariants.{I32}
+use Rattle.wasm_validate.specs.typing.Typing.{memory_size_typed}
+use Rattle.wasm_validate.specs.inner.Scopes.{scope_view}
+use Rattle.wasm_validate.proofs.Images.{never}
+use Rattle.wasm_validate.proofs.Applied.{any_applied}
+use Rattle.wasm_validate.proofs.Instructions.{only_memory_size, no_memory_size}
+use Rattle.wasm_validate.proofs.typing.memories.memory_size.Goals as goal
+
+pub returns-then-not-has_memory : goal.returns-then-not-has_memory
+returns-then-not-has_memory c = λ labels. never _ (no_memory_size c.if-not-has_memory.ensures)
+
+pub returns : goal.returns
+returns c = any_applied c.apply.result (scope_view c.args.scope.now) memory_size [] (I32 ∷ []) c.args.operands.now c.apply.new.self (λ labels. memory_size_typed c.if-not-has_memory.ensures) (λ labels. only_memory_size) c.apply.ensures

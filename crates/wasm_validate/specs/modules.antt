@@ -1,0 +1,3 @@
+-- The rules of whole modules.
+pub mod Modules
+pub mod Floats

@@ -1,0 +1,33 @@
+// The functions of a module, one by one.
+ghost use Rattle.std.specs.Prelude.{IfOk, length};
+ghost use Rattle.wasm_validate.specs.inner.Groups.{AreFunctions};
+ghost use Rattle.wasm_validate.specs.typing.Views.{context_view};
+ghost use Rattle.wasm_validate.specs.inner.Stands.{Exactly};
+
+use crate::typing::body::is_function;
+use crate::typing::context::Context;
+use crate::typing::workspace::Workspace;
+use std::alloc::{AllocError, Global};
+use wasm_module::Code;
+
+/// Whether each code is that of a function of the type beside it.
+pub(crate) fn are_functions(
+    alloc: Global,
+    context: &Context,
+    kinds: &[u32],
+    codes: &[Code],
+) -> Result<bool, AllocError>
+    ensures { IfOk result
+        (λ b. Exactly (AreFunctions (context_view context.now) kinds.now codes.now (length kinds.now)) b) }
+{
+    let mut work = Workspace::new(alloc);
+    let mut at = 0usize;
+    let count = kinds.len().min(codes.len());
+    while at < count {
+        if !is_function(&mut work, context, kinds[at], &codes[at])? {
+            return Ok(false);
+        }
+        at += 1;
+    }
+    Ok(true)
+}
