@@ -61,6 +61,15 @@ impl CountedRecord {
         })
     }
 
+    /// Makes it a player's record with no entry, in the room that it has.
+    pub fn clear(&mut self, player: u32)
+        ensures { self.new ≡ record { player = player; entries = [] } }
+    {
+        self.book.clear(player);
+        self.planned.clear();
+        self.claims = 0;
+    }
+
     /// Takes out the entry of the same action and actor, where there is one, and adds the new one at
     /// the end. It changes nothing, and answers false, exactly where the record is full and no entry
     /// has that action and actor. It takes no memory.
@@ -97,6 +106,13 @@ impl CountedRecord {
         // No two entries are of one action and actor, and there are no more than a record takes.
         let _len = self.book.len();
         count_elsewhere(&self.planned, tile, number)
+    }
+
+    /// The record alone, lent.
+    pub fn recorded(&self) -> &Recorded
+        ensures { result.now ≡ self.now }
+    {
+        &self.book
     }
 
     /// The record alone.

@@ -1,7 +1,7 @@
 -- How many arguments a call has, by its signature.
 use Rattle.std.proofs.Common.{◌≡◌, ℕ, zero, suc, List, [], ◌∷◌, length, ap, refl, Some}
 use Rattle.std.specs.Prelude.{option_map, slice_get}
-use Rattle.wasm_module.specs.declared.types.ValType.{ValType}
+use Rattle.wasm_module.specs.declared.values.types.ValType.{ValType}
 use Rattle.wasm_module.specs.declared.host_sig.HostSig.{HostSig}
 use Rattle.host_calls.specs.declared.call.Call.{Call}
 use Rattle.host_calls.specs.Calls.{AreSignatures, row}

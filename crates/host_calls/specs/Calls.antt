@@ -1,7 +1,7 @@
 -- The calls of a module to its host, each with a row of its own. A call's number is its place in the list.
 use Rattle.std.specs.Prelude.{◌≡◌, ℕ, List, [], ◌∷◌, codes, Option, Some, slice_get}
-use Rattle.wasm_module.specs.declared.types.ValType.{ValType}
-use Rattle.wasm_module.specs.declared.types.ValType.TheVariants.{I32, I64}
+use Rattle.wasm_module.specs.declared.values.types.ValType.{ValType}
+use Rattle.wasm_module.specs.declared.values.types.ValType.TheVariants.{I32, I64}
 use Rattle.wasm_module.specs.declared.host_sig.HostSig.{HostSig}
 use Rattle.host_calls.specs.declared.call.Call.{Call}
 use Rattle.host_calls.specs.declared.call.Call.TheVariants as call
@@ -21,8 +21,11 @@ all_calls =
 abbrev pub call_at : ℕ → Option Call
 call_at number = slice_get all_calls number
 
--- a call: the name by which a module imports it, from the module `screeps`, the types of its arguments, and
--- the type of its answer
+-- the name of the module that the calls are imported from
+abbrev pub host_module : List ℕ
+host_module = codes "screeps"
+
+-- a call: the name by which a module imports it, the types of its arguments, and the type of its answer
 pub record Row : Type 0 where
   pub name : List ℕ
   pub params : List ValType
@@ -74,6 +77,7 @@ row call.Move = record { name = codes "move"; params = I64 ∷ I32 ∷ []; resul
 
 -- The signature is that of the call.
 pub record IsSignature (sig : HostSig) (of : Call) : Type 0 where
+  pub host : sig.module.now ≡ host_module
   pub name : sig.name.now ≡ (row of).name
   pub params : sig.params.now ≡ (row of).params
   pub result_is : sig.result ≡ Some (row of).result

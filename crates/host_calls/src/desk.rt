@@ -18,6 +18,7 @@ ghost use Rattle.host_calls.specs.inner.Wishes.{named, recorded};
 use crate::call::Call;
 use crate::making::{body_in, plan_seen, removal_wish, site_wish, spawn_wish};
 use crate::number::{answer_of, argument, id_of, level_of, name_number, unsigned_32};
+use crate::room::DeskRoom;
 use crate::seen::{allowance, field, ground, place, room_index, room_name, standing};
 use crate::signatures::parameters;
 use crate::wish::{scene_seen, wish_of};
@@ -82,13 +83,36 @@ impl<'a, 'v> Desk<'a, 'v> {
               memory = memory.now;
             }) }
     {
-        let mut text = Vec::with_capacity(alloc, most_memory() as usize)?;
-        text.extend_from_slice(memory)?;
+        Desk::over(alloc, view, player, memory, DeskRoom::new(alloc)?)
+    }
+
+    /// The same in the room of an earlier desk, of which nothing is left.
+    pub fn over(
+        alloc: Global,
+        view: &'a View<'v>,
+        player: u32,
+        memory: &[u8],
+        room: DeskRoom,
+    ) -> Result<Desk<'a, 'v>, NoMemory>
+        requires own { player ≡ view.now.account.player }
+        requires memory { length memory.now ≤ most_memory }
+        ensures { IfOk result
+            (λ desk. desk ≡ record {
+              sight = view.now;
+              book = record { player = player; entries = [] };
+              memory = memory.now;
+            }) }
+    {
+        let census = Census::of(alloc, view)?;
+        let DeskRoom { mut book, mut text } = room;
+        book.clear(player);
+        text.clear();
+        text.extend_from_slice(memory).unwrap();
         Ok(Desk {
             view,
             level: level_of(view.account().points),
-            book: CountedRecord::reserve(alloc, player)?,
-            census: Census::of(alloc, view)?,
+            book,
+            census,
             memory: text,
         })
     }
@@ -102,6 +126,21 @@ impl<'a, 'v> Desk<'a, 'v> {
             Some(found) if parameters(call) == Some(args.len()) => self.reply(found, args, pages),
             _ => told(Code::InvalidArgs),
         }
+    }
+
+    /// What the player wants.
+    pub fn book(&self) -> &Recorded
+        ensures { result.now ≡ self.now.book }
+    {
+        self.book.recorded()
+    }
+
+    /// The player's memory text.
+    pub fn memory(&self) -> &[u8]
+        ensures text { result.now ≡ self.now.memory }
+        ensures most { length result.now ≤ most_memory }
+    {
+        &self.memory
     }
 
     /// What the player wants, and his memory text. It takes no memory.
@@ -118,6 +157,18 @@ impl<'a, 'v> Desk<'a, 'v> {
             memory,
         } = self;
         (book.into_recorded(), Bytes::from_vec(memory))
+    }
+
+    /// The room in which it worked, for another desk.
+    pub fn into_room(self) -> DeskRoom {
+        let Desk {
+            view: _,
+            level: _,
+            book,
+            census: _,
+            memory: text,
+        } = self;
+        DeskRoom { book, text }
     }
 
     // Answers a call with as many arguments as its type has.

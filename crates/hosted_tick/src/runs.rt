@@ -13,11 +13,11 @@ use crate::hosted::NoMemory;
 use crate::modules::Modules;
 use intent_book::PlayerRun;
 use object_store::{Account, World};
-use player_run::run_player_among;
+use player_run::{RunRoom, run_player_in};
 use std::alloc::Global;
 use world_roster::Roster;
 
-/// Runs each player that has a module on the same world, in rising player.
+/// Runs each player that has a module on the same world, in rising player, all in one room.
 pub(crate) fn run_all(
     alloc: Global,
     world: &World,
@@ -34,19 +34,21 @@ pub(crate) fn run_all(
     ensures short { IfOk result
         (λ runs. AllByRecursion (λ run. length run.memory ≤ most_memory) runs.items) }
 {
+    let mut room = RunRoom::new(alloc)?;
     let mut runs = Vec::new(alloc);
     for account in world.account_list() {
-        add_run(alloc, world, roster, modules, account, &mut runs)?;
+        add_run(alloc, &mut room, world, roster, modules, account, &mut runs)?;
     }
     Ok(runs)
 }
 
 // Adds the run of an account's player, if he has a module.
-fn add_run(
+fn add_run<'a>(
     alloc: Global,
+    room: &mut RunRoom<'a>,
     world: &World,
     roster: &Roster,
-    modules: &Modules,
+    modules: &'a Modules,
     account: &Account,
     runs: &mut Vec<PlayerRun>,
 ) -> Result<(), NoMemory>
@@ -56,10 +58,10 @@ fn add_run(
     requires account { find_account account.now.player world.now.accounts ≡ Some account.now }
     ensures { OnOk result
         (Adds (world_of world.now)
-        (modules_of modules.now.entries) account.now runs.old.items runs.new.items) }
+        (modules_of modules.entry.now.entries) account.now runs.old.items runs.new.items) }
 {
     if let Some(module) = modules.get(&account.player) {
-        let run = run_player_among(alloc, &module.linked, world, roster, account.player)?;
+        let run = run_player_in(alloc, room, &module.linked, world, roster, account.player)?;
         runs.push(run)?;
     }
     Ok(())

@@ -1,3 +1,4 @@
 pub mod Canonical
+pub mod Moved
 pub mod Numbers
 pub mod Orders

@@ -6,12 +6,12 @@
 // him choose an actor freely would let him choose keys that collide, and each look-up of his would
 // go through up to all entries of his record.
 ghost use Rattle.std.specs.Prelude.{◌≡◌, ℕ, ◌+◌, ◌<◌, ◌≤◌, ◌||◌, [], is_some, nat_lt, if◌then◌else◌};
-ghost use Rattle.std.specs.Prelude.{vec_capacity};
+ghost use Rattle.std.specs.Prelude.{vec_capacity, IsPermutation, IsSortedByKey};
 ghost use Rattle.indexmap.specs.IndexMap.{index_map_len, spare, get, insert_entry, IsUnique, with_value_at};
 ghost use Rattle.intent_book.specs.inner.Numbered.{Finds, IsKept, intents, listed, lower as lowest};
-ghost use Rattle.intent_book.specs.Records.{entries_bound, place, place_eq};
+ghost use Rattle.intent_book.specs.Records.{entries_bound, place, place_cmp, place_eq};
 
-use crate::intent::Intent;
+use crate::intent::{Intent, Intents};
 use crate::recorded::most_entries;
 use indexmap::IndexMap;
 
@@ -137,8 +137,21 @@ fn lower(least: Option<(usize, Kept)>, other: (usize, Kept)) -> Option<(usize, K
     }
 }
 
+/// The intents by action and then by actor, in an empty list that has the room for them.
+pub fn arranged(entries: &Entries, mut list: Vec<Intent>) -> Intents
+    requires empty { list.items ≡ [] }
+    requires room { index_map_len entries.now ≤ vec_capacity list }
+    ensures same { IsPermutation (intents entries.now.entries) result }
+    ensures sorted { IsSortedByKey place place_cmp result }
+    ensures unique { IsUnique place_eq entries.now }
+{
+    pour(entries, &mut list);
+    list.sort_unstable_by_key(|intent| intent.place());
+    Intents::of(list)
+}
+
 /// Adds the intents to an empty list that has the room for them.
-pub fn pour(entries: &Entries, list: &mut Vec<Intent>)
+fn pour(entries: &Entries, list: &mut Vec<Intent>)
     requires empty { list.old.items ≡ [] }
     requires room { index_map_len entries.now ≤ vec_capacity list.old }
     ensures items { list.new.items ≡ intents entries.now.entries }

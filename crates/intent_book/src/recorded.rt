@@ -6,7 +6,7 @@ ghost use Rattle.game_tables.specs.Actions.{action_number};
 ghost use Rattle.intent_book.specs.Records.{AreOf, accepts, entries_bound, place, place_eq, place_cmp};
 ghost use Rattle.intent_book.specs.Records.{put_last, same_place};
 
-use crate::entries::{Entries, Kept, fresh, keep, next_kept, pour};
+use crate::entries::{Entries, Kept, arranged, fresh, keep, next_kept};
 use crate::intent::{Intent, Intents};
 use game_tables::Action;
 use indexmap::IndexMap;
@@ -58,6 +58,15 @@ impl Recorded {
             entries,
             canonical,
         })
+    }
+
+    /// Makes it a player's record with no entry, in the room that it has.
+    pub fn clear(&mut self, player: u32)
+        ensures { self.new ≡ record { player = player; entries = [] } }
+    {
+        self.player = player;
+        self.next = 0;
+        self.entries.clear();
     }
 
     /// Whose record it is.
@@ -148,10 +157,20 @@ impl Recorded {
             player: _,
             next: _,
             entries,
-            mut canonical,
+            canonical,
         } = self;
-        pour(&entries, &mut canonical);
-        canonical.sort_unstable_by_key(|intent| intent.place());
-        Intents::of(canonical)
+        arranged(&entries, canonical)
+    }
+
+    /// The entries by action and then by actor, in a list that has room for no more.
+    pub fn canonical(&self, alloc: Global) -> Result<Intents, NoMemory>
+        ensures same { IfOk result (IsPermutation self.now.entries) }
+        ensures sorted { IfOk result (IsSortedByKey place place_cmp) }
+        ensures distinct { IfOk result (IsDistinct same_place) }
+        ensures own { IfOk result (AreOf self.now.player) }
+        ensures most { IfOk result (λ list. length list ≤ entries_bound) }
+    {
+        let room = Vec::with_capacity(alloc, self.entries.len())?;
+        Ok(arranged(&self.entries, room))
     }
 }

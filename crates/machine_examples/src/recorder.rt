@@ -32,51 +32,61 @@ const ASKED32: u64 = 0x7654_3210_8000_0001;
 /// What this host offers, by the numbers above.
 pub(crate) const OFFERED: [HostSig; 10] = [
     HostSig {
+        module: "screeps",
         name: "see",
         params: &[ValType::I64],
         result: None,
     },
     HostSig {
+        module: "screeps",
         name: "see32",
         params: &[ValType::I32],
         result: None,
     },
     HostSig {
+        module: "screeps",
         name: "mix",
         params: &[ValType::I32, ValType::I64, ValType::I32],
         result: None,
     },
     HostSig {
+        module: "screeps",
         name: "mark",
         params: &[ValType::I32],
         result: None,
     },
     HostSig {
+        module: "screeps",
         name: "ask",
         params: &[],
         result: Some(ValType::I64),
     },
     HostSig {
+        module: "screeps",
         name: "ask32",
         params: &[],
         result: Some(ValType::I32),
     },
     HostSig {
+        module: "screeps",
         name: "sum",
         params: &[ValType::I32, ValType::I64],
         result: Some(ValType::I64),
     },
     HostSig {
+        module: "screeps",
         name: "sum32",
         params: &[ValType::I32, ValType::I32],
         result: Some(ValType::I32),
     },
     HostSig {
+        module: "screeps",
         name: "write",
         params: &[ValType::I32, ValType::I64],
         result: None,
     },
     HostSig {
+        module: "screeps",
         name: "read",
         params: &[ValType::I32],
         result: Some(ValType::I64),

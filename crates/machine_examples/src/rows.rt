@@ -3,7 +3,7 @@ use crate::recorder::{OFFERED, Recorder};
 use std::alloc::Global;
 use std::process::Abort;
 use std::test::Fail;
-use wasm_machine::{Instance, LinkFault, Linked, Outcome, Trap, link};
+use wasm_machine::{Instance, LinkFault, Linked, Machine, Outcome, Trap, link};
 use wasm_module::decode;
 use wasm_validate::validate;
 
@@ -104,8 +104,8 @@ fn with_opening(alloc: Global, sections: &[u8]) -> Result<Vec<u8>, Fail> {
     Ok(bytes)
 }
 
-// What a module with these sections does, or why it is refused.
-fn words_of(rt: &impl Abort, alloc: Global, sections: &[u8], fuel: i64) -> Result<Vec<i64>, Fail> {
+// The module with these sections, linked, or why it doesn't link.
+fn linked_of(alloc: Global, sections: &[u8]) -> Result<Result<Linked, LinkFault>, Fail> {
     let bytes = with_opening(alloc, sections)?;
     let Ok(whole) = decode(alloc, &bytes) else {
         return Err(Fail::from("not decoded"));
@@ -113,7 +113,12 @@ fn words_of(rt: &impl Abort, alloc: Global, sections: &[u8], fuel: i64) -> Resul
     let Ok(valid) = validate(alloc, whole) else {
         return Err(Fail::from("not valid"));
     };
-    match link(alloc, valid, &OFFERED) {
+    Ok(link(alloc, valid, &OFFERED))
+}
+
+// What a module with these sections does, or why it is refused.
+fn words_of(rt: &impl Abort, alloc: Global, sections: &[u8], fuel: i64) -> Result<Vec<i64>, Fail> {
+    match linked_of(alloc, sections)? {
         Ok(linked) => words_twice(rt, alloc, &linked, fuel),
         Err(fault) => joined(alloc, fuel, fault_words(fault), &[]),
     }
@@ -135,7 +140,34 @@ pub(crate) fn does(
     Ok(())
 }
 
-/// Runs each module of a table, and compares what it does with the words at the same place of the other.
+// A module of a table, with what it does.
+#[derive(Drop)]
+struct Row<'a> {
+    linked: Linked,
+    said: &'a [i64],
+}
+
+// Runs modules one after the other in one room: each does what it does in its own, whatever the one before it
+// left there.
+fn do_in_one_room(rt: &impl Abort, alloc: Global, rows: &[Row]) -> Result<(), Fail> {
+    let mut machine = Machine::new(alloc)?;
+    for (at, row) in rows.iter().enumerate() {
+        let fuel = row.said.first().copied().unwrap_or(0);
+        let mut host = Recorder::new(alloc);
+        let outcome = machine.run(alloc, &row.linked, &mut host, fuel.cast_unsigned())?;
+        assert!(rt; !host.is_short);
+        let words = joined(alloc, fuel, outcome_words(outcome), host.got.as_slice())?;
+        assert_eq!(rt;
+            words.as_slice(),
+            row.said,
+            "module {at} of those that link"
+        );
+    }
+    Ok(())
+}
+
+/// Runs each module of a table, alone and behind those before it, and compares what it does with the words at
+/// the same place of the other.
 pub(crate) fn all_do(
     rt: &impl Abort,
     alloc: Global,
@@ -143,8 +175,15 @@ pub(crate) fn all_do(
     results: &[&[i64]],
 ) -> Result<(), Fail> {
     assert_eq!(rt; modules.len(), results.len());
+    let mut rows = Vec::new(alloc);
     for (at, (sections, said)) in modules.iter().zip(results.iter()).enumerate() {
         does(rt, alloc, at, sections, said)?;
+        if let Ok(linked) = linked_of(alloc, sections)? {
+            rows.push(Row {
+                linked,
+                said: *said,
+            })?;
+        }
     }
-    Ok(())
+    do_in_one_room(rt, alloc, rows.as_slice())
 }

@@ -1,21 +1,22 @@
 -- Two lists of signatures of the same calls.
 use Rattle.std.proofs.Common.{◌≡◌, ℕ, suc, zero, List, length, [], subst, All, ◌∷◌, refl, ap, sym, ◌∙◌, Option, Some, None, slice_get}
 use Rattle.wasm_module.specs.declared.host_sig.HostSig.{HostSig}
-use Rattle.wasm_module.specs.declared.imports.Import.{Import}
-use Rattle.wasm_module.specs.declared.types.FuncType.{FuncType}
+use Rattle.wasm_module.specs.declared.sections.imports.Import.{Import}
+use Rattle.wasm_module.specs.declared.values.types.FuncType.{FuncType}
 use Rattle.wasm_link.specs.Linking.{Names, IsKnown, IsOfKind}
 use Rattle.wasm_link.proofs.Each.{all_at, all_from, not_found}
 use Rattle.host_calls.specs.declared.call.Call.{Call}
 use Rattle.host_calls.specs.Calls.{IsSignature, AreSignatures}
 
--- The two are a call of one name and type.
+-- The two are a call of one module, name and type.
 pub record Agrees (one other : HostSig) : Type 0 where
+  pub host : one.module.now ≡ other.module.now
   pub name : one.name.now ≡ other.name.now
   pub params : one.params.now ≡ other.params.now
   pub result_is : one.result ≡ other.result
 
 agree : (one other : HostSig) (of : Call) → IsSignature one of → IsSignature other of → Agrees one other
-agree one other of a b = record { name = a.name ∙ sym b.name; params = a.params ∙ sym b.params; result_is = a.result_is ∙ sym b.result_is }
+agree one other of a b = record { host = a.host ∙ sym b.host; name = a.name ∙ sym b.name; params = a.params ∙ sym b.params; result_is = a.result_is ∙ sym b.result_is }
 
 inside : {A : Type 0} {x y : A} → ◌≡◌ {A = Option A} (Some x) (Some y) → x ≡ y
 inside e = cc
@@ -30,7 +31,7 @@ agree_at (of ∷ calls) (one ∷ sigs) [] a b number sig e = absurd b
 agree_at (of ∷ calls) (one ∷ sigs) (other ∷ others) a b zero sig e =
     let same = agree one other of a.0 b.0 in
     let is : one ≡ sig = inside e in
-    (other, refl, record { name = ap (λ (z : HostSig). z.name.now) (sym is) ∙ same.name; params = ap (λ (z : HostSig). z.params.now) (sym is) ∙ same.params; result_is = ap (λ (z : HostSig). z.result) (sym is) ∙ same.result_is })
+    (other, refl, record { host = ap (λ (z : HostSig). z.module.now) (sym is) ∙ same.host; name = ap (λ (z : HostSig). z.name.now) (sym is) ∙ same.name; params = ap (λ (z : HostSig). z.params.now) (sym is) ∙ same.params; result_is = ap (λ (z : HostSig). z.result) (sym is) ∙ same.result_is })
 agree_at (of ∷ calls) (one ∷ sigs) (other ∷ others) a b (suc number) sig e = agree_at calls sigs others a.1 b.1 number sig e
 
 module _ (calls : List Call) (sigs others : List HostSig) (a : AreSignatures sigs calls) (b : AreSignatures others calls) where
@@ -41,11 +42,11 @@ module _ (calls : List Call) (sigs others : List HostSig) (a : AreSignatures sig
         there.0,
         record {
           stands = there.1;
-          host = n.host;
+          host = n.host ∙ there.2.host;
           name = n.name ∙ there.2.name;
-          first = λ earlier before less e f.
+          first = λ earlier before less e g f.
               let here = agree_at calls others sigs b a earlier before e in
-              n.first earlier here.0 less here.1 (f ∙ here.2.name);
+              n.first earlier here.0 less here.1 (g ∙ here.2.host) (f ∙ here.2.name);
         },
         there.2,
       )

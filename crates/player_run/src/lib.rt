@@ -8,5 +8,5 @@ mod run;
 
 pub use admission::{Refusal, admit};
 pub use laws::{emitted_in_own_name, emitted_once, judged_once};
-pub use run::{NoMemory, run_player, run_player_among};
+pub use run::{NoMemory, RunRoom, run_player, run_player_among, run_player_in};
 pub use wasm_link::Linked;

@@ -12,15 +12,41 @@ ghost use Rattle.player_run.specs.Emitted.{EmitsBy, fuel_of};
 
 use crate::outcome::{instructions, run_outcome};
 use game_tables::unit_instructions;
-use host_calls::{Desk, allowance};
+use host_calls::{Desk, DeskRoom, allowance};
 use intent_book::PlayerRun;
-use object_store::{Account, World};
+use object_store::{Account, Bytes, World};
 pub use std::alloc::AllocError as NoMemory;
 use std::alloc::Global;
 use visible_view::View;
 use wasm_link::Linked;
-use wasm_machine::Instance;
+use wasm_machine::Machine;
 use world_roster::Roster;
+
+/// The room that runs of players take, one after the other.
+#[derive(Drop)]
+pub struct RunRoom<'a> {
+    machine: Machine<'a>,
+    /// None where a desk works in it, and where a run ended for want of memory.
+    desk: Option<DeskRoom>,
+}
+
+impl<'a> RunRoom<'a> {
+    /// Room in which nothing was run yet.
+    pub fn new(alloc: Global) -> Result<RunRoom<'a>, NoMemory> {
+        Ok(RunRoom {
+            machine: Machine::new(alloc)?,
+            desk: Some(DeskRoom::new(alloc)?),
+        })
+    }
+
+    // The room of the desk, taken out.
+    fn take_desk(&mut self, alloc: Global) -> Result<DeskRoom, NoMemory> {
+        match self.desk.take() {
+            Some(room) => Ok(room),
+            None => DeskRoom::new(alloc),
+        }
+    }
+}
 
 /// Runs a player's module on what he sees of the world, with the instructions that his account
 /// allows: 10,000 for each CPU unit. The instance is made anew, and what was recorded and written to
@@ -69,29 +95,65 @@ pub fn run_player_among<'a>(
     ensures few { IfOk result (λ run. length run.intents ≤ entries_bound) }
     ensures short { IfOk result (λ run. length run.memory ≤ most_memory) }
 {
+    let mut room = RunRoom::new(alloc)?;
+    run_player_in(alloc, &mut room, linked, world, roster, player)
+}
+
+/// Runs a player's module as `run_player_among` does, in the room of earlier runs, of which nothing is left.
+/// Beside it a run takes what a player sees, the instance's memory, globals and table, and what comes of the
+/// run.
+pub fn run_player_in<'a, 'w>(
+    alloc: Global,
+    room: &mut RunRoom<'a>,
+    linked: &'a Linked,
+    world: &'w World,
+    roster: &Roster<'w>,
+    player: u32,
+) -> Result<PlayerRun, NoMemory>
+    requires account { HasAccount player world.now.accounts }
+    requires memory { (account : Account) → find_account player world.now.accounts ≡ Some account
+        → length account.memory ≤ most_memory }
+    requires sound { IsSound world.now }
+    requires rooms { length world.now.rooms ≤ most_rooms }
+    requires roster { roster.now ≡ (world_of world.now).objects }
+    ensures emitted { IfOk result
+        (λ run. (account : Account) × (find_account player world.now.accounts ≡ Some account)
+        × EmitsBy (link_view linked.entry.now) (sight_of (world_of world.now) account) run
+        × (run.used ≤ fuel_of account)) }
+    ensures few { IfOk result (λ run. length run.intents ≤ entries_bound) }
+    ensures short { IfOk result (λ run. length run.memory ≤ most_memory) }
+{
     let view = View::among(alloc, world, roster, player)?;
-    run_view(alloc, linked, &view, player)
+    run_view(alloc, room, linked, &view, player)
 }
 
 // Runs a module on what its player sees.
-fn run_view(alloc: Global, linked: &Linked, view: &View, player: u32) -> Result<PlayerRun, NoMemory>
+fn run_view<'a>(
+    alloc: Global,
+    room: &mut RunRoom<'a>,
+    linked: &'a Linked,
+    view: &View,
+    player: u32,
+) -> Result<PlayerRun, NoMemory>
     requires own { player ≡ view.now.account.player }
     requires memory { length view.now.account.memory ≤ most_memory }
-    ensures emitted { IfOk result (EmitsBy (link_view linked.now) view.now) }
+    ensures emitted { IfOk result (EmitsBy (link_view linked.entry.now) view.now) }
     ensures used { IfOk result (λ run. run.used ≤ fuel_of view.now.account) }
     ensures few { IfOk result (λ run. length run.intents ≤ entries_bound) }
     ensures short { IfOk result (λ run. length run.memory ≤ most_memory) }
 {
     let account = view.account();
-    let mut desk = Desk::new(alloc, view, player, account.memory.as_slice())?;
-    let mut instance = Instance::new(alloc, linked)?;
-    let outcome = instance.run(&mut desk, fuel(account));
-    let (book, memory) = desk.finish();
+    let lent = room.take_desk(alloc)?;
+    let mut desk = Desk::over(alloc, view, player, account.memory.as_slice(), lent)?;
+    let outcome = room.machine.run(alloc, linked, &mut desk, fuel(account))?;
+    let intents = desk.book().canonical(alloc)?;
+    let memory = Bytes::of(alloc, desk.memory())?;
+    room.desk = Some(desk.into_room());
     Ok(PlayerRun {
         player,
         outcome: run_outcome(outcome),
         used: instructions(outcome),
-        intents: book.into_canonical(),
+        intents,
         memory,
     })
 }

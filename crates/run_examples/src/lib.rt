@@ -12,6 +12,8 @@ mod file_tests;
 #[cfg(test)]
 mod player_tests;
 #[cfg(test)]
+mod shared_room_tests;
+#[cfg(test)]
 mod tick_tests;
 #[cfg(test)]
 mod view_tests;

@@ -11,6 +11,6 @@ use Rattle.wasm_machine.specs.declared.instance.Instance.{Instance}
 
 -- Its stack is empty, and its store is the first one of the module, whose values are of their types.
 pub record IsFresh (instance : Instance) : Type 0 where
-  pub empty : held instance.stack ≡ nothing
+  pub empty : held instance.machine.stack ≡ nothing
   pub first : store_view instance.stored ≡ first_store (link_view instance.linked.now).whole
   pub typed : IsTypedStore (base_of instance.linked.now) (store_view instance.stored)

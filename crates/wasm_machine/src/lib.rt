@@ -6,10 +6,12 @@ mod control;
 mod execute;
 mod host_calls;
 mod instance;
+mod machine;
 mod outcomes;
 mod run;
 
 pub use instance::Instance;
+pub use machine::Machine;
 pub use std::alloc::AllocError as NoMemory;
 pub use wasm_link::{LinkFault, Linked, link};
 pub use wasm_steps::{Host, Outcome, Trap};

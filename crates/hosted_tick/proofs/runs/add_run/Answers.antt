@@ -14,8 +14,8 @@ use Rattle.hosted_tick.proofs.Kept.{bytes_in, get_bytes, kept_of, linked_at}
 use Rattle.hosted_tick.proofs.Ran.{few_one, runs_none, runs_one}
 use Rattle.hosted_tick.proofs.runs.add_run.Goals as goal
 
-pub run_player_among-requires-clause-memory : goal.run_player_among-requires-clause-memory
-run_player_among-requires-clause-memory c = λ account found.
+pub run_player_in-requires-clause-memory : goal.run_player_in-requires-clause-memory
+run_player_in-requires-clause-memory c = λ account found.
     holds_of_found (λ (a : Account). length a.memory ≤ most_memory) (λ (a : Account). a.player == c.args.account.now.player) c.args.world.now.accounts account c.requires.hosted.memories found
 
 pub returns-in_ok-push : goal.returns-in_ok-push

@@ -1,17 +1,17 @@
-use Rattle.std.proofs.Common.{◌≡◌, Some, slice_get, ap, ◌∙◌, arith}
-use Rattle.wasm_module.specs.Syntax.{Ops}
-use Rattle.wasm_module.specs.View.{items_view}
+use Rattle.std.proofs.Common.{◌≡◌, Some, slice_get, ap, ◌∙◌}
+use Rattle.wasm_module.specs.values.Syntax.{Ops}
+use Rattle.wasm_module.specs.values.View.{items_view}
 use Rattle.wasm_steps.specs.Program.{defined}
 use Rattle.wasm_stack.specs.Held.{running}
 use Rattle.wasm_stack.specs.Standing.{held}
 use Rattle.wasm_machine.specs.Machine.{base_of, program_of}
 use Rattle.wasm_machine.proofs.Called.{same_found}
 use Rattle.wasm_machine.proofs.Invoked.{same_more, same_body, always_fits, never_full, invoked_as, invoked_typed}
-use Rattle.wasm_machine.proofs.instance.Instance.invoke.Goals as goal
+use Rattle.wasm_machine.proofs.machine.Machine.invoke.Goals as goal
 
 pub unreachable-requires-then-not-call : goal.unreachable-requires-then-not-call
 unreachable-requires-then-not-call g c =
-    let linked = c.args.self.now.linked.now in
+    let linked = c.args.linked.now in
     let entry = c.requires.entry in
     let callee = c.in-Defined.ensures in
     let same = same_found entry.known callee.1 ∙ callee.2.1 in
@@ -22,7 +22,7 @@ unreachable-requires-then-not-call g c =
 
 pub run_from-requires-clause-sound : goal.run_from-requires-clause-sound
 run_from-requires-clause-sound g c =
-    let linked = c.args.self.now.linked.now in
+    let linked = c.args.linked.now in
     let entry = c.requires.entry in
     let callee = c.in-Defined.ensures in
     let same = same_found entry.known callee.1 ∙ callee.2.1 in
@@ -34,12 +34,9 @@ run_from-requires-clause-sound g c =
       store = c.requires.stored;
     }
 
-pub invariant_of-self : goal.invariant_of-self
-invariant_of-self g c = record { room = λ func call type known. omega (arith, c.args.self.now.room func call type known, c.run_from.ensures.capacity) }
-
 pub returns-clause-ends : goal.returns-clause-ends
 returns-clause-ends g c =
-    let linked = c.args.self.now.linked.now in
+    let linked = c.args.linked.now in
     let entry = c.requires.entry in
     let callee = c.in-Defined.ensures in
     let same = same_found entry.known callee.1 ∙ callee.2.1 in

@@ -1,7 +1,7 @@
 use Rattle.std.proofs.Common.{sym, ap, ◌∙◌}
 use Rattle.visible_view.specs.Sights.{Sight}
 use Rattle.visible_view.proofs.Told.{found_player}
-use Rattle.player_run.proofs.run.run_player_among.Goals as goal
+use Rattle.player_run.proofs.run.run_player_in.Goals as goal
 
 pub run_view-requires-clause-own : goal.run_view-requires-clause-own
 run_view-requires-clause-own c =

@@ -1,0 +1,189 @@
+// Players who run one after the other in one room.
+use crate::worlds::room;
+use host_calls::Desk;
+use intent_book::{Intents, PlayerRun, RunOutcome};
+use object_store::Bytes;
+use player_run::{Linked, RunRoom, admit, run_player_among, run_player_in};
+use std::alloc::{AllocError, Global};
+use std::process::Abort;
+use std::test::Fail;
+use visible_view::View;
+use wasm_machine::{Instance, Outcome};
+use world_roster::Roster;
+use world_text::read_world;
+
+// Fills its memory with bytes of 255, wants four things of each of 1,024 creeps, makes the whole memory its text, and
+// calls itself until it traps, with 61 values in each frame.
+// (module
+//   (import "screeps" "drop" (func $drop (param i64 i32) (result i32)))
+//   (import "screeps" "move" (func $move (param i64 i32) (result i32)))
+//   (import "screeps" "ranged_mass_attack" (func $mass (param i64) (result i32)))
+//   (import "screeps" "suicide" (func $suicide (param i64) (result i32)))
+//   (import "screeps" "memory_write" (func $write (param i32 i32) (result i32)))
+//   (memory 1)
+//   (func $down (result i64) (local [60 i64])
+//     (local.set 59 (i64.const 9)) (i64.add (i64.const 7) (call $down)))
+//   (func (export "loop") (local i32 i64)
+//     (loop (i64.store (local.get 0) (i64.const -1))
+//       (br_if 0 (i32.lt_u (local.tee 0 (i32.add (local.get 0) (i32.const 8))) (i32.const 65536))))
+//     (loop (drop (call $drop (local.tee 1 (i64.add (local.get 1) (i64.const 1))) (i32.const 0)))
+//       (drop (call $move (local.get 1) (i32.const 3)))
+//       (drop (call $mass (local.get 1)))
+//       (drop (call $suicide (local.get 1)))
+//       (br_if 0 (i64.lt_u (local.get 1) (i64.const 1024))))
+//     (drop (call $write (i32.const 0) (i32.const 65536)))
+//     (drop (call $down))))
+const MANY: &[u8] =
+    b"\0asm\x01\0\0\0\x01\x19\x05`\0\0`\x02~\x7f\x01\x7f`\x01~\x01\x7f`\x02\x7f\x7f\x01\x7f`\0\x01~\x02e\x05\x07screeps\x04drop\0\x01\x07screeps\x04move\0\x01\x07screeps\x12ranged_mass_attack\0\x02\x07screeps\x07suicide\0\x02\x07screeps\x0cmemory_write\0\x03\x03\x03\x02\x04\0\x05\x03\x01\0\x01\x07\x08\x01\x04loop\0\x06\x0ab\x02\x0d\x01<~B\x09!;B\x07\x10\x05|\x0bR\x02\x01\x7f\x01~\x03@ \0B\x7f7\x03\0 \0A\x08j\x22\0A\x80\x80\x04I\x0d\0\x0b\x03@ \x01B\x01|\x22\x01A\0\x10\0\x1a \x01A\x03\x10\x01\x1a \x01\x10\x02\x1a \x01\x10\x03\x1a \x01B\x80\x08T\x0d\0\x0bA\0A\x80\x80\x04\x10\x04\x1a\x10\x05\x1a\x0b";
+
+// Hands 5 from one creep to another, reads its text behind a byte for the text's length, and makes these and
+// what stands behind them its text, 12 bytes.
+// (module
+//   (import "screeps" "transfer" (func $transfer (param i64 i64 i32) (result i32)))
+//   (import "screeps" "memory_length" (func $length (result i32)))
+//   (import "screeps" "memory_read" (func $read (param i32) (result i32)))
+//   (import "screeps" "memory_write" (func $write (param i32 i32) (result i32)))
+//   (memory 1)
+//   (func (export "loop") (local i32)
+//     (drop (call $transfer (i64.const 2001) (i64.const 2002) (i32.const 5)))
+//     (drop (call $read (i32.add (local.get 0) (i32.const 16))))
+//     (i32.store8 (i32.const 15) (call $length))
+//     (drop (call $write (i32.const 15) (i32.const 12)))))
+const FEW: &[u8] =
+    b"\0asm\x01\0\0\0\x01\x1a\x05`\0\0`\x03~~\x7f\x01\x7f`\0\x01\x7f`\x01\x7f\x01\x7f`\x02\x7f\x7f\x01\x7f\x02Y\x04\x07screeps\x08transfer\0\x01\x07screeps\x0dmemory_length\0\x02\x07screeps\x0bmemory_read\0\x03\x07screeps\x0cmemory_write\0\x04\x03\x02\x01\0\x05\x03\x01\0\x01\x07\x08\x01\x04loop\0\x04\x0a'\x01%\x01\x01\x7fB\xd1\x0fB\xd2\x0fA\x05\x10\0\x1a \0A\x10j\x10\x02\x1aA\x0f\x10\x01:\0\0A\x0fA\x0c\x10\x03\x1a\x0b";
+
+// A creep with what it needs to move, to carry and to attack.
+fn creep(
+    alloc: Global,
+    id: u32,
+    x: u32,
+    y: u32,
+    owner: u32,
+    energy: u32,
+) -> Result<String, AllocError> {
+    format!(in alloc;
+        "{{\"id\":{id},\"kind\":\"creep\",\"x\":{x},\"y\":{y},\"owner\":{owner},\"body\":[\"move\",\"carry\",\"ranged_attack\"],\"energy\":{energy},\"timer\":9}}"
+    )
+}
+
+// The creeps 1 to 1,024 of player 1, and two neighbours of player 2.
+fn two_players(alloc: Global) -> Result<String, AllocError> {
+    let mut creeps = String::new(alloc);
+    for at in 0..1_024_u32 {
+        let text = creep(alloc, at + 1, 1 + at % 48, 1 + at / 48, 1, 10)?;
+        creeps.push_str(text.as_str())?;
+        creeps.push(',')?;
+    }
+    let one = creep(alloc, 2_001, 10, 30, 2, 40)?;
+    let other = creep(alloc, 2_002, 11, 30, 2, 0)?;
+    let objects = format!(in alloc; "{creeps}{one},{other}")?;
+    let only = room(alloc, "E0S0", 3_000, objects.as_str())?;
+    let players =
+        "{\"player\":1,\"limit\":20,\"bucket\":0,\"memory\":\"6f6e65\"},{\"player\":2,\"limit\":1,\"bucket\":0,\"memory\":\"74776f\"}";
+    format!(in alloc; "{{\"version\":1,\"tick\":6,\"rooms\":[{only}],\"players\":[{players}]}}")
+}
+
+fn linked(alloc: Global, bytes: &[u8]) -> Result<Linked, Fail> {
+    match admit(alloc, bytes) {
+        Ok(found) => Ok(found),
+        Err(_) => Err("no module".into()),
+    }
+}
+
+// What a run leaves in room that was taken for it alone.
+#[derive(Drop)]
+struct Alone {
+    outcome: Outcome,
+    intents: Intents,
+    memory: Bytes,
+}
+
+// Runs a module on what a player sees, in a desk and an instance of its own.
+fn alone(alloc: Global, linked: &Linked, view: &View, fuel: u64) -> Result<Alone, Fail> {
+    let account = view.account();
+    let text = account.memory.as_slice();
+    if text.len() > 65_536 {
+        return Err("too long a text".into());
+    }
+    let mut desk = Desk::new(alloc, view, account.player, text)?;
+    let mut instance = Instance::new(alloc, linked)?;
+    let outcome = instance.run(&mut desk, fuel);
+    let (book, memory) = desk.finish();
+    Ok(Alone {
+        outcome,
+        intents: book.into_canonical(),
+        memory,
+    })
+}
+
+fn assert_alike(rt: &impl Abort, run: &PlayerRun, alone: &Alone) {
+    let (outcome, used) = match alone.outcome {
+        Outcome::Finished { used } => (RunOutcome::Finished, used),
+        Outcome::Trapped { used, .. } => (RunOutcome::Trapped(8), used),
+        Outcome::Spent { used } => (RunOutcome::Spent, used),
+    };
+    assert_eq!(rt; (run.outcome, run.used), (outcome, used));
+    assert_eq!(rt; run.memory.as_slice(), alone.memory.as_slice());
+    assert_eq!(rt; run.intents.len(), alone.intents.len());
+    for (entry, same) in run
+        .intents
+        .as_slice()
+        .iter()
+        .zip(alone.intents.as_slice().iter())
+    {
+        assert_eq!(rt;
+            (entry.player, entry.action.number(), entry.actor),
+            (same.player, same.action.number(), same.actor)
+        );
+        assert_eq!(rt; (entry.target, entry.amount), (same.target, same.amount));
+    }
+}
+
+#[test]
+fn a_run_is_the_same_in_the_room_of_another(rt: HostRuntime) -> Result<(), Fail> {
+    let alloc = rt.alloc();
+    let text = two_players(alloc)?;
+    let Ok(file) = read_world(alloc, text.as_bytes()) else {
+        return Err("refused".into());
+    };
+    let world = &file.world;
+    let Some(one) = world.account(1) else {
+        return Err("no first account".into());
+    };
+    let Some(two) = world.account(2) else {
+        return Err("no second account".into());
+    };
+    if world.rooms() > 400 || one.memory.len() > 65_536 || two.memory.len() > 65_536 {
+        return Err("not the world of the file".into());
+    }
+    let many = linked(alloc, MANY)?;
+    let few = linked(alloc, FEW)?;
+    let roster = Roster::of(alloc, world)?;
+    let first = alone(
+        alloc,
+        &many,
+        &View::among(alloc, world, &roster, 1)?,
+        200_000,
+    )?;
+    let second = alone(alloc, &few, &View::among(alloc, world, &roster, 2)?, 10_000)?;
+    let run = run_player_among(alloc, &many, world, &roster, 1)?;
+    assert_eq!(rt; (run.player, run.outcome), (1, RunOutcome::Trapped(8)));
+    assert_eq!(rt; (run.intents.len(), run.memory.len()), (4_096, 65_536));
+    assert_alike(&rt, &run, &first);
+    let mut shared = RunRoom::new(alloc)?;
+    for _again in 0..2 {
+        let run = run_player_in(alloc, &mut shared, &many, world, &roster, 1)?;
+        assert_alike(&rt, &run, &first);
+        let run = run_player_in(alloc, &mut shared, &few, world, &roster, 2)?;
+        assert_eq!(rt;
+            (run.player, run.outcome, run.used, run.intents.len()),
+            (2, RunOutcome::Finished, 17, 1)
+        );
+        assert_eq!(rt;
+            run.memory.as_slice(),
+            b"\x03two\0\0\0\0\0\0\0\0".as_slice()
+        );
+        assert_alike(&rt, &run, &second);
+    }
+    Ok(())
+}
