@@ -31,7 +31,7 @@ use Rattle.rule_check.proofs.Twice.{one_of}
 use Rattle.changed_rules.specs.declared.counted.Counted.{Counted}
 use Rattle.changed_rules.specs.declared.counted.Counted.TheVariants.{Ids, SiteOwners}
 use Rattle.changed_rules.specs.Census.{IsUnborn, IsWronglyHeld, KeepsElsewhere, KeepsHere}
-use Rattle.changed_rules.specs.Counts.{is_under, most_of, times, times_in}
+use Rattle.changed_rules.specs.Counts.{HaveFewSites, is_under, most_of, times, times_in}
 use Rattle.changed_rules.proofs.Lists.{all_from, sum_map, sum_some}
 
 -- ---- stored rooms as the tests of the rules look at them
@@ -255,3 +255,12 @@ module _ (world : Stored) (kept : KeepsElsewhere [] world) where
 
   pub split_to : KeepsObjectRules world
   split_to = record { tiles = tiled; rules = λ rule n of_objects broken. kept_rule rule n of_objects (as_viewed world rule n broken) }
+
+-- ---- the limit of sites alone
+
+pub few_sites : (world : Stored) → HaveFewSites world.rooms → (n : ℕ) → Broken rules.Sites n (listing_of world) → ⊥
+few_sites world few n broken =
+    let any = sites_broken (views world.rooms) world.accounts n (as_viewed world rules.Sites n broken) in
+    let many : most_sites < count_by (λ owner. owner == n) (owners_in (views world.rooms)) = any.is.1 in
+    let fits : times SiteOwners n world.rooms ≤ most_sites = few n in
+    omega (arith, owners_there world.rooms n)

@@ -1,5 +1,5 @@
 -- How often ids, and owners of sites, stand in rooms.
-use Rattle.std.specs.Prelude.{ℕ, ◌==◌, ◌&&◌, Bool, List, cond, unwrap_or, sum_by, count_by}
+use Rattle.std.specs.Prelude.{ℕ, ◌≤◌, ◌==◌, ◌&&◌, Bool, List, cond, unwrap_or, sum_by, count_by}
 use Rattle.std.specs.List.{list_any}
 use Rattle.std.specs.BTreeMap.{get}
 use Rattle.std.specs.Ordering.{nat_cmp}
@@ -28,6 +28,10 @@ times_in counted n objects = count_by (is_under counted n) objects
 -- how many objects of these rooms are under a number
 abbrev pub times : Counted → ℕ → List Room → ℕ
 times counted n rooms = sum_by (λ room. times_in counted n room.table.objects) rooms
+
+-- Nobody owns more sites in these rooms than a player may have.
+abbrev pub HaveFewSites : List Room → Type 0
+HaveFewSites rooms = (owner : ℕ) → times SiteOwners owner rooms ≤ most_sites
 
 -- The index is one of these.
 abbrev pub is_among : ℕ → List ℕ → Bool

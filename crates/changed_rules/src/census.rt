@@ -136,8 +136,7 @@ impl Census {
             (IsRefused world.now room self.old)) }
     {
         let table = world.room(place);
-        // The objects stand in rising id.
-        let _rising = table.objects();
+        table.stands_in_order();
         let objects = list_of(alloc, table)?;
         if !keeps_here(alloc, world, place, &objects)? {
             return Ok(false);

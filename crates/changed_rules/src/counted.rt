@@ -60,8 +60,13 @@ pub(crate) fn enter_objects(
     Ok(true)
 }
 
-// Adds the object to a tally, where it is then under its number no more often than may be.
-fn enter_object(counted: Counted, object: &Object, tally: &mut Tally) -> Result<bool, NoMemory>
+/// Adds the object to a tally, where it is then under its number no more often than may be. Where it does
+/// not, and on want of memory, the tally may be any.
+pub(crate) fn enter_object(
+    counted: Counted,
+    object: &Object,
+    tally: &mut Tally,
+) -> Result<bool, NoMemory>
     requires { AreFew counted tally.old }
     ensures { IfOk result (λ fits. MatchBool fits (Adds counted (object.now ∷ []) tally.old tally.new)
         (Exceeds counted (object.now ∷ []) tally.old)) }

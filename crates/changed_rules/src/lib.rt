@@ -5,6 +5,8 @@ mod census;
 mod counted;
 mod places;
 mod room;
+mod sites;
 mod tally;
 
 pub use census::Census;
+pub use sites::has_few_sites;

@@ -48,8 +48,7 @@ fn keeps_in(
         (KeepsIn world.now view.now.terrain.now table.now.objects)
         (KeepsIn world.now view.now.terrain.now table.now.objects → ⊥)) }
 {
-    // The objects stand in rising id.
-    let _rising = table.objects();
+    table.stands_in_order();
     if !is_on_tiles(table) || !are_born(world, view.objects) || !are_held(world, view.objects) {
         return Ok(false);
     }

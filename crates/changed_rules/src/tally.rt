@@ -21,13 +21,6 @@ impl Tally {
         }
     }
 
-    // How often the number is there.
-    fn times(&self, number: u64) -> u64
-        ensures { result ≡ tallied self.now number }
-    {
-        self.times.get(&number).copied().unwrap_or(0)
-    }
-
     /// Adds the number once, where it is there less often than `most`, and says whether it does.
     pub(crate) fn enter(&mut self, number: u64, most: u64) -> Result<bool, NoMemory>
         ensures { IfOk result (λ fits. MatchBool fits
@@ -35,12 +28,11 @@ impl Tally {
             × ((n : ℕ) → tallied self.new n ≡ tallied self.old n + cond (number == n) 1 0))
             (most ≤ tallied self.old number)) }
     {
-        let times = self.times(number);
-        if times >= most {
-            return Ok(false);
+        let times = self.times.insert(number, 1)?.unwrap_or(0);
+        if times > 0 && times < most {
+            self.times.insert(number, times + 1)?;
         }
-        self.times.insert(number, times + 1)?;
-        Ok(true)
+        Ok(times < most)
     }
 
     /// Takes the number out once, where it is there.
@@ -48,11 +40,9 @@ impl Tally {
         ensures { OnOk result
             ((n : ℕ) → tallied self.new n ≡ tallied self.old n - cond (number == n) 1 0) }
     {
-        let times = self.times(number);
+        let times = self.times.remove(&number).unwrap_or(0);
         if times > 1 {
             self.times.insert(number, times - 1)?;
-        } else {
-            let _ = self.times.remove(&number);
         }
         Ok(())
     }

@@ -88,6 +88,24 @@ fn a_walk_comes_to_each_record(rt: HostRuntime) -> Result<(), Fail> {
     Ok(())
 }
 
+#[test]
+fn a_walk_that_tests_no_rules_comes_to_each_record(rt: HostRuntime) -> Result<(), Fail> {
+    let alloc = rt.alloc();
+    let bytes = journal_of(alloc, &[4])?;
+    let mut disk = disk_of(alloc, &bytes, None)?;
+    let Ok(walk) = Walk::begin(alloc, &mut disk) else {
+        return Err("no walk".into());
+    };
+    let mut walk = walk.untested();
+    assert_eq!(rt; walk.world().tick(), FIRST);
+    match walk.next(alloc, &mut disk) {
+        Ok(Some(entry)) => assert_eq!(rt; (entry.tick, walk.world().tick()), (4, 4)),
+        _ => return Err("no record".into()),
+    }
+    assert!(rt; matches!(walk.next(alloc, &mut disk), Ok(None)));
+    Ok(())
+}
+
 // Why a walk comes to no first world, or to no first record.
 fn walk_fault(alloc: Global, disk: &mut MemoryDisk) -> Option<RecoverFault> {
     match Walk::begin(alloc, disk) {

@@ -1,3 +1,4 @@
 pub mod Placing
 pub mod Lasting
 pub mod Steps
+pub mod Taking

@@ -41,3 +41,11 @@ pub record Follows (before : Stored) (entry : TickRecord) : Type 0 where
   pub accounts : AllByRecursion (λ account. HasAccount account.player before.accounts) entry.accounts
   pub rules : KeepsObjectRules (after before entry)
   pub uploads : AllByRecursion (IsAdmitted before) entry.uploads
+
+-- All of this but the rules of the world after it.
+pub record Fits (before : Stored) (entry : TickRecord) : Type 0 where
+  pub tick : entry.tick ≡ before.tick + 1
+  pub rooms : AllByRecursion (λ table. table.index < length before.rooms) entry.rooms
+  pub runs : AllByRecursion (λ run. HasAccount run.player before.accounts) entry.runs
+  pub accounts : AllByRecursion (λ account. HasAccount account.player before.accounts) entry.accounts
+  pub uploads : AllByRecursion (IsAdmitted before) entry.uploads

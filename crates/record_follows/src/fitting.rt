@@ -3,8 +3,7 @@ ghost use Rattle.std.specs.Prelude.{◌≡◌, ◌≢◌, ◌+◌, ◌<◌, ◌�
 ghost use Rattle.std.specs.List.{AllByRecursion};
 ghost use Rattle.object_store.specs.Stored.{HasAccount};
 ghost use Rattle.player_run.specs.Admission.{IsAccepted};
-ghost use Rattle.record_follows.specs.Follows.{IsAdmitted};
-ghost use Rattle.record_follows.specs.inner.Parts.{MayFollow};
+ghost use Rattle.record_follows.specs.Follows.{Fits, IsAdmitted};
 
 use crate::NoMemory;
 use intent_book::Refusal;
@@ -13,14 +12,10 @@ use player_run::admit;
 use std::alloc::Global;
 use tick_journal::{RunEntry, TickRecord, UploadEntry};
 
-/// Whether the record may follow the world but for the rules of the world after it.
-pub(crate) fn may_follow(
-    alloc: Global,
-    before: &World,
-    entry: &TickRecord,
-) -> Result<bool, NoMemory>
-    ensures { IfOk result (λ yes. MatchBool yes (MayFollow before.now entry.now)
-        (MayFollow before.now entry.now → ⊥)) }
+/// Whether the record follows the world but for the rules of the world after it, which are not tested.
+pub fn fits(alloc: Global, before: &World, entry: &TickRecord) -> Result<bool, NoMemory>
+    ensures { IfOk result (λ yes. MatchBool yes (Fits before.now entry.now)
+        (Fits before.now entry.now → ⊥)) }
 {
     if is_next(before, entry.tick)
         && are_rooms(before, entry.rooms.as_slice())

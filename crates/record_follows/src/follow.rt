@@ -1,19 +1,19 @@
 // Worlds and the records that follow them.
-ghost use Rattle.std.specs.Prelude.{◌≡◌, ◌<◌, IfOk, OnOk, MatchBool, length};
+ghost use Rattle.std.specs.Prelude.{◌≡◌, ◌<◌, [], IfOk, OnOk, MatchBool, length};
 ghost use Rattle.std.specs.List.{AllByRecursion};
 ghost use Rattle.object_store.specs.Stored.{HasAccount};
 ghost use Rattle.rule_check.specs.Kept.{KeepsObjectRules};
-ghost use Rattle.changed_rules.specs.Census.{IsCensus};
+ghost use Rattle.changed_rules.specs.Census.{ArePlaced, IsCensus};
 ghost use Rattle.record_follows.specs.Follows.{Follows, after as world_after};
 
 use crate::NoMemory;
-use crate::fitting::may_follow;
-use crate::putting::{put_accounts, put_rooms};
+use crate::fitting::fits;
+use crate::putting::{put_accounts, put_rooms, take_rooms};
 use changed_rules::Census;
 use object_store::World;
 use rule_check::keeps_object_rules;
 use std::alloc::Global;
-use tick_journal::TickRecord;
+use tick_journal::{Entries, TickRecord};
 
 /// Whether the record follows the world. It takes the memory of a world more.
 pub fn follows(alloc: Global, before: &World, entry: &TickRecord) -> Result<bool, NoMemory>
@@ -21,7 +21,7 @@ pub fn follows(alloc: Global, before: &World, entry: &TickRecord) -> Result<bool
         (Follows before.now entry.now → ⊥)) }
 {
     let mut world = before.copy(alloc)?;
-    if !may_follow(alloc, before, entry)? {
+    if !fits(alloc, before, entry)? {
         return Ok(false);
     }
     put(alloc, &mut world, entry)?;
@@ -56,7 +56,7 @@ pub fn advance(
         × IsCensus world.new census.new)
         (Follows world.old entry.now → ⊥)) }
 {
-    if !may_follow(alloc, world, entry)? {
+    if !fits(alloc, world, entry)? {
         return Ok(false);
     }
     let kept = census.leave(alloc, world, entry.rooms.as_slice())?;
@@ -78,4 +78,38 @@ pub fn put(alloc: Global, world: &mut World, entry: &TickRecord) -> Result<(), N
     put_accounts(alloc, world, entry.accounts.as_slice())?;
     world.set_tick(entry.tick);
     Ok(())
+}
+
+/// Does so with the tables of the record, which are taken and not copied, and answers the record without
+/// them. It takes time for what is recorded, and memory for the accounts. On want of memory the world may be
+/// any.
+pub fn put_taken(
+    alloc: Global,
+    world: &mut World,
+    entry: TickRecord,
+) -> Result<TickRecord, NoMemory>
+    requires places { ArePlaced world.old.rooms }
+    requires rooms { AllByRecursion (λ table. table.index < length world.old.rooms) entry.rooms }
+    requires accounts { AllByRecursion (λ account. HasAccount account.player world.old.accounts)
+        entry.accounts }
+    ensures put { OnOk result (world.new ≡ world_after world.old entry) }
+    ensures rest { IfOk result (λ rest. rest ≡ record entry { rooms = [] }) }
+{
+    let TickRecord {
+        tick,
+        uploads,
+        runs,
+        accounts,
+        rooms,
+    } = entry;
+    take_rooms(world, rooms.into_vec());
+    put_accounts(alloc, world, accounts.as_slice())?;
+    world.set_tick(tick);
+    Ok(TickRecord {
+        tick,
+        uploads,
+        runs,
+        accounts,
+        rooms: Entries::from_vec(Vec::new(alloc)),
+    })
 }

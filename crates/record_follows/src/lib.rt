@@ -6,6 +6,7 @@ mod follow;
 mod laws;
 mod putting;
 
-pub use follow::{advance, after, follows, put};
+pub use fitting::fits;
+pub use follow::{advance, after, follows, put, put_taken};
 pub use laws::records_keep_rules;
 pub use std::alloc::AllocError as NoMemory;

@@ -2,6 +2,7 @@
 ghost use Rattle.std.specs.Prelude.{◌≡◌, ◌<◌, ℕ, List, IfOk, OnOk, Some, length, option_map, slice_get};
 ghost use Rattle.std.specs.Prelude.{slice_set};
 ghost use Rattle.std.specs.List.{AllByRecursion};
+ghost use Rattle.changed_rules.specs.Census.{ArePlaced};
 ghost use Rattle.object_store.specs.declared.world.Room.{Room};
 ghost use Rattle.object_store.specs.Stored.{HasAccount};
 ghost use Rattle.object_store.specs.Tables.{Table};
@@ -73,6 +74,19 @@ fn first_of<'a>(firsts: &[Option<&'a RoomTable>], index: u32) -> Option<&'a Room
         return None;
     }
     firsts[index as usize]
+}
+
+/// Puts the first of the tables of each index in the place of that of its room: the last one first, so that
+/// an earlier one takes its place.
+pub(crate) fn take_rooms(world: &mut World, mut tables: Vec<RoomTable>)
+    requires places { ArePlaced world.old.rooms }
+    requires rooms { AllByRecursion (λ table. table.index < length world.old.rooms) tables.items }
+    ensures { world.new ≡ with_rooms tables.items world.old }
+{
+    'each: while let Some(table) = tables.pop() {
+        let index = table.index();
+        *world.room_mut(index) = table;
+    }
 }
 
 /// Puts the first recorded account of each player in the place of his.

@@ -14,7 +14,7 @@ use Rattle.world_rules.specs.Rules.{Broken}
 use Rattle.world_rules.specs.Sound.{IsSound, IsSoundRoom}
 use Rattle.world_rules.specs.World.{listing_of, world_listed, world_of}
 use Rattle.hosted_tick.specs.Hosting.{IsHosted}
-use Rattle.record_follows.specs.Follows.{Follows, after}
+use Rattle.record_follows.specs.Follows.{Fits, after}
 use Rattle.tick_journal.specs.BaseForms.{AreInPlace, room_as_read}
 use Rattle.tick_journal.specs.TickForms.{tick_as_read}
 use Rattle.tick_journal.specs.declared.entries.RunEntry.{RunEntry}
@@ -96,13 +96,13 @@ module _ (one other : Stored) (same : AreReadAlike one other) where
     memories = subst (AllByRecursion (λ (account : Account). length account.memory ≤ most_memory)) (sym accounts_alike) hosted.memories;
   }
 
-  rules_alike : KeepsObjectRules other → KeepsObjectRules one
+  pub rules_alike : KeepsObjectRules other → KeepsObjectRules one
   rules_alike keeps = record {
     tiles = all_alike (λ room. AllByRecursion IsOnTile room.table.objects) (λ room on. on) (λ room on. on) one.rooms other.rooms rooms_alike keeps.tiles;
     rules = λ rule n is broken. keeps.rules rule n is (subst (Broken rule n) listings_alike broken);
   }
 
--- Led on by one record they are read alike again, and what follows one follows the other.
+-- Led on by one record they are read alike again, and what fits behind one fits behind the other.
 module _ (one other : Stored) (same : AreReadAlike one other) (entry : TickRecord) where
   pub led_alike : AreReadAlike (after one entry) (after other entry)
   led_alike = led_as_read one entry ∙ (ap (λ (world : Stored). after world (tick_as_read entry)) same ∙ sym (led_as_read other entry))
@@ -110,14 +110,13 @@ module _ (one other : Stored) (same : AreReadAlike one other) (entry : TickRecor
   abbrev AreAdmitted : List Account → Type 0
   AreAdmitted accounts = AllByRecursion (λ (upload : UploadEntry). upload.result_number ≡ 0 → HasAccount upload.player accounts × IsAccepted upload.bytes) entry.uploads
 
-  pub follows_alike : Follows other entry → Follows one entry
-  follows_alike follows =
+  pub fits_alike : Fits other entry → Fits one entry
+  fits_alike fits =
       let accounts = sym (accounts_alike one other same) in
       record {
-        tick = follows.tick ∙ ap (λ (world : Stored). world.tick + 1) (sym same);
-        rooms = subst (λ n. AllByRecursion (λ (table : Table). table.index < n) entry.rooms) (sym (as_many_rooms one other same)) follows.rooms;
-        runs = subst (λ list. AllByRecursion (λ (run : RunEntry). HasAccount run.player list) entry.runs) accounts follows.runs;
-        accounts = subst (λ list. AllByRecursion (λ (account : Account). HasAccount account.player list) entry.accounts) accounts follows.accounts;
-        rules = rules_alike (after one entry) (after other entry) led_alike follows.rules;
-        uploads = subst AreAdmitted accounts follows.uploads;
+        tick = fits.tick ∙ ap (λ (world : Stored). world.tick + 1) (sym same);
+        rooms = subst (λ n. AllByRecursion (λ (table : Table). table.index < n) entry.rooms) (sym (as_many_rooms one other same)) fits.rooms;
+        runs = subst (λ list. AllByRecursion (λ (run : RunEntry). HasAccount run.player list) entry.runs) accounts fits.runs;
+        accounts = subst (λ list. AllByRecursion (λ (account : Account). HasAccount account.player list) entry.accounts) accounts fits.accounts;
+        uploads = subst AreAdmitted accounts fits.uploads;
       }

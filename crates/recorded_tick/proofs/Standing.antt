@@ -96,6 +96,13 @@ tiles_as_read : (rooms : List Room) → AllByRecursion IsSoundRoom rooms → Are
 tiles_as_read [] sound = tt
 tiles_as_read (room ∷ rooms) sound = (sound.0.tiles, tiles_as_read rooms sound.1)
 
+tiles_sound : (rooms : List Room) → AllByRecursion IsSoundRoom rooms → AreOnTiles rooms
+tiles_sound [] sound = tt
+tiles_sound (room ∷ rooms) sound = (sound.0.tiles, tiles_sound rooms sound.1)
+
+pub rules_sound : (stored : Stored) → IsSound stored → HaveFewSites stored → KeepsObjectRules stored
+rules_sound stored sound few = record { tiles = tiles_sound stored.rooms sound.rooms; rules = object_rules stored sound few }
+
 rules_as_read : (stored : Stored) → IsSound stored → HaveFewSites stored → KeepsObjectRules (world_as_read stored)
 rules_as_read stored sound few = record {
   tiles = tiles_as_read stored.rooms sound.rooms;

@@ -88,7 +88,7 @@ fn copy_bare(alloc: Global, table: &RoomTable) -> Result<RoomTable, NoMemory>
     ensures { IfOk result (λ copy. AreAlike copy table.now) }
 {
     // A table has fewer than 2^32 objects.
-    let _within = table.objects();
+    table.stands_in_order();
     table.copy(alloc, 0)
 }
 

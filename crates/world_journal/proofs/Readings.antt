@@ -11,15 +11,17 @@ use Rattle.frame_log.specs.declared.read.Behind.TheVariants.{Closed}
 use Rattle.object_store.specs.Stored.{Stored}
 use Rattle.record_follows.specs.Courses.{IsWorldAt, world_after}
 use Rattle.record_follows.proofs.Steps.{tick_after, world_after_one}
+use Rattle.rule_check.specs.Kept.{KeepsObjectRules}
 use Rattle.tick_journal.specs.declared.tick_record.TickRecord.{TickRecord}
 use Rattle.world_journal.specs.Answers.{IsFaultOf}
 use Rattle.world_journal.specs.Faults.{HasNoRecord, HasNoWorld}
 use Rattle.world_journal.specs.Journals.{IsCourse, IsJournal}
 use Rattle.world_journal.specs.declared.fault.AtFault.{AtFault}
 use Rattle.world_journal.specs.declared.fault.AtFault.TheVariants.{NoSuchTick}
+use Rattle.world_journal.specs.declared.untested.UntestedWalk.{UntestedWalk}
 use Rattle.world_journal.specs.declared.walk.Walk.{Walk}
-use Rattle.world_journal.specs.Walking.{HasStepped, HasWalked, IsFront}
-use Rattle.world_journal.specs.inner.Found.{IsReading, IsRecordFound, IsWorldFound}
+use Rattle.world_journal.specs.Walking.{HasPassed, HasPassedOn, HasPut, HasStepped, HasWalked, IsFront}
+use Rattle.world_journal.specs.inner.Found.{IsPassing, IsReading, IsRecordFound, IsWorldFound}
 use Rattle.world_journal.proofs.Fronts.{journal_there}
 
 -- ---- the end of a reading
@@ -58,6 +60,49 @@ module _ {base : Stored} {entries : List TickRecord} {before : Walk} {seen now :
     same = same ∙ reading.same;
     crash = crash ∙ reading.crash;
     steady = steady ∙ reading.steady;
+  }
+
+-- ---- a reading that tests no rules
+
+-- The whole journal was read by it.
+pub record IsPassed (base : Stored) (entries : List TickRecord) (walk : UntestedWalk) (seen : Option (List ℕ)) : Type 0 where
+  pub course : IsCourse base entries
+  pub journal : IfSome seen (IsJournal base entries)
+  pub last : walk.world.tick ≡ base.tick + length entries
+
+-- A reading that stands at the same place, with the same world.
+passed_same : (base : Stored) (entries : List TickRecord) (one other : UntestedWalk) (seen : Option (List ℕ)) → other.world ≡ one.world → other.gate ≡ one.gate → HasPassed base entries one seen → HasPassed base entries other seen
+passed_same base entries one other seen world gate has = record { course = has.course; world = world ∙ has.world; count = rw gate has.count; front = rw gate has.front }
+
+module _ {base : Stored} {entries : List TickRecord} {before : UntestedWalk} {seen now : Option (List ℕ)} {moments moments_now : List Moment} {faults faults_now : ℕ} (passing : IsPassing base entries before seen now moments moments_now faults faults_now) where
+  pub passed_now : HasPassed base entries before now
+  passed_now = rw passing.same passing.passed
+
+  pub passing_end : (after : UntestedWalk) (found : Option TickRecord) → found ≡ None → HasPassedOn base entries before after now found → IsPassed base entries after seen
+  passing_end after found none on =
+      let ended = rw (none, passing.same) at on in
+      record {
+        course = ended.passed.course;
+        journal = at seen ended.passed.front ended.closed;
+        last = ap (λ (w : Stored). w.tick) ended.passed.world ∙ tick_after base entries ended.passed.course.follow;
+      }
+    where
+      at : (seen : Option (List ℕ)) → IfSome seen (IsFront base entries after.gate) → FindsAt after.gate Closed seen → IfSome seen (IsJournal base entries)
+      at None is closed = tt
+      at (Some bytes) is closed = journal_there is closed
+
+  pub passing_put : (after : UntestedWalk) (found : Option TickRecord) (told : TickRecord) → found ≡ Some told → HasPassedOn base entries before after now found → HasPut base entries before after seen told
+  passing_put after found told some on = rw (some, passing.same) at on
+
+  pub passing_more : (after last : UntestedWalk) (told : TickRecord) (later : Option (List ℕ)) (moments_later : List Moment) (faults_later : ℕ) → (put : HasPut base entries before after seen told) → KeepsObjectRules after.world
+      → last.world ≡ after.world → last.gate ≡ after.gate → last.len ≡ after.len → after.len ≡ before.len → later ≡ now → moments_later ≡ moments_now → faults_later ≡ faults_now
+      → IsPassing base (entries ++ put.entry ∷ []) last seen later moments moments_later faults faults_later
+  passing_more after last told later moments_later faults_later put keeps world gate len sized same crash steady = record {
+    passed = passed_same base (entries ++ put.entry ∷ []) after last seen world gate (put.passes keeps);
+    length = rw (len ∙ sized) passing.length;
+    same = same ∙ passing.same;
+    crash = crash ∙ passing.crash;
+    steady = steady ∙ passing.steady;
   }
 
 -- ---- what is found of a tick

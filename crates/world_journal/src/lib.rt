@@ -8,6 +8,7 @@ mod journal;
 mod laws;
 mod recovered;
 mod recovery;
+mod untested;
 mod uploaded;
 mod walk;
 
@@ -19,4 +20,5 @@ pub use laws::bytes_stand_for_one_journal;
 pub use recovered::{Modules, Recovered, UploadCount, UploadCounts};
 pub use std::alloc::AllocError as NoMemory;
 pub use tick_journal::BytesFault;
+pub use untested::UntestedWalk;
 pub use walk::Walk;

@@ -1,5 +1,7 @@
 // A journal read from its front, one frame at a time.
-ghost use Rattle.std.specs.Prelude.{◌≡◌, ◌≢◌, ℕ, ◌<◌, ◌≤◌, [], List, IfOk, IfErr, IfSome, IfNone, OnOk, ◌^◌};
+ghost use Rattle.std.specs.Prelude.{◌≡◌, ◌≢◌, ℕ, ◌<◌, ◌≤◌, ◌^◌, [], List, Option};
+ghost use Rattle.std.specs.Prelude.{IfOk, IfErr, IfSome, IfNone, OnOk};
+ghost use Rattle.changed_rules.specs.Census.{ArePlaced};
 ghost use Rattle.world_io.specs.Disk.{LengthIs};
 ghost use Rattle.object_store.specs.Stored.{Stored};
 ghost use Rattle.record_follows.specs.Follows.{Follows, after as world_next};
@@ -14,6 +16,7 @@ ghost use Rattle.world_journal.specs.declared.fault.RecoverFault.TheVariants.{Di
 use crate::NoMemory;
 use crate::base::read_base;
 use crate::fault::RecoverFault;
+use crate::untested::UntestedWalk;
 use changed_rules::Census;
 use frame_log::{Behind, read_frame};
 use object_store::World;
@@ -23,7 +26,7 @@ use tick_journal::{BytesFault, TickRecord, read_tick};
 use world_io::Disk;
 
 // The bytes of a gate and of a content's length.
-const HEAD: u64 = 9;
+pub(crate) const HEAD: u64 = 9;
 
 /// Where the reading of a journal stands: the world so far, and the place of the gate that comes next, on a
 /// disk of so many bytes. It holds no record, and the reading of the next one holds one frame. By a census of
@@ -31,7 +34,7 @@ const HEAD: u64 = 9;
 #[derive(Drop)]
 pub struct Walk {
     pub(crate) world: World,
-    census: Census,
+    pub(crate) census: Census,
     pub(crate) gate: u64,
     pub(crate) len: u64,
     ghost place: { gate < len },
@@ -84,7 +87,7 @@ fn next_record(
 }
 
 impl Walk {
-    ghost use Rattle.world_journal.specs.Walking.{HasStepped, HasWalked};
+    ghost use Rattle.world_journal.specs.Walking.{HasPassed, HasStepped, HasWalked};
 
     /// The world that the records so far lead to.
     pub fn world(&self) -> &World
@@ -156,5 +159,27 @@ impl Walk {
         };
         self.gate += HEAD + content.len() as u64;
         Ok(Some(entry))
+    }
+
+    /// The reading that goes on without testing the rules of objects.
+    pub fn untested(self) -> UntestedWalk
+        requires { IsCounted self.world self.census }
+        ensures same { (result.world ≡ self.world) × (result.gate ≡ self.gate) × (result.len ≡ self.len) }
+        ensures places { ArePlaced result.world.rooms }
+        ensures passed { (base : Stored) (entries : List Recorded) (seen : Option (List ℕ))
+            → HasWalked base entries self seen → HasPassed base entries result seen }
+    {
+        let Walk {
+            world,
+            census: _,
+            gate,
+            len,
+        } = self;
+        UntestedWalk {
+            world,
+            from: gate,
+            gate,
+            len,
+        }
     }
 }

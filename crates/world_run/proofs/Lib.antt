@@ -4,6 +4,7 @@ pub mod RunsLists
 pub mod Asked
 pub mod Demonstrates
 pub mod Shows
+pub mod Untested
 pub mod Replays
 pub mod Checked
 pub mod WorldFaults

@@ -1,6 +1,6 @@
 -- How a replay ends.
-use Rattle.std.proofs.Common.{◌≡◌, ℕ, ◌+◌, ◌*◌, ◌^◌, ◌-◌, ◌<◌, ◌≤◌, ◌==◌, true, cond, List, [], ◌∷◌, ◌++◌, length, append_assoc, map, take, Option, Some, None, Result, Ok, Err, inl, inr, arith, refl, sym, ap, subst, ◌∙◌}
-use Rattle.std.specs.Prelude.{slice_get, IfSome, IfOk, IfErr}
+use Rattle.std.proofs.Common.{◌≡◌, ◌≢◌, ℕ, ◌+◌, ◌*◌, ◌^◌, ◌-◌, ◌<◌, ◌≤◌, ◌==◌, true, cond, List, [], ◌∷◌, ◌++◌, length, append_assoc, map, take, Option, Some, None, inl, inr, arith, below_more, refl, sym, ap, subst, ◌∙◌}
+use Rattle.std.specs.Prelude.{slice_get, IfSome}
 use Rattle.std.specs.List.{AllByRecursion, flat_map}
 use Rattle.std.specs.Option.{is_some}
 use Rattle.std.proofs.lemmas.Bool.{cases_Bool, eqb-true}
@@ -25,19 +25,23 @@ use Rattle.hosted_tick.specs.Hosting.{IsHosted}
 use Rattle.hosted_tick.proofs.Accounts.{get_account}
 use Rattle.hosted_tick.proofs.Ran.{all_append}
 use Rattle.record_follows.specs.Courses.{world_after}
-use Rattle.record_follows.specs.Follows.{Follows, account_after, after, room_after}
+use Rattle.record_follows.specs.Follows.{Fits, account_after, after, room_after}
 use Rattle.record_follows.proofs.Placing.{player_stays}
-use Rattle.record_follows.proofs.Steps.{world_after_one}
 use Rattle.rule_check.proofs.Found.{mapped_at}
 use Rattle.world_io.specs.Causes.{Rose}
+use Rattle.rule_check.specs.Kept.{KeepsObjectRules}
 use Rattle.world_journal.specs.Answers.{IsRecoverFaultOf}
+use Rattle.world_journal.specs.Counted.{IsCounted}
+use Rattle.world_journal.specs.Faults.{FailsAt}
+use Rattle.world_journal.specs.Walking.{HasPassed, HasWalked}
+use Rattle.world_journal.specs.declared.untested.UntestedWalk.{UntestedWalk}
+use Rattle.world_journal.specs.declared.walk.Walk.{Walk}
 use Rattle.world_journal.specs.declared.fault.RecoverFault.{RecoverFault}
 use Rattle.world_journal.specs.declared.fault.RecoverFault.TheVariants as recover_faults
-use Rattle.world_journal.specs.Journals.{IsCourse, IsJournal, IsRead}
-use Rattle.world_journal.proofs.Courses.{course_front, follows_at}
+use Rattle.world_journal.specs.Journals.{IsCourse, IsJournal}
 use Rattle.world_journal.proofs.Journals.{journal_once, journal_some, journal_whole}
 use Rattle.recorded_tick.specs.Recording.{AreAlike, AreReadAlike, HaveSameFrame, ground_of}
-use Rattle.recorded_tick.proofs.Alike.{follows_alike, hosted_alike, led_alike, worlds_alike}
+use Rattle.recorded_tick.proofs.Alike.{fits_alike, led_alike, worlds_alike}
 use Rattle.recorded_tick.proofs.Grounds.{grounds_ruled}
 use Rattle.recorded_tick.proofs.Leading.{as_many_rooms}
 use Rattle.recorded_tick.proofs.Players.{players_raised}
@@ -49,11 +53,12 @@ use Rattle.world_run.specs.Listed.{listed}
 use Rattle.world_run.specs.Replayed.{AllRuled, AreRuled, DifferIn, DiffersAt, ExhaustedAt, IsNotReplayed, forms, recorded_forms, ruled_forms, wanted}
 use Rattle.world_run.specs.Runs.{DifferAt, HasSerials, IsExhausted}
 use Rattle.world_run.specs.inner.Stages.{status_unread}
-use Rattle.world_run.specs.inner.Ruling.{AreJudged, AreUnlike, IsUnlike, IsUnruled, StopsAt}
+use Rattle.world_run.specs.inner.Ruling.{AreAlikeTo, AreUnlike, BreaksRules, IsUnlike, IsUnruled, IsUnruledAs, StopsAt}
 use Rattle.world_run.specs.declared.status.Status.{Status}
 use Rattle.world_run.specs.declared.status.Status.TheVariants as statuses
 use Rattle.world_run.proofs.Opened.{same_differ}
 use Rattle.world_run.proofs.Worldly.{file_listed}
+use Rattle.world_run.proofs.Untested.{accounts_rise}
 
 -- ---- what is wanted is of few players, all with accounts
 
@@ -114,10 +119,10 @@ few_each (run ∷ runs) formed =
     let sum = length-append run.intents (flat_map (λ (run : RunEntry). run.intents) runs) in
     omega (arith, rest, here, sum)
 
-module _ (before : Stored) (entry : TickRecord) (hosted : IsHosted before) (formed : HasTickForm entry) (follows : Follows before entry) where
+module _ (before : Stored) (entry : TickRecord) (hosted : IsHosted before) (formed : HasTickForm entry) (fits : Fits before entry) where
   pub few_wanted : length (wanted entry) ≤ 2 ^ 18
   few_wanted =
-      let runs = few_runs entry.runs before.accounts hosted.sound.accounts formed.runs_rising follows.runs in
+      let runs = few_runs entry.runs before.accounts hosted.sound.accounts formed.runs_rising fits.runs in
       let each = few_each entry.runs formed.runs in
       let most : length before.accounts ≤ most_players = hosted.players in
       omega (arith, runs, each, most)
@@ -136,10 +141,10 @@ module _ (before : Stored) (entry : TickRecord) (hosted : IsHosted before) (form
       all_append IsListed run.intents (flat_map (λ (other : RunEntry). other.intents) runs) (own_listed run.player have.0 run.intents forms_are.0.intents.own) (runs_listed runs forms_are.1 have.1)
 
   pub wanted_by_players : AreByPlayers (world_of before) (wanted entry)
-  wanted_by_players = runs_listed entry.runs formed.runs follows.runs
+  wanted_by_players = runs_listed entry.runs formed.runs fits.runs
 
   pub tick_fits : before.tick < 2 ^ 64 - 1
-  tick_fits = let next = follows.tick in let fits = formed.tick in omega (arith, next, fits)
+  tick_fits = let next = fits.tick in let most = formed.tick in omega (arith, next, most)
 
 -- ---- forms
 
@@ -157,16 +162,16 @@ unfolding room_bytes
 form_alike one other same = ap room_bytes same
 
 -- what is ruled has the forms that are listed of it
-pub forms_ruled : (before : Stored) (entry : TickRecord) → IsHosted before → HasTickForm entry → Follows before entry → (next : Stored) (list : List Intent) → list ≡ wanted entry
+pub forms_ruled : (before : Stored) (entry : TickRecord) → IsHosted before → HasTickForm entry → Fits before entry → (next : Stored) (list : List Intent) → list ≡ wanted entry
     → world_of next ≡ plain_world (world_of before) list → (AreByPlayers (world_of before) list → IsSound next) → forms next.rooms ≡ ruled_forms before entry
-forms_ruled before entry hosted formed follows next list same is makes =
-    let sound = makes (subst (AreByPlayers (world_of before)) (sym same) (wanted_by_players before entry hosted formed follows)) in
+forms_ruled before entry hosted formed fits next list same is makes =
+    let sound = makes (subst (AreByPlayers (world_of before)) (sym same) (wanted_by_players before entry hosted formed fits)) in
     sym (forms_as_read next.rooms) ∙ sym (ap (λ (w : Stored). forms w.rooms) (file_listed next sound)) ∙ ap (λ (w : World). forms (listed w).rooms) (is ∙ ap (plain_world (world_of before)) same)
 
 -- what is ruled is sound
-pub sound_ruled : (before : Stored) (entry : TickRecord) → IsHosted before → HasTickForm entry → Follows before entry → (next : Stored) (list : List Intent) → list ≡ wanted entry
+pub sound_ruled : (before : Stored) (entry : TickRecord) → IsHosted before → HasTickForm entry → Fits before entry → (next : Stored) (list : List Intent) → list ≡ wanted entry
     → (AreByPlayers (world_of before) list → IsSound next) → IsSound next
-sound_ruled before entry hosted formed follows next list same makes = makes (subst (AreByPlayers (world_of before)) (sym same) (wanted_by_players before entry hosted formed follows))
+sound_ruled before entry hosted formed fits next list same makes = makes (subst (AreByPlayers (world_of before)) (sym same) (wanted_by_players before entry hosted formed fits))
 
 -- it has the rooms and the players of the world before
 pub frame_ruled : (before next : Stored) (list : List Intent) → IsSound before → IsSound next → world_of next ≡ plain_world (world_of before) list → HaveSameFrame before next
@@ -240,6 +245,18 @@ module _ (kept ruled : List Room) (i : ℕ) (one other : Room) (first : slice_ge
   unlike_here tick statuses.Memory is = tt
   unlike_here tick status is = absurd is
 
+same_some_room : (x y : Room) → Some x ≡ Some y → x ≡ y
+same_some_room x y same = cc
+
+-- one more room that is written alike
+pub alike_more : (kept ruled : List Room) (i : ℕ) (one other : Room) → slice_get kept i ≡ Some one → slice_get ruled i ≡ Some other → AreAlikeTo i kept ruled → AreAlike one.table other.table → AreAlikeTo (i + 1) kept ruled
+alike_more kept ruled i one other first second so_far here =
+    below_more (λ k. (x y : Room) → slice_get kept k ≡ Some x → slice_get ruled k ≡ Some y → AreAlike x.table y.table) i so_far
+    (λ x y a b.
+    let mine : Some one ≡ Some x = sym first ∙ a in
+    let its : Some other ≡ Some y = sym second ∙ b in
+    subst (λ (r : Room). AreAlike r.table y.table) (same_some_room one x mine) (subst (λ (r : Room). AreAlike one.table r.table) (same_some_room other y its) here))
+
 -- where all rooms are gone through
 pub forms_same : (kept ruled : List Room) (i : ℕ) → length kept ≡ length ruled → length kept ≤ i → take i (forms kept) ≡ take i (forms ruled) → forms kept ≡ forms ruled
 forms_same kept ruled i many past same =
@@ -249,10 +266,6 @@ forms_same kept ruled i many past same =
 
 -- ---- records, one after the other
 
-all_at : {A : Type 0} (P : A → Type 0) (xs : List A) (x : A) (ys : List A) → AllByRecursion P (xs ++ x ∷ ys) → P x
-all_at P [] x ys all = all.0
-all_at P (y ∷ xs) x ys all = all_at P xs x ys all.1
-
 ruled_one : (base : Stored) (entries : List TickRecord) (entry : TickRecord) → AllRuled base entries → HasSerials (world_of (world_after base entries)) → AreRuled (world_after base entries) entry → AllRuled base (entries ++ entry ∷ [])
 ruled_one base [] entry all serials ruled = (serials, ruled, tt)
 ruled_one base (first ∷ entries) entry all serials ruled = (all.0, all.1, ruled_one (after base first) entries entry all.2 serials ruled)
@@ -260,17 +273,6 @@ ruled_one base (first ∷ entries) entry all serials ruled = (all.0, all.1, rule
 ruled_at : (base : Stored) (entries : List TickRecord) (entry : TickRecord) (later : List TickRecord) → AllRuled base (entries ++ entry ∷ later) → HasSerials (world_of (world_after base entries)) × AreRuled (world_after base entries) entry
 ruled_at base [] entry later all = (all.0, all.1)
 ruled_at base (first ∷ entries) entry later all = ruled_at (after base first) entries entry later all.2
-
--- the front of a course, and its last record
-module _ (base : Stored) (entries : List TickRecord) (entry : TickRecord) (course : IsCourse base (entries ++ entry ∷ [])) where
-  pub course_before : IsCourse base entries
-  course_before = course_front base entries (entry ∷ []) course
-
-  pub follows_last : Follows (world_after base entries) entry
-  follows_last = follows_at base entries entry [] course
-
-  pub form_last : HasTickForm entry
-  form_last = (all_at IsRead entries entry [] course.forms).form
 
 -- Worlds that are read alike are ruled alike.
 pub forms_alike : (one other : Stored) → AreReadAlike one other → forms one.rooms ≡ forms other.rooms
@@ -300,12 +302,8 @@ module _ (one other : Stored) (entry : TickRecord) (same : AreReadAlike one othe
   unruled_alike statuses.Memory is = tt
   unruled_alike status is = absurd is
 
--- What comes of a record and of the world that was ruled so far: where there is one, it is what the rules make, and is read as this.
-abbrev pub IsLedTo : TickRecord → Result Stored Status → Result Stored Status → Stored → Type 0
-IsLedTo entry so_far found world = IfOk so_far (λ own. IfOk found (λ next. HasSerials (world_of own) × AreRuled own entry × AreReadAlike next world))
-
 module _ (base : Stored) (entries : List TickRecord) (entry : TickRecord) where
-  stops_here : AllRuled base entries → (status : Status) → IsUnruled (world_after base entries) entry status → StopsAt base (entries ++ entry ∷ []) status
+  pub stops_here : AllRuled base entries → (status : Status) → IsUnruled (world_after base entries) entry status → StopsAt base (entries ++ entry ∷ []) status
   stops_here all (statuses.Differs tick room at k r) is = record {
     earlier = entries;
     entry = entry;
@@ -327,69 +325,128 @@ module _ (base : Stored) (entries : List TickRecord) (entry : TickRecord) where
   stops_here all statuses.Memory is = tt
   stops_here all status is = absurd is
 
-  -- what stops a replay of some records stops one of more
-  stops_still : (status : Status) → StopsAt base entries status → StopsAt base (entries ++ entry ∷ []) status
-  stops_still (statuses.Differs tick room at k r) is = record {
-    earlier = is.earlier;
-    entry = is.entry;
-    later = is.later ++ entry ∷ [];
-    ordered = ap (λ l. l ++ entry ∷ []) is.ordered ∙ append_assoc is.earlier (is.entry ∷ is.later) (entry ∷ []);
-    ruled_before = is.ruled_before;
-    tick_is = is.tick_is;
-    serials = is.serials;
-    differ = is.differ;
-  }
-  stops_still (statuses.IdsExhausted index) is = record {
-    earlier = is.earlier;
-    entry = is.entry;
-    later = is.later ++ entry ∷ [];
-    ordered = ap (λ l. l ++ entry ∷ []) is.ordered ∙ append_assoc is.earlier (is.entry ∷ is.later) (entry ∷ []);
-    ruled_before = is.ruled_before;
-    exhausted = is.exhausted;
-  }
-  stops_still statuses.Memory is = tt
-  stops_still status is = absurd is
+  -- the record of a world that is read as the one behind the records before
+  module _ (own before : Stored) (led : before ≡ world_after base entries) (alike : AreReadAlike own before) (all : AllRuled base entries) where
+    same : AreReadAlike own (world_after base entries)
+    same = subst (AreReadAlike own) led alike
 
-  judged_from : (before own : Stored) → before ≡ world_after base entries → AreReadAlike own before → AllRuled base entries → (found : Result Stored Status)
-      → IfOk found (λ next. HasSerials (world_of own) × AreRuled own entry × AreReadAlike next (world_after base (entries ++ entry ∷ []))) → IfErr found (IsUnruled own entry)
-      → AreJudged base (entries ++ entry ∷ []) found
-  judged_from before own here alike all (Ok next) ruled unruled =
-      let same = subst (AreReadAlike own) here alike in
-      (ruled_one base entries entry all (serials_alike own (world_after base entries) same ruled.0) (ruled_alike own (world_after base entries) entry same ruled.1), ruled.2)
-  judged_from before own here alike all (Err status) ruled unruled =
-      stops_here all status (unruled_alike own (world_after base entries) entry (subst (AreReadAlike own) here alike) status unruled)
+    pub ruled_more : HasSerials (world_of own) → AreRuled own entry → AllRuled base (entries ++ entry ∷ [])
+    ruled_more serials ruled = ruled_one base entries entry all (serials_alike own (world_after base entries) same serials) (ruled_alike own (world_after base entries) entry same ruled)
 
-  pub judged_more : (before : Stored) → before ≡ world_after base entries → (so_far found : Result Stored Status) → AreJudged base entries so_far
-      → IfErr so_far (λ status. found ≡ Err status)
-      → IsLedTo entry so_far found (world_after base (entries ++ entry ∷ []))
-      → IfOk so_far (λ own. IfErr found (IsUnruled own entry))
-      → AreJudged base (entries ++ entry ∷ []) found
-  judged_more before here (Ok own) found judged known ruled unruled = judged_from before own here (subst (AreReadAlike own) (sym here) judged.1) judged.0 found ruled unruled
-  judged_more before here (Err status) found judged known ruled unruled =
-      subst (AreJudged base (entries ++ entry ∷ [])) (sym known) (stops_still status judged)
+    pub stopped_more : (status : Status) → IsUnruled own entry status → StopsAt base (entries ++ entry ∷ []) status
+    stopped_more status unruled = stops_here all status (unruled_alike own (world_after base entries) entry same status unruled)
 
--- what is known of the world that is ruled so far
-module _ (base : Stored) (entries : List TickRecord) (entry : TickRecord) where
-  pub own_hosted : (so_far : Result Stored Status) → AreJudged base entries so_far → IsHosted (world_after base entries) → IfOk so_far IsHosted
-  own_hosted (Ok own) judged hosted = hosted_alike own (world_after base entries) judged.1 hosted
-  own_hosted (Err status) judged hosted = tt
-
-  pub own_follows : (so_far : Result Stored Status) → AreJudged base entries so_far → Follows (world_after base entries) entry → IfOk so_far (λ own. Follows own entry)
-  own_follows (Ok own) judged follows = follows_alike own (world_after base entries) judged.1 entry follows
-  own_follows (Err status) judged follows = tt
-
-  pub own_leads : (so_far : Result Stored Status) → AreJudged base entries so_far → (after_it : Stored) → after_it ≡ world_after base (entries ++ entry ∷ []) → IfOk so_far (λ own. AreReadAlike after_it (after own entry))
-  own_leads (Ok own) judged after_it is =
-      ap world_as_read (is ∙ world_after_one base entries entry) ∙ sym (led_alike own (world_after base entries) judged.1 entry)
-  own_leads (Err status) judged after_it is = tt
+-- What stops a replay of some records stops one of more.
+pub stops_still : (base : Stored) (entries more : List TickRecord) (status : Status) → StopsAt base entries status → StopsAt base (entries ++ more) status
+stops_still base entries more (statuses.Differs tick room at k r) is = record {
+  earlier = is.earlier;
+  entry = is.entry;
+  later = is.later ++ more;
+  ordered = ap (λ l. l ++ more) is.ordered ∙ append_assoc is.earlier (is.entry ∷ is.later) more;
+  ruled_before = is.ruled_before;
+  tick_is = is.tick_is;
+  serials = is.serials;
+  differ = is.differ;
+}
+stops_still base entries more (statuses.IdsExhausted index) is = record {
+  earlier = is.earlier;
+  entry = is.entry;
+  later = is.later ++ more;
+  ordered = ap (λ l. l ++ more) is.ordered ∙ append_assoc is.earlier (is.entry ∷ is.later) more;
+  ruled_before = is.ruled_before;
+  exhausted = is.exhausted;
+}
+stops_still base entries more statuses.Memory is = tt
+stops_still base entries more status is = absurd is
 
 -- a record is not ruled where its rooms are unlike
-pub unruled_here : (before : Stored) (entry : TickRecord) (kept ruled : List (List ℕ)) → kept ≡ recorded_forms before entry → ruled ≡ ruled_forms before entry → HasSerials (world_of before)
-    → (status : Status) → AreUnlike entry.tick kept ruled status → IsUnruled before entry status
-unruled_here before entry kept ruled one other serials (statuses.Differs tick room at k r) is =
-    (is.0, serials, subst (λ (forms_two : List (List ℕ)). DifferIn room at k r (recorded_forms before entry) forms_two) other (subst (λ (forms_one : List (List ℕ)). DifferIn room at k r forms_one ruled) one is.1))
-unruled_here before entry kept ruled one other serials statuses.Memory is = tt
-unruled_here before entry kept ruled one other serials status is = absurd is
+pub unruled_here : (before : Stored) (entry : TickRecord) (kept ruled after_forms : List (List ℕ)) → kept ≡ after_forms → ruled ≡ ruled_forms before entry → HasSerials (world_of before)
+    → (status : Status) → AreUnlike entry.tick kept ruled status → IsUnruledAs before entry after_forms status
+unruled_here before entry kept ruled after_forms one other serials (statuses.Differs tick room at k r) is =
+    (is.0, serials, subst (λ (forms_two : List (List ℕ)). DifferIn room at k r after_forms forms_two) other (subst (λ (forms_one : List (List ℕ)). DifferIn room at k r forms_one ruled) one is.1))
+unruled_here before entry kept ruled after_forms one other serials statuses.Memory is = tt
+unruled_here before entry kept ruled after_forms one other serials status is = absurd is
+
+-- ---- a record that is told without its tables
+
+module _ (own before after_it : Stored) (entry told : TickRecord) (rest : told ≡ record entry { rooms = [] }) (alike : AreReadAlike own before) (fits : Fits before entry) (leads : after_it ≡ after before entry) where
+  pub told_fits : Fits own told
+  told_fits =
+      let whole = fits_alike own before alike entry fits in
+      let bare : Fits own (record entry { rooms = [] }) = record { tick = whole.tick; rooms = tt; runs = whole.runs; accounts = whole.accounts; uploads = whole.uploads } in
+      subst (Fits own) (sym rest) bare
+
+  pub told_form : HasTickForm entry → HasTickForm told
+  told_form form =
+      let bare : HasTickForm (record entry { rooms = [] }) = record {
+        uploads = form.uploads;
+        runs = form.runs;
+        runs_rising = form.runs_rising;
+        accounts = form.accounts;
+        rooms = tt;
+        rooms_rising = tt;
+        tick = form.tick;
+        uploads_count = form.uploads_count;
+        runs_count = form.runs_count;
+        rooms_count = omega arith;
+      } in
+      subst HasTickForm (sym rest) bare
+
+  led : AreReadAlike after_it (after own entry)
+  led = ap world_as_read leads ∙ sym (led_alike own before alike entry)
+
+  pub told_frame : HaveSameFrame own after_it
+  told_frame = frame_after own own after_it entry (record { rooms = refl; players = refl }) led
+
+  pub told_rising : AreRising own.accounts → AreRising after_it.accounts
+  told_rising rising = accounts_rise own after_it entry rising led
+
+  forms_led : forms after_it.rooms ≡ recorded_forms own entry
+  forms_led = forms_alike after_it (after own entry) led
+
+  forms_told : ruled_forms own told ≡ ruled_forms own entry
+  forms_told = ap (ruled_forms own) rest
+
+  pub told_ruled : forms after_it.rooms ≡ ruled_forms own told → AreRuled own entry
+  told_ruled same = sym forms_led ∙ (same ∙ forms_told)
+
+  pub told_unruled : (status : Status) → IsUnruledAs own told (forms after_it.rooms) status → IsUnruled own entry status
+  told_unruled (statuses.Differs tick room at k r) is = (
+    is.0 ∙ ap (λ (e : TickRecord). e.tick) rest,
+    is.1,
+    subst (λ (others : List (List ℕ)). DifferIn room at k r (recorded_forms own entry) others) forms_told
+        (subst (λ (ones : List (List ℕ)). DifferIn room at k r ones (ruled_forms own told)) forms_led is.2),
+  )
+  told_unruled (statuses.IdsExhausted index) is = is
+  told_unruled statuses.Memory is = tt
+  told_unruled status is = absurd is
+
+-- ---- a reading that tests the rules again
+
+pub walked_tested : (base : Stored) (entries : List TickRecord) (one : UntestedWalk) (other : Walk) (seen : Option (List ℕ)) → HasPassed base entries one seen → other.world ≡ one.world → other.gate ≡ one.gate → IsCounted other.world other.census → HasWalked base entries other seen
+walked_tested base entries one other seen passed world gate counted = record {
+  course = passed.course;
+  world = world ∙ passed.world;
+  count = rw gate passed.count;
+  front = rw gate passed.front;
+  counted = counted;
+}
+
+-- ---- a record whose world breaks the rules
+
+pub broken_rules : (seen : Option (List ℕ)) (before now : ℕ) (world : Stored) (gate : ℕ) (status : Status) → BreaksRules world gate status → ((KeepsObjectRules world → ⊥) → IfSome seen (FailsAt gate)) → IsNotReplayed seen before now status
+broken_rules seen before now world gate (statuses.NotAJournal at) breaks fails = subst (λ (n : ℕ). IfSome seen (FailsAt n)) (sym breaks.0) (fails breaks.1)
+broken_rules seen before now world gate statuses.Memory breaks fails = tt
+broken_rules seen before now world gate status breaks fails = absurd breaks
+
+pub untested_fault : (world : Stored) (gate : ℕ) (fault : RecoverFault) → (fault ≢ recover_faults.Memory → (fault ≡ recover_faults.NotAJournal gate) × (KeepsObjectRules world → ⊥)) → BreaksRules world gate (status_unread fault)
+untested_fault world gate recover_faults.Empty told = absurd (let h = (told (λ e. cc)).0 in cc)
+untested_fault world gate recover_faults.DiskFault told = absurd (let h = (told (λ e. cc)).0 in cc)
+untested_fault world gate (recover_faults.NotAJournal at) told =
+    let h = told (λ e. cc) in
+    let is : recover_faults.NotAJournal at ≡ recover_faults.NotAJournal gate = h.0 in
+    (cc, h.1)
+untested_fault world gate recover_faults.Memory told = tt
 
 -- ---- the whole journal
 

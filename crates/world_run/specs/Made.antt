@@ -3,7 +3,7 @@ use Rattle.std.specs.Prelude.{◌≡◌, ℕ, List, Option}
 use Rattle.std.specs.Io.KnownBytes.{Appends}
 use Rattle.world_io.specs.Told.{AppendsPrefix}
 use Rattle.byte_fields.specs.Front.{SpellsShortest}
-use Rattle.wasm_module.specs.Sections.{Spells}
+use Rattle.wasm_module.specs.sections.Sections.{Spells}
 use Rattle.upload_stream.specs.Streams.{UploadList}
 use Rattle.world_form.specs.Written.{written}
 use Rattle.world_gen.specs.Generator.{generated}

@@ -4,7 +4,7 @@ ghost use Rattle.std.specs.Prelude.{IfOk, IfErr};
 ghost use Rattle.byte_fields.specs.Front.{SpellsShortest};
 ghost use Rattle.command_words.specs.Words.{AreRooms};
 ghost use Rattle.upload_stream.specs.Entries.{upload_of};
-ghost use Rattle.wasm_module.specs.Sections.{Spells};
+ghost use Rattle.wasm_module.specs.sections.Sections.{Spells};
 ghost use Rattle.world_gen.specs.PlayerModule.{player_module};
 ghost use Rattle.world_gen.specs.Uploads.{uploads as uploads_of};
 ghost use Rattle.world_io.specs.Causes.{Rose};

@@ -1,29 +1,34 @@
 // The records of a journal, ruled again.
-ghost use Rattle.std.specs.Prelude.{◌≡◌, ◌≢◌, ◌⊎◌, ℕ, ◌<◌, ◌≤◌, ◌^◌, List, length, string_bytes, Some, Err};
-ghost use Rattle.std.specs.Prelude.{IfOk, IfErr, OnOk};
+ghost use Rattle.std.specs.Prelude.{◌≡◌, ◌≢◌, ◌⊎◌, ℕ, ◌<◌, ◌≤◌, ◌^◌, true, List, [], ◌++◌, length, Some};
+ghost use Rattle.std.specs.Prelude.{string_bytes, IfOk, IfErr, IfSome, OnOk};
 ghost use Rattle.std.specs.List.{flat_map};
+ghost use Rattle.changed_rules.specs.Census.{ArePlaced};
 ghost use Rattle.hosted_tick.specs.Hosting.{IsHosted};
-ghost use Rattle.object_store.specs.Stored.{Stored};
-ghost use Rattle.record_follows.specs.Follows.{Follows, after as world_next};
+ghost use Rattle.kept_entries.specs.Turns.{AreKept};
+ghost use Rattle.object_store.specs.Stored.{AreRising, Stored};
+ghost use Rattle.record_follows.specs.Follows.{Fits};
+ghost use Rattle.recorded_tick.specs.Recording.{AreAlike, AreReadAlike, HaveSameFrame};
+ghost use Rattle.rule_check.specs.Kept.{KeepsObjectRules};
 ghost use Rattle.tick_journal.specs.TickForms.{HasTickForm};
 ghost use Rattle.tick_journal.specs.declared.tick_record.TickRecord.{TickRecord as Recorded};
 ghost use Rattle.world_bytes.specs.Forms.{room_bytes};
 ghost use Rattle.world_io.specs.Causes.{Rose};
-ghost use Rattle.world_journal.specs.Journals.{IsJournal};
-ghost use Rattle.world_rules.specs.Sound.{HaveSerials};
+ghost use Rattle.world_io.specs.Disk.{LengthIs};
+ghost use Rattle.world_journal.specs.Counted.{IsCounted};
+ghost use Rattle.world_journal.specs.Journals.{IsCourse, IsJournal};
+ghost use Rattle.world_journal.specs.Walking.{HasPassed, HasWalked};
+ghost use Rattle.world_rules.specs.Sound.{HaveSerials, IsSound};
 ghost use Rattle.world_rules.specs.World.{world_of};
-ghost use Rattle.world_run.specs.Replayed.{AllRuled, AreRuled, EndsReplaying, IsNotReplayed, IsReplayed};
-ghost use Rattle.world_run.specs.Replayed.{forms};
-ghost use Rattle.world_run.specs.Replayed.{replayed_line, ruled_forms};
+ghost use Rattle.world_run.specs.Replayed.{AllRuled, EndsReplaying, IsNotReplayed, IsReplayed};
+ghost use Rattle.world_run.specs.Replayed.{forms, replayed_line, ruled_forms};
 ghost use Rattle.world_run.specs.Runs.{HasSerials};
-ghost use Rattle.world_run.specs.inner.Ruling.{AreUnlike, IsUnlike, IsUnruled};
-ghost use Rattle.kept_entries.specs.Turns.{AreKept};
-ghost use Rattle.recorded_tick.specs.Recording.{AreReadAlike, HaveSameFrame};
-ghost use Rattle.world_rules.specs.Sound.{IsSound};
+ghost use Rattle.world_run.specs.inner.Ruling.{AreAlikeTo, AreUnlike, BreaksRules, HasCome, IsUnlike};
+ghost use Rattle.world_run.specs.inner.Ruling.{IsUnruledAs};
 
 use crate::opening::{byte_at, first_difference};
 use crate::status::Status;
 use crate::ticks::exhausted_room;
+use changed_rules::has_few_sites;
 use intent_book::Intent;
 use kept_entries::{Entry, kept_entries};
 use object_store::{Room, RoomTable, World};
@@ -33,7 +38,7 @@ use std::alloc::{AllocError as NoMemory, Global};
 use tick_journal::{RunEntry, TickRecord};
 use world_bytes::write_room;
 use world_io::{Disk, Sink, write_all};
-use world_journal::{RecoverFault, Walk};
+use world_journal::{RecoverFault, UntestedWalk, Walk};
 use world_roster::Roster;
 
 /// Rules the records of the journal on the disk again, and writes how many there are, if each room after each
@@ -73,6 +78,15 @@ fn line_of(alloc: Global, count: u64) -> Result<String, NoMemory>
     format!(in alloc; "replayed {count}\n")
 }
 
+// What comes of the records of a journal.
+#[derive(Drop)]
+enum Replay {
+    // All are what the rules make, up to this tick.
+    Ruled(u64),
+    // One is not, for this reason. The reading stands behind it.
+    Unruled(Walk, Status),
+}
+
 // How many records the journal on the disk has, if all are what the rules make. It is read one frame at a
 // time, and to its end also behind a record that is not, since it is a journal only if no later frame fails.
 fn replayed<D: Disk>(alloc: Global, disk: &mut D) -> Result<u64, Status>
@@ -85,20 +99,115 @@ fn replayed<D: Disk>(alloc: Global, disk: &mut D) -> Result<u64, Status>
         → D.faults disk.new ≡ D.faults disk.old) }
     ensures later { D.faults disk.old ≤ D.faults disk.new }
 {
-    courses_can_be_hosted();
-    let mut walk = Walk::begin(alloc, disk)?;
+    let walk = Walk::begin(alloc, disk)?;
     let first = walk.world().tick();
-    let Ok(own) = walk.world().copy(alloc) else {
+    match rule_records(alloc, disk, walk.untested())? {
+        Replay::Ruled(last) => Ok(last - first),
+        Replay::Unruled(rest, status) => {
+            read_rest(alloc, disk, rest)?;
+            Err(status)
+        }
+    }
+}
+
+// Rules the records of a journal again from its front, up to the first that is not what the rules make. A
+// record is known to keep the rules of objects where its rooms are those that the rules make and nobody has
+// too many sites; else they are tested.
+fn rule_records<D: Disk>(
+    alloc: Global,
+    disk: &mut D,
+    mut walk: UntestedWalk,
+) -> Result<Replay, Status>
+    requires begun { HasPassed walk.world [] walk (D.seen disk.old) }
+    requires length { LengthIs (D.seen disk.old) walk.len }
+    requires places { ArePlaced walk.world.rooms }
+    ensures come { IfOk result (λ replay. (entries : List Recorded)
+        × HasCome walk.world entries (D.seen disk.old) replay) }
+    ensures fault { IfErr result
+        (IsNotReplayed (D.seen disk.old) (D.faults disk.old) (D.faults disk.new)) }
+    ensures disk { (D.seen disk.new ≡ D.seen disk.old) × (D.moments disk.new ≡ D.moments disk.old) }
+    ensures steady { OnOk result (D.faults disk.new ≡ D.faults disk.old) }
+    ensures steady_else { IfErr result (λ status. status ≢ Status.DiskFault
+        → D.faults disk.new ≡ D.faults disk.old) }
+    ensures later { D.faults disk.old ≤ D.faults disk.new }
+{
+    courses_can_be_hosted();
+    let Ok(mut own) = walk.world().copy(alloc) else {
         return Err(Status::Memory);
     };
-    let mut so_far: Result<World, Status> = Ok(own);
-    'each: while let Some(entry) = walk.next(alloc, disk)? {
-        so_far = rule_next(alloc, so_far, &entry, walk.world());
+    'each: while let Some(told) = walk.next(alloc, disk)? {
+        match rule_again(alloc, own, &told, walk.world()) {
+            Ok((ruled, keeps)) => {
+                walk = go_on(alloc, walk, keeps)?;
+                own = caught_up(alloc, ruled, walk.world())?;
+            }
+            Err(status) => return Ok(Replay::Unruled(tested(alloc, walk)?, status)),
+        }
     }
-    match so_far {
-        Ok(_) => Ok(walk.world().tick() - first),
-        Err(status) => Err(status),
+    Ok(Replay::Ruled(walk.world().tick()))
+}
+
+// The reading that tests the rules of objects, if the world keeps them.
+fn tested(alloc: Global, walk: UntestedWalk) -> Result<Walk, Status>
+    requires { ArePlaced walk.world.rooms }
+    ensures same { IfOk result (λ next. (next.world ≡ walk.world) × (next.gate ≡ walk.gate)
+        × (next.len ≡ walk.len)) }
+    ensures counted { IfOk result (λ next. IsCounted next.world next.census) }
+    ensures fault { IfErr result (BreaksRules walk.world walk.from) }
+{
+    let next = walk.tested(alloc)?;
+    Ok(next)
+}
+
+// The reading behind a record, if the world after it keeps the rules of objects, which is tested where it
+// isn't known.
+fn go_on(alloc: Global, walk: UntestedWalk, keeps: bool) -> Result<UntestedWalk, Status>
+    requires keeps { keeps ≡ true → KeepsObjectRules walk.world }
+    requires places { ArePlaced walk.world.rooms }
+    ensures keeps { OnOk result (KeepsObjectRules walk.world) }
+    ensures same { IfOk result (λ next. (next.world ≡ walk.world) × (next.gate ≡ walk.gate)
+        × (next.len ≡ walk.len)) }
+    ensures fault { IfErr result (BreaksRules walk.world walk.from) }
+{
+    if keeps {
+        return Ok(walk);
     }
+    Ok(tested(alloc, walk)?.untested())
+}
+
+// The world that was ruled, read as the one after the record, which has its accounts too.
+fn caught_up(alloc: Global, mut ruled: World, after: &World) -> Result<World, Status>
+    requires sound { IsSound ruled }
+    requires well { IsSound after.now }
+    requires frame { HaveSameFrame ruled after.now }
+    ensures alike { IfOk result (λ own. AreReadAlike own after.now) }
+    ensures memory { IfErr result (λ status. status ≡ Status.Memory) }
+{
+    match catch_up(alloc, &mut ruled, after) {
+        Ok(()) => Ok(ruled),
+        Err(_) => Err(Status::Memory),
+    }
+}
+
+// Reads a journal to its end, testing the rules.
+fn read_rest<D: Disk>(alloc: Global, disk: &mut D, mut walk: Walk) -> Result<(), Status>
+    requires length { LengthIs (D.seen disk.old) walk.len }
+    requires counted { IsCounted walk.world walk.census }
+    ensures read { OnOk result ((base : Stored) (entries : List Recorded)
+        → HasWalked base entries walk (D.seen disk.old)
+        → (later : List Recorded) × IsCourse base (entries ++ later)
+        × IfSome (D.seen disk.old) (IsJournal base (entries ++ later))) }
+    ensures fault { IfErr result (λ status. (base : Stored) (entries : List Recorded)
+        → HasWalked base entries walk (D.seen disk.old)
+        → IsNotReplayed (D.seen disk.old) (D.faults disk.old) (D.faults disk.new) status) }
+    ensures disk { (D.seen disk.new ≡ D.seen disk.old) × (D.moments disk.new ≡ D.moments disk.old) }
+    ensures steady { OnOk result (D.faults disk.new ≡ D.faults disk.old) }
+    ensures steady_else { IfErr result (λ status. status ≢ Status.DiskFault
+        → D.faults disk.new ≡ D.faults disk.old) }
+    ensures later { D.faults disk.old ≤ D.faults disk.new }
+{
+    'each: while let Some(_) = walk.next(alloc, disk)? {}
+    Ok(())
 }
 
 impl From<RecoverFault> for Status {
@@ -117,64 +226,46 @@ impl From<RecoverFault> for Status {
     }
 }
 
-// The world that the rules make of all records up to this one, where they are what the rules make: else the
-// reason that is known, or what is found of this one.
-fn rule_next(
+// The world that the rules make of a world and of what a record says is wanted, if its rooms have the forms
+// of those after the record; and whether these are known to keep the rules of objects.
+fn rule_again(
     alloc: Global,
-    so_far: Result<World, Status>,
-    entry: &TickRecord,
+    own: World,
+    told: &TickRecord,
     after: &World,
-) -> Result<World, Status>
-    requires hosted { IfOk so_far (λ own. IsHosted own) }
-    requires follows { IfOk so_far (λ own. Follows own entry.now) }
-    requires leads { IfOk so_far (λ own. AreReadAlike after.now (world_next own entry.now)) }
-    requires form { HasTickForm entry.now }
-    requires whole { IsHosted after.now }
-    ensures known { IfErr so_far (λ status. result ≡ Err status) }
-    ensures ruled { IfOk so_far (λ own. IfOk result (λ next.
-        HasSerials (world_of own) × AreRuled own entry.now × AreReadAlike next after.now)) }
-    ensures unruled { IfOk so_far (λ own. IfErr result (IsUnruled own entry.now)) }
-{
-    match so_far {
-        Ok(own) => rule_again(alloc, own, entry, after),
-        Err(status) => Err(status),
-    }
-}
-
-// The world that the rules make of a world and a record, where it is the world after the record. It is read
-// as that one then, accounts included.
-fn rule_again(alloc: Global, own: World, entry: &TickRecord, after: &World) -> Result<World, Status>
+) -> Result<(World, bool), Status>
     requires hosted { IsHosted own }
-    requires follows { Follows own entry.now }
-    requires leads { AreReadAlike after.now (world_next own entry.now) }
-    requires form { HasTickForm entry.now }
-    requires whole { IsHosted after.now }
+    requires fits { Fits own told.now }
+    requires form { HasTickForm told.now }
+    requires frame { HaveSameFrame own after.now }
+    requires rising { AreRising after.now.accounts }
     ensures serials { OnOk result (HasSerials (world_of own)) }
-    ensures ruled { OnOk result (AreRuled own entry.now) }
-    ensures alike { IfOk result (λ next. AreReadAlike next after.now) }
-    ensures unruled { IfErr result (IsUnruled own entry.now) }
+    ensures ruled { OnOk result (forms after.now.rooms ≡ ruled_forms own told.now) }
+    ensures sound { IfOk result (λ next. IsSound next.0) }
+    ensures frame { IfOk result (λ next. HaveSameFrame next.0 after.now) }
+    ensures keeps { IfOk result (λ next. next.1 ≡ true → KeepsObjectRules after.now) }
+    ensures unruled { IfErr result (IsUnruledAs own told.now (forms after.now.rooms)) }
 {
     if let Some(index) = exhausted_room(&own) {
         return Err(Status::IdsExhausted(index));
     }
-    let Ok(mut ruled) = ruled_world(alloc, own, entry) else {
+    let Ok(ruled) = ruled_world(alloc, own, told) else {
         return Err(Status::Memory);
     };
-    match compare_rooms(alloc, entry.tick, after.room_list(), ruled.room_list()) {
-        Ok(()) => {}
-        Err(status) => return Err(status),
+    match compare_rooms(alloc, told.tick, after.room_list(), ruled.room_list()) {
+        Ok(alike) => match has_few_sites(alloc, &ruled) {
+            Ok(few) => Ok((ruled, alike & few)),
+            Err(_) => Err(Status::Memory),
+        },
+        Err(status) => Err(status),
     }
-    let Ok(()) = catch_up(alloc, &mut ruled, after) else {
-        return Err(Status::Memory);
-    };
-    Ok(ruled)
 }
 
 // The world that the rules make of a world and of what a record says is wanted.
 fn ruled_world(alloc: Global, own: World, entry: &TickRecord) -> Result<World, NoMemory>
     requires hosted { IsHosted own }
     requires form { HasTickForm entry.now }
-    requires follows { Follows own entry.now }
+    requires fits { Fits own entry.now }
     requires serials { HaveSerials own.rooms }
     ensures ruled { IfOk result (λ world. forms world.rooms ≡ ruled_forms own entry.now) }
     ensures frame { IfOk result (λ world. HaveSameFrame own world) }
@@ -186,11 +277,15 @@ fn ruled_world(alloc: Global, own: World, entry: &TickRecord) -> Result<World, N
     Ok(ruled)
 }
 
-// Those of the entries that count, in the order of a tick.
+// Those of the entries that count, in the order of a tick. The objects are listed only for entries to be
+// found among them.
 fn counted(alloc: Global, world: &World, wanted: &[Intent]) -> Result<Vec<Entry>, NoMemory>
     requires { IsSound world.now }
     ensures { IfOk result (λ entries. AreKept (world_of world.now) wanted.now entries.items) }
 {
+    if wanted.is_empty() {
+        return Ok(Vec::new(alloc));
+    }
     let roster = Roster::of(alloc, world)?;
     let entries = kept_entries(alloc, world, &roster, wanted)?;
     Ok(entries)
@@ -207,35 +302,39 @@ fn wanted_by(alloc: Global, runs: &[RunEntry]) -> Result<Vec<Intent>, NoMemory>
     Ok(wanted)
 }
 
-// Compares the byte forms of rooms that were recorded with those that are ruled.
-fn compare_rooms(alloc: Global, tick: u64, kept: &[Room], ruled: &[Room]) -> Result<(), Status>
+// Compares the byte forms of rooms that were recorded with those that are ruled, and answers whether all
+// rooms are written alike.
+fn compare_rooms(alloc: Global, tick: u64, kept: &[Room], ruled: &[Room]) -> Result<bool, Status>
     requires many { length kept.now ≡ length ruled.now }
     requires within { length kept.now < 2 ^ 32 }
     ensures same { OnOk result (forms kept.now ≡ forms ruled.now) }
+    ensures alike { IfOk result (λ alike. alike ≡ true → AreAlikeTo (length kept.now) kept.now ruled.now) }
     ensures unlike { IfErr result (AreUnlike tick (forms kept.now) (forms ruled.now)) }
 {
+    let mut all = true;
     for (index, room) in kept.iter().enumerate() {
         match compare_room(alloc, tick, index as u32, &room.table, &ruled[index].table) {
-            Ok(()) => {}
+            Ok(alike) => all = all & alike,
             Err(status) => return Err(status),
         }
     }
-    Ok(())
+    Ok(all)
 }
 
-// Compares the byte forms of a room.
+// Compares the byte forms of a room, and answers whether both are written alike.
 fn compare_room(
     alloc: Global,
     tick: u64,
     index: u32,
     kept: &RoomTable,
     ruled: &RoomTable,
-) -> Result<(), Status>
+) -> Result<bool, Status>
     ensures same { OnOk result (room_bytes kept.now ≡ room_bytes ruled.now) }
+    ensures alike { IfOk result (λ alike. alike ≡ true → AreAlike kept.now ruled.now) }
     ensures unlike { IfErr result (IsUnlike tick index (room_bytes kept.now) (room_bytes ruled.now)) }
 {
     if are_alike(kept, ruled) {
-        return Ok(());
+        return Ok(true);
     }
     let Ok(one) = form_of(alloc, kept) else {
         return Err(Status::Memory);
@@ -244,7 +343,7 @@ fn compare_room(
         return Err(Status::Memory);
     };
     match first_difference(&one, &other) {
-        None => Ok(()),
+        None => Ok(false),
         Some(place) => Err(Status::Differs {
             tick,
             room: index,

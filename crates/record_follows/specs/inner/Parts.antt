@@ -1,22 +1,12 @@
--- What is tested before a record is put in the place of what was there, and how it is put there. For private
--- clauses.
-use Rattle.std.specs.Prelude.{◌≡◌, ◌==◌, ℕ, zero, suc, ◌+◌, ◌<◌, List, [], ◌∷◌, Option, None, length, map}
+-- How a record is put in the place of what was there. For private clauses.
+use Rattle.std.specs.Prelude.{◌≡◌, ◌==◌, ℕ, zero, suc, List, [], ◌∷◌, Option, None, map}
 use Rattle.std.specs.Prelude.{option_map, get_or}
 use Rattle.std.specs.Borrow.{Bor}
-use Rattle.std.specs.List.{AllByRecursion, find}
+use Rattle.std.specs.List.{find}
 use Rattle.object_store.specs.declared.account.Account.{Account}
-use Rattle.object_store.specs.Stored.{Stored, HasAccount}
+use Rattle.object_store.specs.Stored.{Stored}
 use Rattle.object_store.specs.Tables.{Table}
-use Rattle.tick_journal.specs.declared.tick_record.TickRecord.{TickRecord}
-use Rattle.record_follows.specs.Follows.{IsAdmitted, account_after, room_after}
-
--- The record may follow but for the rules of the world after it.
-pub record MayFollow (before : Stored) (entry : TickRecord) : Type 0 where
-  pub tick : entry.tick ≡ before.tick + 1
-  pub rooms : AllByRecursion (λ table. table.index < length before.rooms) entry.rooms
-  pub runs : AllByRecursion (λ run. HasAccount run.player before.accounts) entry.runs
-  pub accounts : AllByRecursion (λ account. HasAccount account.player before.accounts) entry.accounts
-  pub uploads : AllByRecursion (IsAdmitted before) entry.uploads
+use Rattle.record_follows.specs.Follows.{account_after, room_after}
 
 -- the table that is noted for an index
 abbrev pub noted : List (Option (Bor Table)) → ℕ → Option Table

@@ -5,7 +5,8 @@ use Rattle.world_io.specs.Moments.{Moment}
 use Rattle.object_store.specs.Stored.{Stored}
 use Rattle.record_follows.specs.Courses.{IsWorldAt}
 use Rattle.tick_journal.specs.declared.tick_record.TickRecord.{TickRecord}
-use Rattle.world_journal.specs.Walking.{HasWalked}
+use Rattle.world_journal.specs.Walking.{HasPassed, HasWalked}
+use Rattle.world_journal.specs.declared.untested.UntestedWalk.{UntestedWalk}
 use Rattle.world_journal.specs.declared.walk.Walk.{Walk}
 
 -- A reading has come behind these records, on a disk that is as it was before the reading.
@@ -13,6 +14,16 @@ pub record IsReading (base : Stored) (entries : List TickRecord) (walk : Walk)
     (seen seen_now : Option (List ℕ)) (moments moments_now : List Moment) (faults faults_now : ℕ)
     : Type 0 where
   pub walked : HasWalked base entries walk seen
+  pub length : LengthIs seen walk.len
+  pub same : seen_now ≡ seen
+  pub crash : moments_now ≡ moments
+  pub steady : faults_now ≡ faults
+
+-- The same of a reading that tests no rules.
+pub record IsPassing (base : Stored) (entries : List TickRecord) (walk : UntestedWalk)
+    (seen seen_now : Option (List ℕ)) (moments moments_now : List Moment) (faults faults_now : ℕ)
+    : Type 0 where
+  pub passed : HasPassed base entries walk seen
   pub length : LengthIs seen walk.len
   pub same : seen_now ≡ seen
   pub crash : moments_now ≡ moments

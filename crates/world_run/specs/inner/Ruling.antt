@@ -1,13 +1,19 @@
 -- Why records are not ruled, by the status.
-use Rattle.std.specs.Prelude.{◌≡◌, ℕ, List, Option, Result, Ok, Err}
+use Rattle.std.specs.Prelude.{◌≡◌, ℕ, ◌+◌, ◌<◌, List, length, Option, Some, slice_get, IfSome}
 use Rattle.object_store.specs.Stored.{Stored}
-use Rattle.record_follows.specs.Courses.{world_after}
-use Rattle.recorded_tick.specs.Recording.{AreReadAlike}
+use Rattle.object_store.specs.declared.world.Room.{Room}
+use Rattle.recorded_tick.specs.Recording.{AreAlike}
+use Rattle.rule_check.specs.Kept.{KeepsObjectRules}
 use Rattle.tick_journal.specs.declared.tick_record.TickRecord.{TickRecord}
 use Rattle.world_run.specs.Replayed.{AllRuled, DifferIn, DiffersAt, ExhaustedAt, recorded_forms}
 use Rattle.world_run.specs.Replayed.{ruled_forms}
 use Rattle.world_run.specs.Runs.{DifferAt, HasSerials, IsExhausted}
+use Rattle.world_io.specs.Disk.{LengthIs}
+use Rattle.world_journal.specs.Journals.{IsCourse, IsJournal}
+use Rattle.world_journal.specs.Walking.{HasWalked}
 use Rattle.world_rules.specs.World.{world_of}
+use Rattle.world_run.specs.declared.replayed.Replay.{Replay}
+use Rattle.world_run.specs.declared.replayed.Replay.TheVariants as replays
 use Rattle.world_run.specs.declared.status.Status.{Status}
 use Rattle.world_run.specs.declared.status.Status.TheVariants as statuses
 
@@ -25,14 +31,17 @@ AreUnlike tick ones others (statuses.Differs number room at kept ruled) =
 AreUnlike tick ones others statuses.Memory = Unit {0}
 AreUnlike tick ones others status = ⊥
 
--- The record behind this world is not ruled, or memory was wanted.
-abbrev pub IsUnruled : Stored → TickRecord → Status → Type 0
-IsUnruled before entry (statuses.Differs tick room at kept ruled) =
+-- The record behind this world, after which rooms have these forms, is not ruled, or memory was wanted.
+abbrev pub IsUnruledAs : Stored → TickRecord → List (List ℕ) → Status → Type 0
+IsUnruledAs before entry after (statuses.Differs tick room at kept ruled) =
     (tick ≡ entry.tick) × HasSerials (world_of before)
-    × DifferIn room at kept ruled (recorded_forms before entry) (ruled_forms before entry)
-IsUnruled before entry (statuses.IdsExhausted index) = IsExhausted (world_of before) index
-IsUnruled before entry statuses.Memory = Unit {0}
-IsUnruled before entry status = ⊥
+    × DifferIn room at kept ruled after (ruled_forms before entry)
+IsUnruledAs before entry after (statuses.IdsExhausted index) = IsExhausted (world_of before) index
+IsUnruledAs before entry after statuses.Memory = Unit {0}
+IsUnruledAs before entry after status = ⊥
+
+abbrev pub IsUnruled : Stored → TickRecord → Status → Type 0
+IsUnruled before entry status = IsUnruledAs before entry (recorded_forms before entry) status
 
 -- Not all of these records are ruled, or memory was wanted.
 abbrev pub StopsAt : Stored → List TickRecord → Status → Type 0
@@ -42,10 +51,27 @@ StopsAt base entries (statuses.IdsExhausted index) = ExhaustedAt index base entr
 StopsAt base entries statuses.Memory = Unit {0}
 StopsAt base entries status = ⊥
 
+-- ---- rooms
+
+-- So many rooms of one list are written alike those at their places in the other.
+abbrev pub AreAlikeTo : ℕ → List Room → List Room → Type 0
+AreAlikeTo count ones others =
+    (k : ℕ) → k < count → (one other : Room) → slice_get ones k ≡ Some one → slice_get others k ≡ Some other
+    → AreAlike one.table other.table
+
 -- ---- what is known so far
 
--- All these records are ruled, and this world is read as the last; or not all are, and this is why.
-abbrev pub AreJudged : Stored → List TickRecord → Result Stored Status → Type 0
-AreJudged base entries (Ok own) =
-    AllRuled base entries × AreReadAlike own (world_after base entries)
-AreJudged base entries (Err status) = StopsAt base entries status
+-- The world doesn't keep the rules of objects, and this was the gate before its record; or memory was wanted.
+abbrev pub BreaksRules : Stored → ℕ → Status → Type 0
+BreaksRules world gate (statuses.NotAJournal at) = (at ≡ gate) × (KeepsObjectRules world → ⊥)
+BreaksRules world gate statuses.Memory = Unit {0}
+BreaksRules world gate status = ⊥
+
+-- A replay has come behind these records of the journal: all are ruled, up to this tick; or they are not, for
+-- this reason, and there may be more.
+abbrev pub HasCome : Stored → List TickRecord → Option (List ℕ) → Replay → Type 0
+HasCome base entries disk (replays.Ruled tick) =
+    IsCourse base entries × IfSome disk (IsJournal base entries) × AllRuled base entries
+    × (tick ≡ base.tick + length entries)
+HasCome base entries disk (replays.Unruled walk status) =
+    HasWalked base entries walk disk × LengthIs disk walk.len × StopsAt base entries status
