@@ -519,7 +519,7 @@ def check_path(text, constants):
 
 
 def check_limits(text, header):
-    limits = "wasm_module/specs/Limits.antt"
+    limits = "wasm_module/specs/sections/Limits.antt"
     locals_ = re.search(r"→ locals_of m\.types index function ≤ (\d+)", text_of("crates", limits))
     pages, nesting = (re.search(it, text_of("crates", limits)) for it in (r"bounds\.min ≤ (\d+)\) m\.memories", r"ops_nesting code\.1 ≤ (\d+)"))
     entries = re.search(r"bounds\.min ≤ (\d+)\) m\.tables", text_of("crates", limits))

@@ -21,8 +21,8 @@ TOP = os.path.dirname(os.path.dirname(os.path.abspath(__file__)))
 sys.path.insert(0, os.path.join(TOP, "bench"))
 from checked_program import Checks, run, shown  # noqa: E402
 from modules import HOST_CALLS, I32, OPENING, func_type, host_import, leb, listed, section  # noqa: E402
-from game import SECOND  # noqa: E402
-from worlds import CLOSED, MIB, OPEN, SMALL, Step, base_content, bytes_of, frame, full, grounds, journal_of, output_of, played, room, room_bytes, start_line, step_lines, text_of, thing, tick_content, upload_entry, world  # noqa: E402
+from game import KINDS, MOST_SITES, SECOND  # noqa: E402
+from worlds import CLOSED, MIB, OPEN, SMALL, Run, Step, base_content, bytes_of, frame, full, grounds, journal_of, output_of, played, room, room_bytes, start_line, step_lines, text_of, thing, tick_content, ticked, upload_entry, world  # noqa: E402
 
 FULL = "/dev/full"
 MOST_NEXT = 2**32 - 2**20
@@ -366,6 +366,14 @@ def richer(index, key, more):
     return change
 
 
+def crowded(count):
+    """A world in which a player has so many sites, and the journal of a tick in which he makes one more, whether he may or not."""
+    sites = [thing("site", at + 1, 1 + at % 48, 1 + at // 48, owner=1, extra=KINDS.index("road") + 1) for at in range(count)]
+    first = world(room("E0S0", count + 1, *sites), players=[{"player": 1, "limit": 20}])
+    runs = [Run(1, "finished", 0, b"", {("create_site", 50 * 20 + 20): (0, KINDS.index("road") + 1)})]
+    return first, journal_of(first, [Step([], runs, ticked(full(first), runs))])
+
+
 def check_replays():
     for name, first in (("the small world", SMALL), ("two rooms", WIDE), ("all kinds", HELD)):
         for count in (0, 1, 5):
@@ -373,6 +381,14 @@ def check_replays():
     for first, at, change in ((SMALL, 0, richer(0, "energy", 1)), (SMALL, 2, richer(0, "next", 256)), (WIDE, 1, richer(1, "energy", 1)), (WIDE, 2, richer(0, "next", 1))):
         kept, fault = other_tick(first, 3, at, change)
         check(f"the replay of a journal with another tick {at}", REPLAY, {"journal.bin": kept}, 14, err=fault)
+    for first, at in ((SMALL, 0), (SMALL, 2), (WIDE, 1)):
+        kept, _ = other_tick(first, 3, at, richer(0, "hits", 2**31))
+        fault = refused(8, f"NotAJournal {len(journal_of(first, played(first, at))) - 1}")
+        check(f"the replay of a journal in which tick {at} breaks a rule of objects", REPLAY, {"journal.bin": kept}, 8, err=fault)
+    for count in (MOST_SITES - 1, MOST_SITES):
+        first, kept = crowded(count)
+        ending = {"status": 0, "out": b"replayed 1\n"} if count < MOST_SITES else {"status": 8, "err": refused(8, f"NotAJournal {len(journal_of(first, [])) - 1}")}
+        check(f"the replay of a tick in which a player of {count} sites makes one more", REPLAY, {"journal.bin": kept}, **ending)
     past = world(room("E0S0", MOST_NEXT, thing("pile", 1, 5, 5, energy=9000)), room("E1S0", MOST_NEXT + 1, thing("pile", SECOND + 1, 5, 5, energy=9000)))
     check("the replay of a tick that no room could rule", REPLAY, {"journal.bin": journal_of(past, played(past, 1))}, 10, err=refused(10, "IdsExhausted 1"))
     check("the replay of no tick of such a world", REPLAY, {"journal.bin": journal_of(past, [])}, 0, out=b"replayed 0\n")
