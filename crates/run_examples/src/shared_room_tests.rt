@@ -1,8 +1,13 @@
 // Players who run one after the other in one room.
+ghost use Rattle.std.specs.Prelude.{◌≤◌, length};
+ghost use Rattle.game_tables.specs.Limits.{most_rooms};
+ghost use Rattle.object_store.specs.Stored.{HasAccount};
+ghost use Rattle.world_rules.specs.Sound.{IsSound};
+
 use crate::worlds::room;
 use host_calls::Desk;
 use intent_book::{Intents, PlayerRun, RunOutcome};
-use object_store::Bytes;
+use object_store::{Bytes, World};
 use player_run::{Linked, RunRoom, admit, run_player_among, run_player_in};
 use std::alloc::{AllocError, Global};
 use std::process::Abort;
@@ -99,7 +104,7 @@ struct Alone {
 }
 
 // Runs a module on what a player sees, in a desk and an instance of its own.
-fn alone(alloc: Global, linked: &Linked, view: &View, fuel: u64) -> Result<Alone, Fail> {
+fn run_by_itself(alloc: Global, linked: &Linked, view: &View, fuel: u64) -> Result<Alone, Fail> {
     let account = view.account();
     let text = account.memory.as_slice();
     if text.len() > 65_536 {
@@ -114,6 +119,22 @@ fn alone(alloc: Global, linked: &Linked, view: &View, fuel: u64) -> Result<Alone
         intents: book.into_canonical(),
         memory,
     })
+}
+
+// The same on what a player of the world sees.
+fn run_in_world(
+    alloc: Global,
+    linked: &Linked,
+    world: &World,
+    player: u32,
+    fuel: u64,
+) -> Result<Alone, Fail>
+    requires account { HasAccount player world.now.accounts }
+    requires sound { IsSound world.now }
+    requires rooms { length world.now.rooms ≤ most_rooms }
+{
+    let view = View::of(alloc, world, player)?;
+    run_by_itself(alloc, linked, &view, fuel)
 }
 
 fn assert_alike(rt: &impl Abort, run: &PlayerRun, alone: &Alone) {
@@ -158,14 +179,9 @@ fn a_run_is_the_same_in_the_room_of_another(rt: HostRuntime) -> Result<(), Fail>
     }
     let many = linked(alloc, MANY)?;
     let few = linked(alloc, FEW)?;
+    let first = run_in_world(alloc, &many, world, 1, 200_000)?;
+    let second = run_in_world(alloc, &few, world, 2, 10_000)?;
     let roster = Roster::of(alloc, world)?;
-    let first = alone(
-        alloc,
-        &many,
-        &View::among(alloc, world, &roster, 1)?,
-        200_000,
-    )?;
-    let second = alone(alloc, &few, &View::among(alloc, world, &roster, 2)?, 10_000)?;
     let run = run_player_among(alloc, &many, world, &roster, 1)?;
     assert_eq!(rt; (run.player, run.outcome), (1, RunOutcome::Trapped(8)));
     assert_eq!(rt; (run.intents.len(), run.memory.len()), (4_096, 65_536));
