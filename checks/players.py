@@ -520,10 +520,7 @@ def check_path(text, constants):
 
 def check_limits(text, header):
     limits = "wasm_module/specs/sections/Limits.antt"
-    locals_ = re.search(r"→ locals_of m\.types index function ≤ (\d+)", text_of("crates", limits))
-    pages, nesting = (re.search(it, text_of("crates", limits)) for it in (r"bounds\.min ≤ (\d+)\) m\.memories", r"ops_nesting code\.1 ≤ (\d+)"))
-    entries = re.search(r"bounds\.min ≤ (\d+)\) m\.tables", text_of("crates", limits))
-    wanted = [MIB, defined_number(limits, "WithinFunctions"), *(int(it[1]) for it in (nesting, locals_, pages, entries))]
+    wanted = [MIB, *(defined_number(limits, name) for name in ("most_functions", "most_nesting", "most_locals", "most_pages_at_first", "most_entries_at_first"))]
     rows = table_under(text, "| Limit | Most |")
     note("the limits of the table", differ("limits", [whole(most) for _, most in rows], wanted))
     named = {name: defined_number("game_tables/specs/Limits.antt", name) for name in ("most_limit", "most_bucket", "unit_instructions", "most_memory")}
