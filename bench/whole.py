@@ -152,11 +152,11 @@ def for_each_at(tick, players):
 
 # Functions whose instructions, with what they call, are a part of a tick. What is left of the tick, the list of all objects, views, desks, the
 # choice of the entries, crossings and accounts, stands in no function of its own.
-TICK, RUN = "hosted_tick::hosted::Hosted::tick", "world_run::run::run_stored"
+TICK, RUN = "hosted_tick::hosted::Hosted::tick", "world_run::ticks::make_tick"
 PARTS = {
     "uploads judged": "player_run::admission::admit",
-    "modules run, with their calls": "wasm_machine::instance::Instance::invoke",
-    "rules, movement and upkeep": "ruled_tick::tick::ruled_rooms",
+    "modules run, with their calls": "wasm_machine::machine::Machine::invoke",
+    "rules, movement and upkeep": "ruled_tick::rooms::tick_table",
 }
 
 
