@@ -189,8 +189,8 @@ impl RoomTable {
         self.next
     }
 
-    /// Says that the objects stand in rising id, that there are fewer than 2^32, and that what was done is told
-    /// of them alone. It does nothing.
+    /// Says that the objects stand in rising id, that there are fewer than 2^32, and that what was done is
+    /// told of them alone. It does nothing.
     pub fn stands_in_order(&self)
         ensures rising { IsRising self.now.objects }
         ensures within { length self.now.objects < 2 ^ 32 }

@@ -17,8 +17,8 @@ use wasm_machine::{Instance, Outcome};
 use world_roster::Roster;
 use world_text::read_world;
 
-// Fills its memory with bytes of 255, wants four things of each of 1,024 creeps, makes the whole memory its text, and
-// calls itself until it traps, with 61 values in each frame.
+// Fills its memory with bytes of 255, wants four things of each of 1,024 creeps, makes the whole memory its
+// text, and calls itself until it traps, with 61 values in each frame.
 // (module
 //   (import "screeps" "drop" (func $drop (param i64 i32) (result i32)))
 //   (import "screeps" "move" (func $move (param i64 i32) (result i32)))
