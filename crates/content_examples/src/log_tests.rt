@@ -113,10 +113,18 @@ fn a_stop_leaves_what_stood(rt: HostRuntime) -> Result<(), Fail> {
                 done = 1;
                 match log.append(alloc, &mut disk, b"c") {
                     Ok(()) => done = 2,
-                    Err(_) => assert_eq!(rt;
-                        log.append(alloc, &mut disk, b"d"),
-                        Err(AppendFault::Closed)
-                    ),
+                    Err(fault) => {
+                        assert_eq!(rt; fault, AppendFault::DiskFault);
+                        assert_eq!(rt;
+                            log.append(alloc, &mut disk, b"d"),
+                            Err(AppendFault::Closed)
+                        );
+                        let piece = vec![in alloc; 0u8; 9]?;
+                        assert_eq!(rt;
+                            log.append_piece(&mut disk, piece),
+                            Err(AppendFault::Closed)
+                        );
+                    }
                 }
             }
             let image = disk.crash(alloc, pick)?;

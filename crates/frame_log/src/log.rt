@@ -1,6 +1,6 @@
 // The log of a disk.
 ghost use Rattle.std.specs.Prelude.{◌≡◌, ◌≢◌, ◌↔◌, ℕ, ◌+◌, ◌<◌, ◌≤◌, ◌^◌, true, false, [], ◌∷◌, ◌++◌, List};
-ghost use Rattle.std.specs.Prelude.{length, Err, IfOk, IfErr, OnOk, OnErr};
+ghost use Rattle.std.specs.Prelude.{length, drop, Err, IfOk, IfErr, OnOk, OnErr};
 ghost use Rattle.world_io.specs.Causes.{HasCause, Rose};
 ghost use Rattle.world_io.specs.Disk.{LengthIs, TellsAlike};
 ghost use Rattle.world_io.specs.Moments.{LeavesSince, Rests};
@@ -9,7 +9,7 @@ ghost use Rattle.frame_log.specs.Frames.{IsEmptyDisk, IsEmptyOrFirst, Stands, fr
 ghost use Rattle.frame_log.specs.declared.fault.AppendFault.TheVariants.{DiskFault, Closed, Memory};
 
 use crate::fault::AppendFault;
-use crate::piece::{clear, commit, framed};
+use crate::piece::{clear, close, commit, framed, with_room};
 use std::alloc::Global;
 use world_io::{Disk, Failed, cut_synced};
 
@@ -131,15 +131,56 @@ impl Log {
         if self.is_closed {
             return Err(AppendFault::Closed);
         }
-        let Ok(piece) = framed(alloc, content) else {
+        let Ok(piece) = with_room(alloc, content) else {
+            return Err(AppendFault::Memory);
+        };
+        self.append_piece(disk, piece)
+    }
+
+    /// Adds the content that stands behind the first eight bytes of a piece: they are room for its length,
+    /// whatever they hold, so that the frame is made where the content stands. For the rest it is as
+    /// `append`. Only the byte of the closed gate at the end may want memory.
+    pub fn append_piece<D: Disk>(&mut self, disk: &mut D, piece: Vec<u8>) -> Result<(), AppendFault>
+        requires log { self.old.is_closed ≡ false
+            → IsLog self.old.gate (D.seen disk.old) (D.moments disk.old) }
+        requires room { 8 ≤ length piece.items }
+        ensures each_moment { (contents : List (List ℕ))
+            → HasContents contents self.old.gate (D.seen disk.old) (D.moments disk.old)
+            → LeavesSince (IsBeforeOrAfter contents (drop 8 piece.items))
+            (D.moments disk.old) (D.moments disk.new) }
+        ensures done { OnOk result ((contents : List (List ℕ))
+            → HasContents contents self.old.gate (D.seen disk.old) (D.moments disk.old)
+            → HasContents (contents ++ drop 8 piece.items ∷ []) self.new.gate
+            (D.seen disk.new) (D.moments disk.new)) }
+        ensures written { OnOk result ((front : List ℕ) → self.old.gate ≡ length front
+            → Rests (front ++ 0 ∷ []) (D.seen disk.old) (D.moments disk.old)
+            → Rests ((front ++ 1 ∷ frame (drop 8 piece.items)) ++ 0 ∷ [])
+            (D.seen disk.new) (D.moments disk.new)) }
+        ensures alike { TellsAlike (D.seen disk.old) (D.seen disk.new) }
+        ensures rests { OnOk result (IsLog self.new.gate (D.seen disk.new) (D.moments disk.new)) }
+        ensures gate { OnOk result (self.new.gate ≡ self.old.gate + 9 + length (drop 8 piece.items)) }
+        ensures is_open { OnOk result (self.new.is_closed ≡ false) }
+        ensures disk_fault { IfErr result (λ e. e ≡ DiskFault
+            → Rose (D.faults disk.old) (D.faults disk.new)
+            × (self.new ≡ record self.old { is_closed = true })) }
+        ensures closed { (result ≡ Err Closed) ↔ (self.old.is_closed ≡ true) }
+        ensures unchanged { IfErr result (λ e. e ≢ DiskFault
+            → (disk.new ≡ disk.old) × (self.new ≡ self.old)) }
+        ensures steady { OnOk result (D.faults disk.new ≡ D.faults disk.old) }
+        ensures later { D.faults disk.old ≤ D.faults disk.new }
+    {
+        if self.is_closed {
+            return Err(AppendFault::Closed);
+        }
+        let Ok(whole) = close(piece) else {
             return Err(AppendFault::Memory);
         };
         let gate = self.gate;
-        let Ok(()) = commit(disk, gate, &piece) else {
+        let Ok(()) = commit(disk, gate, &whole) else {
             self.is_closed = true;
             return Err(AppendFault::DiskFault);
         };
-        self.gate = gate + piece.len() as u64;
+        self.gate = gate + whole.len() as u64;
         Ok(())
     }
 }

@@ -1,27 +1,52 @@
 // What an addition writes, and how it is committed.
-ghost use Rattle.std.specs.Prelude.{◌≡◌, ℕ, ◌+◌, ◌<◌, ◌^◌, [], ◌∷◌, ◌++◌, List, length, IfOk, OnOk};
+ghost use Rattle.std.specs.Prelude.{◌≡◌, ℕ, ◌+◌, ◌<◌, ◌≤◌, ◌^◌, [], ◌∷◌, ◌++◌, List, length, drop, IfOk};
+ghost use Rattle.std.specs.Prelude.{OnOk};
 ghost use Rattle.world_io.specs.Causes.{HasCause};
 ghost use Rattle.world_io.specs.Disk.{TellsAlike};
 ghost use Rattle.world_io.specs.Moments.{LeavesSince, Rests};
 ghost use Rattle.frame_log.specs.Frames.{HasContents, IsLog, IsBeforeOrAfter, IsEmpty, IsEmptyDisk, frame};
 
 use crate::NoMemory;
-use byte_fields::put_u64;
+use byteorder::{ByteOrder, LittleEndian};
 use std::alloc::Global;
 use world_io::{Disk, Failed, cut_synced, write_synced};
 
-// The bytes of a frame beside its content, and those of the gate behind it.
+// The bytes before the content of a piece, in which its length is told.
+const ROOM: usize = 8;
+
+// The bytes of a piece beside its content: those before it, and the gate behind it.
 const BESIDE: usize = 9;
+
+/// The content behind eight bytes of room for its length. The memory for a closed gate behind it is taken
+/// too.
+pub(crate) fn with_room(alloc: Global, content: &[u8]) -> Result<Vec<u8>, NoMemory>
+    ensures room { IfOk result (λ piece. 8 ≤ length piece.items) }
+    ensures content { IfOk result (λ piece. drop 8 piece.items ≡ content.now) }
+{
+    let mut piece = Vec::with_capacity(alloc, content.len().saturating_add(BESIDE))?;
+    piece.extend_from_slice(&[0; ROOM])?;
+    piece.extend_from_slice(content)?;
+    Ok(piece)
+}
+
+/// The frame of the content that stands behind the first eight bytes of a piece, and a closed gate behind
+/// it.
+pub(crate) fn close(mut piece: Vec<u8>) -> Result<Vec<u8>, NoMemory>
+    requires { 8 ≤ length piece.items }
+    ensures { IfOk result (λ whole. whole.items ≡ frame (drop 8 piece.items) ++ 0 ∷ []) }
+{
+    let size = (piece.len() - ROOM) as u64;
+    LittleEndian::write_u64(&mut piece, size);
+    piece.push(0)?;
+    Ok(piece)
+}
 
 /// The frame of a content, and a closed gate behind it.
 pub(crate) fn framed(alloc: Global, content: &[u8]) -> Result<Vec<u8>, NoMemory>
     ensures { IfOk result (λ piece. piece.items ≡ frame content.now ++ 0 ∷ []) }
 {
-    let mut piece = Vec::with_capacity(alloc, content.len().saturating_add(BESIDE))?;
-    put_u64(&mut piece, content.len() as u64)?;
-    piece.extend_from_slice(content)?;
-    piece.push(0)?;
-    Ok(piece)
+    let piece = with_room(alloc, content)?;
+    close(piece)
 }
 
 /// Writes a frame and its closed gate behind the closed gate at the place, which is then opened.
