@@ -8,6 +8,3 @@ mod put;
 pub use cursor::{BadLeb, Cursor, Short};
 pub use put::{put_leb_s64, put_leb_u32, put_u32, put_u64};
 pub use std::alloc::AllocError as NoMemory;
-
-#[cfg(test)]
-mod tests;

@@ -6,8 +6,6 @@ mod command;
 mod number;
 mod read;
 mod simple;
-#[cfg(test)]
-mod tests;
 
 pub use command::{Command, GenPart, WordsFault};
 pub use read::read_words;

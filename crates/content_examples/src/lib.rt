@@ -11,6 +11,8 @@ mod content_tests;
 #[cfg(test)]
 mod log_tests;
 #[cfg(test)]
+mod made_tests;
+#[cfg(test)]
 mod rules_tests;
 #[cfg(test)]
 mod text_tests;

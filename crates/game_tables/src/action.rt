@@ -190,24 +190,3 @@ pub fn is_target(action: Action, kind: Kind) -> bool
         _ => false,
     }
 }
-
-#[cfg(test)]
-mod tests {
-    use super::*;
-
-    #[test]
-    fn heal_is_kept_before_harvest(rt: HostRuntime) {
-        assert_eq!(rt; Action::of_number(9), Some(Action::Harvest));
-        assert_eq!(rt; Action::of_number(23), None);
-        assert_eq!(rt; Action::Move.number(), 22);
-        assert!(rt; dominates(Action::Heal, Action::Harvest));
-        assert!(rt; !dominates(Action::Harvest, Action::Heal));
-        assert!(rt; !dominates(Action::Heal, Action::RangedMassAttack));
-        assert!(rt; dominates(Action::RangedHeal, Action::RangedMassAttack));
-        assert_eq!(rt; needed_part(Action::Reserve), Some(Part::Claim));
-        assert_eq!(rt; max_range(Action::RangedMassAttack), None);
-        assert_eq!(rt; max_range(Action::Upgrade), Some(3));
-        assert!(rt; is_target(Action::Transfer, Kind::Creep));
-        assert!(rt; !is_target(Action::Withdraw, Kind::Creep));
-    }
-}

@@ -191,37 +191,3 @@ pub fn pile_decay(energy: u64) -> u64
 {
     energy.div_ceil(1_000)
 }
-
-#[cfg(test)]
-mod tests {
-    use super::*;
-    use crate::kind::Part;
-
-    #[test]
-    fn kinds_differ(rt: HostRuntime) {
-        assert!(rt; is_controller(Kind::Controller) && !is_controller(Kind::Creep));
-        assert!(rt; is_creep(Kind::Creep) && is_site(Kind::Site));
-        assert!(rt; stands_fixed(Kind::Source) && !stands_fixed(Kind::Pile));
-        assert!(rt; may_have_owner(Kind::Controller) && !may_have_owner(Kind::Road));
-        assert!(rt; is_building(Kind::Road));
-        assert!(rt; !is_building(Kind::Tower));
-        assert!(rt; !obstructs(Kind::Container));
-        assert!(rt; is_owned(Kind::Site));
-        assert!(rt; is_in_rules(Kind::Site, 1));
-        assert!(rt; !is_in_rules(Kind::Tower, 1));
-        assert!(rt; is_site_kind(Kind::Spawn, 1));
-        assert!(rt; !needs_owned_room(Kind::Container));
-        let mut body = Body::new();
-        body.push(Part::Move);
-        assert_eq!(rt; hits_max(Kind::Creep, &body), 100);
-        assert_eq!(rt; built_hits(Kind::Container), 250_000);
-        assert_eq!(rt; build_total(Kind::Site), None);
-        assert_eq!(rt; full_timer(Kind::Container, false), 100);
-        assert_eq!(rt; store_capacity(Kind::Extension, 7), 100);
-        assert_eq!(rt; source_capacity(true), 3_000);
-        assert_eq!(rt; renewal_ticks(), 300);
-        assert_eq!(rt; pile_decay(1_000), 1);
-        assert_eq!(rt; pile_decay(1_001), 2);
-        assert_eq!(rt; pile_decay(0xffff_ffff_ffff_ffff), 18_446_744_073_709_552);
-    }
-}

@@ -193,29 +193,3 @@ impl Part {
         }
     }
 }
-
-#[cfg(test)]
-mod tests {
-    use super::*;
-
-    #[test]
-    fn kinds_have_texts_and_numbers(rt: HostRuntime) {
-        assert_eq!(rt; Kind::of_text("site"), Some(Kind::Site));
-        assert_eq!(rt; Kind::of_text("Site"), None);
-        assert_eq!(rt; Kind::Tombstone.text(), "tombstone");
-        assert_eq!(rt; Kind::Tombstone.number(), 14);
-        assert_eq!(rt; Kind::of_number(4), Some(Kind::Spawn));
-        assert_eq!(rt; Kind::of_number(0), None);
-        assert_eq!(rt; Kind::of_number(15), None);
-    }
-
-    #[test]
-    fn parts_have_texts_and_numbers(rt: HostRuntime) {
-        assert_eq!(rt; Part::of_text("ranged_attack"), Some(Part::RangedAttack));
-        assert_eq!(rt; Part::of_text("ranged"), None);
-        assert_eq!(rt; Part::Claim.text(), "claim");
-        assert_eq!(rt; Part::Claim.number(), 8);
-        assert_eq!(rt; Part::of_number(1), Some(Part::Move));
-        assert_eq!(rt; Part::of_number(9), None);
-    }
-}

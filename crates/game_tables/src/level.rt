@@ -65,20 +65,3 @@ fn row(kind: Kind) -> &'static [u32]
         _ => &[],
     }
 }
-
-#[cfg(test)]
-mod tests {
-    use super::*;
-
-    #[test]
-    fn levels_go_to_eight(rt: HostRuntime) {
-        assert_eq!(rt; total_for_next(7), Some(10_935_000));
-        assert_eq!(rt; total_for_next(8), None);
-        assert_eq!(rt; downgrade_number(0), None);
-        assert_eq!(rt; downgrade_number(8), Some(200_000));
-        assert_eq!(rt; allowed(Kind::Spawn, 7), 2);
-        assert_eq!(rt; allowed(Kind::Road, 0), 2_500);
-        assert_eq!(rt; allowed(Kind::Creep, 8), 0);
-        assert_eq!(rt; allowed(Kind::Spawn, 9), 0);
-    }
-}

@@ -7,8 +7,6 @@ ghost use Rattle.std.specs.declared.option.Option.TheVariants.{None, Some};
 
 mod held;
 mod loose;
-#[cfg(test)]
-mod tests;
 
 use held::Held;
 use loose::Loose;

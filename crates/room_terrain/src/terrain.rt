@@ -98,23 +98,3 @@ impl Terrain {
         &self.grounds
     }
 }
-
-#[cfg(test)]
-mod tests {
-    use super::*;
-    use std::test::Fail;
-
-    #[test]
-    fn grounds_stand_row_by_row(rt: HostRuntime) -> Result<(), Fail> {
-        let mut grounds = [Ground::Plain; 2500];
-        grounds[3 * 50 + 7] = Ground::Swamp;
-        let terrain = Terrain::of(rt.alloc(), &grounds)?.copy(rt.alloc())?;
-        assert_eq!(rt; terrain.at(7, 3), Ground::Swamp);
-        assert_eq!(rt; terrain.at(3, 7), Ground::Plain);
-        assert_eq!(rt; terrain.grounds().len(), 2500);
-        assert_eq!(rt; Ground::of_number(2), Some(Ground::Swamp));
-        assert_eq!(rt; Ground::of_number(3), None);
-        assert_eq!(rt; Ground::Wall.number(), 1);
-        Ok(())
-    }
-}

@@ -244,6 +244,3 @@ pub fn convert(op: u8, a: u64) -> u64
         _ => a,
     }
 }
-
-#[cfg(test)]
-mod tests;

@@ -9,6 +9,3 @@ pub use memory::Pages;
 pub use std::alloc::AllocError as NoMemory;
 pub use table::FuncTable;
 pub use variables::GlobalValues;
-
-#[cfg(test)]
-mod tests;

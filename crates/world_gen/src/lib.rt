@@ -14,6 +14,3 @@ pub use std::alloc::AllocError as NoMemory;
 pub use stream::generate_uploads;
 pub use whole::player_module;
 pub use worlds::generate;
-
-#[cfg(test)]
-mod tests;

@@ -1,7 +1,7 @@
 // Known values, worked out from the standard's grammar of integers.
 ghost use Rattle.std.specs.Prelude.{◌≡◌, IfOk, Ok};
 
-use crate::{BadLeb, Cursor, NoMemory, Short, put_leb_s64, put_leb_u32, put_u32, put_u64};
+use byte_fields::{BadLeb, Cursor, NoMemory, Short, put_leb_s64, put_leb_u32, put_u32, put_u64};
 use std::alloc::Global;
 
 // What is read of the bytes, and the place after it.

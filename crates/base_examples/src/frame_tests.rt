@@ -1,7 +1,7 @@
 // Each call, with ample memory.
 ghost use Rattle.std.specs.Prelude.{◌≡◌, ◌+◌, length, IsTrue};
 
-use super::*;
+use call_frames::{MOST_WAITING, Values};
 use std::test::Fail;
 
 #[test]

@@ -1,7 +1,7 @@
 use Rattle.std.proofs.Common.{◌≡◌, ◌++◌, ap, ◌∙◌}
 use Rattle.byte_fields.specs.Leb.{SpellsUnsigned}
 use Rattle.byte_fields.proofs.Fronts.{reads_front}
-use Rattle.byte_fields.proofs.tests.unsigned_back.Goals as goal
+use Rattle.base_examples.proofs.bytes_tests.unsigned_back.Goals as goal
 
 pub returns : goal.returns
 returns c =

@@ -2,7 +2,7 @@
 // their neighbours.
 // The expected answers are worked out from the formulas of WebAssembly Core 1.0, chapters 4.3.2 and 4.3.4, in
 // unbounded integers, and not by this crate.
-use super::*;
+use wasm_numeric::{NumFault, binary, compare, convert, unary};
 
 /// Opcode, operand and count.
 static COUNTS: [[u64; 3]; 72] = [

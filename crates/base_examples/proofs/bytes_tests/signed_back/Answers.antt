@@ -2,7 +2,7 @@ use Rattle.std.proofs.Common.{◌≡◌, ◌++◌, ap, ◌∙◌, w64}
 use Rattle.std.proofs.lemmas.Int.{to_z-of_z}
 use Rattle.byte_fields.specs.Leb.{SpellsSigned}
 use Rattle.byte_fields.proofs.Fronts.{reads_front}
-use Rattle.byte_fields.proofs.tests.signed_back.Goals as goal
+use Rattle.base_examples.proofs.bytes_tests.signed_back.Goals as goal
 
 pub returns : goal.returns
 returns c =

@@ -1,5 +1,5 @@
 // What words say, with memory at hand.
-use super::*;
+use command_words::{Command, WordsFault, read_words};
 use std::alloc::{AllocError, Global};
 use std::test::Fail;
 

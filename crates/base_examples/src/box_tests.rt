@@ -1,4 +1,4 @@
-use crate::OptionalBox;
+use optional_box::OptionalBox;
 use std::alloc::{AllocError as NoMemory, Global};
 use std::mem::size_of;
 use std::test::Fail;

@@ -1,7 +1,7 @@
 // Worlds of a seed.
-use crate::{generate, generate_uploads, player_module};
 use object_store::{Ground, Kind};
 use std::test::Fail;
+use world_gen::{generate, generate_uploads, player_module};
 
 // The values are those of another writing of the generator.
 #[test]

@@ -1,0 +1,103 @@
+// Tiles, the ways between them, and the names of rooms.
+use room_terrain::{Direction, Ground, NotAName, Place, RoomName, Terrain, mirror, range, step};
+use std::test::Fail;
+
+fn place(x: u8, y: u8) -> Place {
+    Place { room: 7, x, y }
+}
+
+#[test]
+fn range_is_the_greater_distance(rt: HostRuntime) {
+    assert_eq!(rt; range(place(3, 4), place(3, 4)), Some(0));
+    assert_eq!(rt; range(place(3, 4), place(5, 5)), Some(2));
+    assert_eq!(rt; range(place(5, 5), place(4, 9)), Some(4));
+    assert_eq!(rt; range(place(0, 49), place(49, 0)), Some(49));
+    let elsewhere = Place {
+        room: 8,
+        x: 3,
+        y: 4,
+    };
+    assert_eq!(rt; range(place(3, 4), elsewhere), None);
+}
+
+#[test]
+fn steps_go_clockwise_from_the_top(rt: HostRuntime) {
+    let steps = [
+        (1, 10, 9),
+        (2, 11, 9),
+        (3, 11, 10),
+        (4, 11, 11),
+        (5, 10, 11),
+        (6, 9, 11),
+        (7, 9, 10),
+        (8, 9, 9),
+    ];
+    for (number, x, y) in steps {
+        let next = Direction::of_number(number).and_then(|to| step(place(10, 10), to));
+        assert_eq!(rt; next, Some(place(x, y)));
+    }
+    assert_eq!(rt; step(place(49, 20), Direction::Right), None);
+    assert_eq!(rt; step(place(20, 0), Direction::TopLeft), None);
+    assert_eq!(rt; step(place(0, 49), Direction::TopRight), Some(place(1, 48)));
+}
+
+#[test]
+fn borders_lie_across(rt: HostRuntime) {
+    let name = |column, row| RoomName { column, row };
+    assert_eq!(rt; mirror(name(0, 0), 0, 20), Some((name(-1, 0), 49, 20)));
+    assert_eq!(rt; mirror(name(0, 0), 49, 1), Some((name(1, 0), 0, 1)));
+    assert_eq!(rt; mirror(name(0, 0), 20, 0), Some((name(0, -1), 20, 49)));
+    assert_eq!(rt; mirror(name(0, 0), 48, 49), Some((name(0, 1), 48, 0)));
+    assert_eq!(rt; mirror(name(0, 0), 20, 20), None);
+    assert_eq!(rt; mirror(name(0, 0), 0, 0), None);
+    assert_eq!(rt; mirror(name(0, 0), 49, 0), None);
+    assert_eq!(rt; mirror(name(-128, 0), 0, 20), None);
+    assert_eq!(rt; mirror(name(0, 127), 20, 49), None);
+}
+
+#[test]
+fn names_are_read(rt: HostRuntime) -> Result<(), Fail> {
+    let rooms = [
+        ("E0S0", 0, 0),
+        ("W0N0", -1, -1),
+        ("E1S0", 1, 0),
+        ("W9S10", -10, 10),
+        ("E10N99", 10, -100),
+        ("W99N100", -100, -101),
+        ("E100S127", 100, 127),
+        ("E127N127", 127, -128),
+        ("W127S0", -128, 0),
+        ("W127N127", -128, -128),
+    ];
+    for (text, column, row) in rooms {
+        let name = RoomName::read(text)?;
+        assert_eq!(rt; name, RoomName { column, row });
+        assert_eq!(rt; format!(in rt.alloc(); "{name}")?.as_str(), text);
+    }
+    Ok(())
+}
+
+#[test]
+fn other_texts_are_refused(rt: HostRuntime) {
+    let texts = [
+        "", "E", "E0", "E0S", "ES0", "S0E0", "E0E0", "e0s0", "E00S0", "E0S00", "E01S1", "E128S0",
+        "E0S128", "E0N1270", "E-1S0", "E+1S0", "E0S0 ", " E0S0", "E 0S0", "E0S0W",
+    ];
+    for text in texts {
+        assert_eq!(rt; RoomName::read(text), Err(NotAName));
+    }
+}
+
+#[test]
+fn grounds_stand_row_by_row(rt: HostRuntime) -> Result<(), Fail> {
+    let mut grounds = [Ground::Plain; 2500];
+    grounds[3 * 50 + 7] = Ground::Swamp;
+    let terrain = Terrain::of(rt.alloc(), &grounds)?.copy(rt.alloc())?;
+    assert_eq!(rt; terrain.at(7, 3), Ground::Swamp);
+    assert_eq!(rt; terrain.at(3, 7), Ground::Plain);
+    assert_eq!(rt; terrain.grounds().len(), 2500);
+    assert_eq!(rt; Ground::of_number(2), Some(Ground::Swamp));
+    assert_eq!(rt; Ground::of_number(3), None);
+    assert_eq!(rt; Ground::Wall.number(), 1);
+    Ok(())
+}
