@@ -32,8 +32,8 @@ RUNS = {
     "changed_rules::has_few_sites": "rooms.py",
     "exit_crossing::all_crossers": "creeps.py",
     "exit_crossing::crossers": "creeps.py",
-    "frame_log::Log::append Ok": "journals.py",
-    "frame_log::Log::append DiskFault": "failures.py",
+    "frame_log::Log::append_piece Ok": "journals.py",
+    "frame_log::Log::append_piece DiskFault": "failures.py",
     "frame_log::Log::create": "journals.py",
     "frame_log::Log::create DiskFault": "failures.py",
     "frame_log::read_frame": "journals.py",
@@ -45,6 +45,7 @@ RUNS = {
     "intent_book::Intents::push": "moves.py",
     "intent_book::Recorded::canonical": "desk.py",
     "intent_book::Recorded::reserve": "desk.py",
+    "judged_uploads::tick_piece": "journals.py",
     "kept_entries::intents_by_room": "rooms.py",
     "kept_entries::kept_in_room": "rooms.py",
     "kept_entries::no_intents_by_room": "program.py",
@@ -83,7 +84,6 @@ RUNS = {
     "tick_journal::read_tick": "journals.py",
     "tick_journal::write_base": "program.py",
     "tick_journal::write_tick": "journals.py",
-    "upload_stream::read_uploads": "program.py",
     "visible_view::View::among": "desk.py",
     "wasm_link::link": "program.py",
     "wasm_link::Linked::store": "desk.py",
@@ -98,6 +98,8 @@ RUNS = {
     "wasm_store::GlobalValues::new": "desk.py",
     "wasm_store::Pages::new": "desk.py",
     "wasm_validate::validate": "modules.py",
+    "run_lines::later_lines": "program.py",
+    "run_lines::start_line": "program.py",
     "world_bytes::put_length": "program.py",
     "world_bytes::read_account": "journals.py",
     "world_bytes::read_intent": "journals.py",
@@ -106,8 +108,8 @@ RUNS = {
     "world_bytes::write_intent": "desk.py",
     "world_bytes::write_room": "program.py",
     "world_io::read_all": "program.py",
-    "world_journal::Journal::append Ok": "journals.py",
-    "world_journal::Journal::append DiskFault": "failures.py",
+    "world_journal::Journal::append_judged Ok": "journals.py",
+    "world_journal::Journal::append_judged DiskFault": "failures.py",
     "world_journal::Journal::create Ok": "journals.py",
     "world_journal::Journal::create DiskFault": "failures.py",
     "world_journal::Journal::recover": "journals.py",
@@ -140,7 +142,7 @@ NAMES = {"Bad": "Uploads", "Empty": "is_empty"}
 # Names of methods that are those of std's types too.
 COMMON = {"copy", "new", "of", "push", "reserve"}
 # Crates of tests alone, whose functions serve the tests of all their files.
-OF_TESTS = {"content_examples", "journal_examples", "machine_examples", "module_round_trip", "run_examples"}
+OF_TESTS = {"base_examples", "content_examples", "journal_examples", "machine_examples", "module_round_trip", "run_examples"}
 
 # The answers that a clause says never come.
 NEVER = {

@@ -138,6 +138,27 @@ def check_memory_of_journals(folder, least):
         note(f"a journal of {len(kept) // MIB} MiB, {name} where there are 16 MiB", [] if found == wanted else [f"{shown(found)}, wanted {shown(wanted)}"])
 
 
+def most_memory(folder):
+    """The exit status of a run of a tick, and the most bytes of memory that it held at once."""
+    forget_journal(folder)
+    run = subprocess.Popen([PROGRAM, *words_of(1)], cwd=folder, stdin=subprocess.DEVNULL, stdout=subprocess.DEVNULL, stderr=subprocess.DEVNULL)
+    _, status, used = os.wait4(run.pid, 0)
+    run.returncode = os.waitstatus_to_exitcode(status)
+    return run.returncode, used.ru_maxrss * 1024
+
+
+def check_memory_of_uploads(folder):
+    """A tick's uploads of nobody, a million without bytes or some of a MiB, take at most 2.5 times their stream, with the journal's frame and the lines."""
+    write_files(folder, {"world.json": bytes_of(SMALL), "uploads.bin": b""})
+    _, least = most_memory(folder)
+    for count, length in ((1_000_000, 0), (31, MIB)):
+        stream = stream_of(of_nobody(0, count, length))
+        write_files(folder, {"uploads.bin": stream})
+        status, most = most_memory(folder)
+        times = (most - least) / len(stream)
+        note(f"{count} uploads of {length} bytes take at most 2.5 times their stream", [] if status == 0 and times <= 2.5 else [f"exit status {status}, {times:.2f} times"])
+
+
 def check_memory_of_checks(folder, least):
     """The check of a module of a mebibyte, under limits from one where it hardly begins on."""
     write_files(folder, {"module.wasm": module([b"\x01" * 95] * 9_999)})
@@ -158,6 +179,7 @@ def check_memory():
         check_memory_of_runs(folder, least)
         check_memory_of_inputs(folder, least)
         check_memory_of_journals(folder, least)
+        check_memory_of_uploads(folder)
         check_memory_of_checks(folder, least)
 
 

@@ -1,16 +1,15 @@
 -- The judgement of uploads, one after the other.
-use Rattle.std.proofs.Common.{◌≡◌, ◌≢◌, ℕ, ◌+◌, ◌<◌, List, [], ◌∷◌, ◌++◌, map, length, take, get_or, Option, Some, refl, ap, ◌∙◌}
-use Rattle.std.proofs.lemmas.List.{map-append, take_more}
+use Rattle.std.proofs.Common.{◌≡◌, ℕ, ◌+◌, List, [], ◌∷◌, ◌++◌, length, Option, Some, refl, sym, ap, subst, ◌∙◌, arith, append_assoc, length-append}
+use Rattle.std.proofs.lemmas.List.{append-nil}
 use Rattle.intent_book.specs.declared.refusal.Refusal.{Refusal}
 use Rattle.intent_book.specs.declared.refusal.Refusal.TheVariants.{UnknownPlayer, WrongToken, TooLarge, Malformed, FloatRefused, Invalid, UnknownImport, ImportKind, NoLoop, Segment, Memory}
 use Rattle.world_rules.specs.Rules.{IsPlayer}
 use Rattle.world_rules.specs.World.{World}
 use Rattle.upload_stream.specs.Streams.{Upload}
-use Rattle.upload_stream.specs.Entries.{upload_of}
-use Rattle.upload_stream.specs.declared.stream.Upload.{Upload as Lent}
+use Rattle.judged_uploads.specs.Judging.{judged, judged_entry}
 use Rattle.player_run.specs.Admission.{IsRefused}
 use Rattle.tick_journal.specs.declared.entries.UploadEntry.{UploadEntry}
-use Rattle.hosted_tick.specs.Next.{AreJudged, IsResult, Modules, entry_of, modules_after}
+use Rattle.hosted_tick.specs.Next.{AreJudged, IsResult, Modules, entry_of, modules_after, result_number}
 
 -- a refusal of the bytes of a player's upload
 pub refused : (world : World) (upload : Upload) (refusal : Refusal) → IsPlayer world upload.player → IsRefused upload.bytes refusal → IsResult world upload (Some refusal)
@@ -39,12 +38,42 @@ judged_push world modules (first ∷ later) after records upload judgement so is
   judged_push world (modules_after modules first so.0) later after so.1 upload judgement so.4 is,
 )
 
--- one more of a list of uploads is judged
-pub judged_more : (world : World) (modules : Modules) (uploads : List Lent) (i : ℕ) (d : Lent) (after next : Modules) (records : List UploadEntry) (entry : UploadEntry)
-    → i < length uploads → AreJudged world modules (map upload_of (take i uploads)) after records
-    → (judgement : Option Refusal) × IsResult world (upload_of (get_or uploads i d)) judgement × (entry ≡ entry_of (upload_of (get_or uploads i d)) judgement) × (next ≡ modules_after after (upload_of (get_or uploads i d)) judgement)
-    → AreJudged world modules (map upload_of (take (i + 1) uploads)) next (records ++ entry ∷ [])
-judged_more world modules uploads i d after next records entry within so one =
-    let upload : Lent = get_or uploads i d in
-    let mapped : map upload_of (take (i + 1) uploads) ≡ map upload_of (take i uploads) ++ upload_of upload ∷ [] = ap (map upload_of) (take_more uploads i d within) ∙ map-append upload_of (take i uploads) (upload ∷ []) in
-    rw (mapped, one.3, one.2) (judged_push world modules (map upload_of (take i uploads)) after records (upload_of upload) one.0 so one.1)
+-- ---- a walk over uploads
+
+-- The uploads before those that are left are judged so, with as many results.
+pub record HasJudged (world : World) (modules : Modules) (uploads left : List Upload) (after : Modules) (results : List ℕ) : Type 0 where
+  pub done : List Upload
+  pub parts : uploads ≡ done ++ left
+  pub counted : length results ≡ length done
+  pub judged : AreJudged world modules done after (judged done results)
+
+pub none_judged : (world : World) (modules : Modules) (uploads : List Upload) → HasJudged world modules uploads uploads modules []
+none_judged world modules uploads = record { done = []; parts = refl; counted = refl; judged = (refl, refl) }
+
+judged_end : (uploads : List Upload) (results : List ℕ) (upload : Upload) (number : ℕ) → length results ≡ length uploads → judged (uploads ++ upload ∷ []) (results ++ number ∷ []) ≡ judged uploads results ++ judged_entry upload number ∷ []
+judged_end [] [] upload number same = refl
+judged_end [] (n ∷ results) upload number same = absurd (omega arith)
+judged_end (u ∷ uploads) [] upload number same = absurd (omega arith)
+judged_end (u ∷ uploads) (n ∷ results) upload number same = ap (λ (r : List UploadEntry). judged_entry u n ∷ r) (judged_end uploads results upload number (omega arith))
+
+-- one more is judged
+pub judged_more : (world : World) (modules : Modules) (uploads left : List Upload) (after next : Modules) (results : List ℕ) (upload : Upload) (later : List Upload) (number : ℕ)
+    → HasJudged world modules uploads left after results → left ≡ upload ∷ later
+    → (judgement : Option Refusal) × IsResult world upload judgement × (number ≡ result_number judgement) × (next ≡ modules_after after upload judgement)
+    → HasJudged world modules uploads later next (results ++ number ∷ [])
+judged_more world modules uploads left after next results upload later number so first one =
+    let push = judged_push world modules so.done after (judged so.done results) upload one.0 so.judged one.1 in
+    let entries : judged (so.done ++ upload ∷ []) (results ++ number ∷ []) ≡ judged so.done results ++ entry_of upload one.0 ∷ [] =
+    judged_end so.done results upload number so.counted ∙ ap (λ (n : ℕ). judged so.done results ++ judged_entry upload n ∷ []) one.2 in
+    record {
+      done = so.done ++ upload ∷ [];
+      parts = so.parts ∙ (ap (λ (z : List Upload). so.done ++ z) first ∙ sym (append_assoc so.done (upload ∷ []) later));
+      counted = length-append results (number ∷ []) ∙ (ap (λ (n : ℕ). n + 1) so.counted ∙ sym (length-append so.done (upload ∷ [])));
+      judged = rw (entries, one.3) push;
+    }
+
+-- all are judged
+pub judged_all : (world : World) (modules : Modules) (uploads left : List Upload) (after : Modules) (results : List ℕ) → HasJudged world modules uploads left after results → left ≡ [] → (length results ≡ length uploads) × AreJudged world modules uploads after (judged uploads results)
+judged_all world modules uploads left after results so none =
+    let all : so.done ≡ uploads = sym (append-nil so.done) ∙ (ap (λ (z : List Upload). so.done ++ z) (sym none) ∙ sym so.parts) in
+    subst (λ (z : List Upload). (length results ≡ length z) × AreJudged world modules z after (judged z results)) all (so.counted, so.judged)

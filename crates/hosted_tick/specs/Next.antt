@@ -1,6 +1,6 @@
 -- One tick of a world with players: the uploads are judged, each player with a module runs it on what he sees
 -- of the world as it stands, and what the runs want is ruled.
-use Rattle.std.specs.Prelude.{◌≡◌, ℕ, nat_le, if◌then◌else◌, List, [], ◌∷◌, length, map, Option, Some, None}
+use Rattle.std.specs.Prelude.{◌≡◌, ℕ, List, [], ◌∷◌, map, Option, Some, None}
 use Rattle.std.specs.Ordering.{nat_cmp}
 use Rattle.std.specs.FinMap.{FinMap, get, insert, entries}
 use Rattle.object_store.specs.declared.account.Account.{Account}
@@ -12,7 +12,8 @@ use Rattle.world_rules.specs.Rules.{IsPlayer}
 use Rattle.world_rules.specs.Tick.{next_world}
 use Rattle.world_rules.specs.World.{World}
 use Rattle.visible_view.specs.Sights.{Sight, sight_of}
-use Rattle.upload_stream.specs.Streams.{Upload, module_bytes_bound}
+use Rattle.upload_stream.specs.Streams.{Upload}
+use Rattle.judged_uploads.specs.Judging.{judged_entry}
 use Rattle.player_run.specs.Admission.{IsAccepted, IsRefused}
 use Rattle.player_run.specs.Emitted.{Emits}
 use Rattle.tick_journal.specs.declared.entries.UploadEntry.{UploadEntry}
@@ -44,13 +45,9 @@ abbrev pub result_number : Option Refusal → ℕ
 result_number None = 0
 result_number (Some refusal) = refusal_number refusal
 
--- what is recorded of an upload: the bytes too, but for a module of more than 1 MiB
+-- what is recorded of an upload with its result
 abbrev pub entry_of : Upload → Option Refusal → UploadEntry
-entry_of upload result = record {
-  player = upload.player;
-  result_number = result_number result;
-  bytes = if nat_le (length upload.bytes) module_bytes_bound then upload.bytes else [];
-}
+entry_of upload result = judged_entry upload (result_number result)
 
 -- Uploads are judged one after the other, and so the later of two modules of a player is his.
 abbrev pub AreJudged : World → Modules → List Upload → Modules → List UploadEntry → Type 0

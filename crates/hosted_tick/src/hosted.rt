@@ -1,5 +1,5 @@
 // A world with the modules of its players.
-ghost use Rattle.std.specs.Prelude.{◌≡◌, ◌<◌, ◌≤◌, ◌-◌, ◌^◌, [], length, map, IfOk};
+ghost use Rattle.std.specs.Prelude.{◌≡◌, ◌<◌, ◌≤◌, ◌-◌, ◌^◌, [], length, IfOk};
 ghost use Rattle.std.specs.FinMap.{from_entries};
 ghost use Rattle.std.specs.List.{AllByRecursion};
 ghost use Rattle.game_tables.specs.Limits.{most_memory};
@@ -7,7 +7,6 @@ ghost use Rattle.world_rules.specs.World.{world_of};
 ghost use Rattle.world_rules.specs.Tick.{intents_of};
 ghost use Rattle.kept_entries.specs.Split.{AreSplit};
 ghost use Rattle.world_rules.specs.Sound.{HaveSerials};
-ghost use Rattle.upload_stream.specs.Entries.{upload_of};
 ghost use Rattle.hosted_tick.specs.Hosting.{AreLinked, IsHosted, modules_of, state_of};
 ghost use Rattle.hosted_tick.specs.Next.{AreRuns, Next};
 
@@ -16,6 +15,7 @@ use crate::modules::Modules;
 use crate::restore::link_all;
 use crate::runs::run_all;
 use intent_book::{Intents, PlayerRun};
+use judged_uploads::JudgedUploads;
 use kept_entries::{intents_by_room, no_intents_by_room};
 use object_store::{Bytes, World};
 use room_step::{all_intents, next_world};
@@ -23,8 +23,7 @@ pub use std::alloc::AllocError as NoMemory;
 use std::alloc::Global;
 use std::collections::BTreeMap;
 use std::marker::Model;
-use tick_journal::UploadEntry;
-use upload_stream::Upload;
+use upload_stream::Uploads;
 use world_roster::Roster;
 
 /// A world with the modules of its players, each decoded, validated and linked once.
@@ -82,18 +81,19 @@ impl Hosted {
     }
 
     /// One tick: the uploads are judged in their order, each player with a module runs it on the
-    /// world as it is, in rising player, and what the runs want is ruled.
-    pub fn tick(self, alloc: Global, uploads: &[Upload]) -> Result<Ticked, NoMemory>
+    /// world as it is, in rising player, and what the runs want is ruled. An upload that is refused takes
+    /// one byte, for its result.
+    pub fn tick<'a>(self, alloc: Global, uploads: Uploads<'a>) -> Result<Ticked<'a>, NoMemory>
         requires hosted { IsHosted self.world }
         requires tick { self.world.tick < 2 ^ 64 - 1 }
         requires serials { HaveSerials self.world.rooms }
         ensures next { IfOk result
-            (λ done. Next (state_of self) (map upload_of uploads.now) done.uploads.items done.runs.items
+            (λ done. Next (state_of self) uploads.entry done.uploads done.runs.items
             (state_of done.hosted)) }
         ensures hosted { IfOk result (λ done. IsHosted done.hosted.world) }
     {
         let Hosted { world, mut modules } = self;
-        let records = judge_all(alloc, &world, uploads, &mut modules)?;
+        let judged = judge_all(alloc, &world, uploads, &mut modules)?;
         let Wanted { runs, lists } = run_players(alloc, &world, &modules)?;
         let after = next_world(alloc, world, &lists, &runs)?;
         Ok(Ticked {
@@ -101,7 +101,7 @@ impl Hosted {
                 world: after,
                 modules,
             },
-            uploads: records,
+            uploads: judged,
             runs,
         })
     }
@@ -144,10 +144,10 @@ fn run_players(alloc: Global, world: &World, modules: &Modules) -> Result<Wanted
 
 /// A world after a tick, and what is recorded of the tick.
 #[derive(Drop)]
-pub struct Ticked {
+pub struct Ticked<'a> {
     pub hosted: Hosted,
     /// The uploads with their results, in their order.
-    pub uploads: Vec<UploadEntry>,
+    pub uploads: JudgedUploads<'a>,
     /// The runs, in rising player.
     pub runs: Vec<PlayerRun>,
 }

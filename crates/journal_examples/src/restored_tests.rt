@@ -12,7 +12,8 @@ use recorded_tick::{courses_can_be_hosted, record_tick};
 use std::alloc::Global;
 use std::test::Fail;
 use tick_journal::TickRecord;
-use world_journal::{Journal, span};
+use upload_stream::Uploads;
+use world_journal::{AppendFault, Journal, span};
 
 // The last world of a journal with its modules.
 fn restored(alloc: Global, bytes: &[u8]) -> Result<Hosted, Fail>
@@ -43,16 +44,22 @@ fn next_record(alloc: Global, bytes: &[u8]) -> Result<TickRecord, Fail> {
     if before.tick() > 9 || !have_serials(&before) {
         return Err("used up".into());
     }
+    let Ok(none) = Uploads::read(&[]) else {
+        return Err("no stream".into());
+    };
     let Ticked {
         hosted,
         uploads,
         runs,
-    } = hosted.tick(alloc, &[])?;
+    } = hosted.tick(alloc, none)?;
+    if uploads.count() > 0 {
+        return Err("uploads".into());
+    }
     let after = hosted.world();
     if before.rooms() != after.rooms() || before.accounts() != after.accounts() {
         return Err("not as many".into());
     }
-    Ok(record_tick(alloc, &before, after, uploads, runs)?)
+    Ok(record_tick(alloc, &before, after, Vec::new(alloc), runs)?)
 }
 
 #[test]
@@ -72,5 +79,52 @@ fn modules_of_a_journal_run_again(rt: HostRuntime) -> Result<(), Fail> {
         span(alloc, &mut disk_of(alloc, &longer, None)?),
         Ok((FIRST, 6))
     );
+    Ok(())
+}
+
+// Whether the disk fails, from a call on, at the addition of the tick after a journal's last world, with its
+// uploads lent, and the journal then adds nothing more.
+fn is_closed_by(alloc: Global, bytes: &[u8], stop: u64) -> Result<bool, Fail> {
+    let mut disk = disk_of(alloc, bytes, Some(stop))?;
+    let Ok(found) = Journal::recover(alloc, &mut disk) else {
+        return Ok(false);
+    };
+    courses_can_be_hosted();
+    let hosted = Hosted::restored(alloc, found.world, found.modules)?;
+    let before = hosted.world().copy(alloc)?;
+    if before.tick() > 9 || !have_serials(&before) {
+        return Err("used up".into());
+    }
+    let Ok(none) = Uploads::read(&[]) else {
+        return Err("no stream".into());
+    };
+    let Ticked {
+        hosted,
+        uploads,
+        runs,
+    } = hosted.tick(alloc, none)?;
+    let after = hosted.world();
+    if before.rooms() != after.rooms() || before.accounts() != after.accounts() {
+        return Err("not as many".into());
+    }
+    let entry = record_tick(alloc, &before, after, Vec::new(alloc), runs)?;
+    let mut journal = found.journal;
+    let Err(AppendFault::DiskFault) = journal.append_judged(alloc, &mut disk, &uploads, &entry)
+    else {
+        return Ok(false);
+    };
+    let again = journal.append_judged(alloc, &mut disk, &uploads, &entry);
+    Ok(again == Err(AppendFault::Closed))
+}
+
+#[test]
+fn a_journal_adds_no_tick_after_a_fault(rt: HostRuntime) -> Result<(), Fail> {
+    let alloc = rt.alloc();
+    let bytes = journal_of(alloc, &[4])?;
+    let mut met = false;
+    for stop in 0..40 {
+        met = met || is_closed_by(alloc, &bytes, stop)?;
+    }
+    assert!(rt; met);
     Ok(())
 }

@@ -8,7 +8,7 @@ use Rattle.upload_stream.proofs.Words.{behind_word, text_one}
 
 -- ---- an entry, field by field
 
-entry_split : (upload : Upload) (rest : List ℕ) → entry_bytes upload ++ rest ≡ little_bytes 8 upload.tick ++ (little_bytes 4 upload.player ++ (little_bytes 4 (length upload.bytes) ++ (upload.bytes ++ rest)))
+pub entry_split : (upload : Upload) (rest : List ℕ) → entry_bytes upload ++ rest ≡ little_bytes 8 upload.tick ++ (little_bytes 4 upload.player ++ (little_bytes 4 (length upload.bytes) ++ (upload.bytes ++ rest)))
 unfolding entry_bytes
 entry_split upload rest = simp append_assoc
 
@@ -27,7 +27,7 @@ begins_shorter least bytes upload rest begins = omega (arith, begins_length leas
 upload_from : ℕ → ℕ → List ℕ → Upload
 upload_from tick player bytes = record { tick = tick; player = player; bytes = bytes }
 
-upload_same : (a b : Upload) → a.tick ≡ b.tick → a.player ≡ b.player → a.bytes ≡ b.bytes → a ≡ b
+pub upload_same : (a b : Upload) → a.tick ≡ b.tick → a.player ≡ b.player → a.bytes ≡ b.bytes → a ≡ b
 unfolding upload_from
 upload_same a b e f g =
     let same : upload_from a.tick a.player a.bytes ≡ upload_from b.tick b.player b.bytes = cc in

@@ -1,4 +1,4 @@
 pub mod Entries
 pub mod Judged
-pub mod Ticks
+pub mod Parts
 pub mod Words

@@ -1,7 +1,7 @@
 -- An upload that was read, as the stream has it, and an entry at the front of bytes.
 use Rattle.std.specs.Prelude.{◌≡◌, ℕ, ◌≤◌, List, ◌++◌}
 use Rattle.upload_stream.specs.Streams.{Upload, HasEntryForm, entry_bytes}
-use Rattle.upload_stream.specs.declared.stream.Upload.{Upload as Lent}
+use Rattle.upload_stream.specs.declared.entry.Upload.{Upload as Lent}
 
 -- the upload that lends its bytes
 abbrev pub upload_of : Lent → Upload

@@ -1,6 +1,6 @@
 -- The stream of uploads: entries one after the other to the end, whose ticks do not fall. Numbers are little
 -- endian.
-use Rattle.std.specs.Prelude.{◌≡◌, ◌≢◌, ℕ, ◌<◌, ◌≤◌, ◌^◌, ◌==◌, List, [], ◌∷◌, ◌++◌, length}
+use Rattle.std.specs.Prelude.{◌≡◌, ◌≢◌, ℕ, ◌<◌, ◌≤◌, ◌^◌, ◌==◌, nat_lt, List, [], ◌∷◌, ◌++◌, length}
 use Rattle.std.specs.List.{AllByRecursion, filter, flat_map}
 use Rattle.byteorder.specs.Endian.{little_bytes}
 
@@ -61,3 +61,7 @@ pub record IsFirstBad (bytes : List ℕ) (at : ℕ) : Type 0 where
 -- the uploads of a tick, in their order
 abbrev pub uploads_at : ℕ → List Upload → List Upload
 uploads_at tick uploads = filter (λ upload. upload.tick == tick) uploads
+
+-- those of the ticks behind it, in their order
+abbrev pub uploads_after : ℕ → List Upload → List Upload
+uploads_after tick uploads = filter (λ upload. nat_lt tick upload.tick) uploads

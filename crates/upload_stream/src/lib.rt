@@ -1,11 +1,12 @@
 // The stream of uploads that a run is given.
 #![tactic(auto)]
 
+mod entry;
 mod fault;
 mod laws;
-mod stream;
+mod uploads;
 
-pub use fault::StreamFault;
+pub use entry::{Upload, most_module_bytes};
+pub use fault::BadEntry;
 pub use laws::stream_is_judged_once;
-pub use std::alloc::AllocError as NoMemory;
-pub use stream::{Upload, most_module_bytes, read_uploads, uploads_at};
+pub use uploads::Uploads;

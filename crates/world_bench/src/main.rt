@@ -2,6 +2,7 @@
 // benchmarks of world files and of ticks.
 #![tactic(auto)]
 
+use object_store::RoomTable;
 use serde_json::Value;
 use std::alloc::{AllocError, Global};
 use std::env;
@@ -65,17 +66,18 @@ fn answer(rt: &HostRuntime) -> Option<&'static str> {
 // Copies the tables of all rooms, a number of times.
 fn copy_often(alloc: Global, file: &WorldFile) -> Result<(), AllocError> {
     for _ in 0..COPIES {
-        copy_tables(alloc, file)?;
+        let _copies = copied_tables(alloc, file)?;
     }
     Ok(())
 }
 
-// Copies the table of each room.
-fn copy_tables(alloc: Global, file: &WorldFile) -> Result<(), AllocError> {
+// A copy of the table of each room: all are held at once, as those of a world are.
+fn copied_tables(alloc: Global, file: &WorldFile) -> Result<Vec<RoomTable>, AllocError> {
+    let mut copies = Vec::new(alloc);
     for room in file.world.room_list() {
         // A table has fewer than 2^32 objects.
         let _objects = room.table.objects();
-        let _copy = room.table.copy(alloc, 0)?;
+        copies.push(room.table.copy(alloc, 0)?)?;
     }
-    Ok(())
+    Ok(copies)
 }

@@ -5,6 +5,7 @@ ghost use Rattle.world_io.specs.Causes.{Rose};
 ghost use Rattle.world_io.specs.Disk.{TellsAlike};
 ghost use Rattle.world_io.specs.Moments.{LeavesSince, Rests};
 ghost use Rattle.frame_log.specs.Frames.{IsEmpty, IsEmptyDisk, IsLog};
+ghost use Rattle.judged_uploads.specs.Judging.{with_uploads};
 ghost use Rattle.object_store.specs.Stored.{Stored};
 ghost use Rattle.record_follows.specs.Courses.{world_after};
 ghost use Rattle.tick_journal.specs.BaseForms.{world_as_read};
@@ -17,6 +18,7 @@ ghost use Rattle.world_journal.specs.declared.fault.AppendFault.TheVariants.{Clo
 
 use crate::fault::AppendFault;
 use frame_log::Log;
+use judged_uploads::{JudgedUploads, tick_piece};
 use object_store::World;
 use std::alloc::Global;
 use tick_journal::{TickRecord, write_base, write_tick};
@@ -99,5 +101,48 @@ impl Journal {
         }
         let content = write_tick(alloc, entry)?;
         Ok(self.log.append(alloc, disk, &content)?)
+    }
+
+    /// Adds the record of a tick with these uploads, lent from their stream, in the place of the entry's own,
+    /// of which there are none: their bytes are copied once, into the frame. It takes its memory before the
+    /// first call of the disk. After a `DiskFault` the journal answers `Closed`, and is to be recovered.
+    pub fn append_judged<D: Disk>(
+        &mut self,
+        alloc: Global,
+        disk: &mut D,
+        judged: &JudgedUploads,
+        entry: &TickRecord,
+    ) -> Result<(), AppendFault>
+        requires log { self.old.log.is_closed ≡ false
+            → IsLog self.old.log.gate (D.seen disk.old) (D.moments disk.old) }
+        requires none { entry.now.uploads ≡ [] }
+        ensures each_moment { (base : Stored) (entries : List Recorded)
+            → HasJournal base entries self.old.log.gate (D.seen disk.old) (D.moments disk.old)
+            → MayFollow (world_after base entries) (with_uploads judged.now entry.now)
+            → LeavesSince (IsBeforeOrAfter base entries (tick_as_read (with_uploads judged.now entry.now)))
+            (D.moments disk.old) (D.moments disk.new) }
+        ensures done { OnOk result ((base : Stored) (entries : List Recorded)
+            → HasJournal base entries self.old.log.gate (D.seen disk.old) (D.moments disk.old)
+            → MayFollow (world_after base entries) (with_uploads judged.now entry.now)
+            → HasJournal base (entries ++ tick_as_read (with_uploads judged.now entry.now) ∷ [])
+            self.new.log.gate (D.seen disk.new) (D.moments disk.new)) }
+        ensures rests { OnOk result (IsLog self.new.log.gate (D.seen disk.new) (D.moments disk.new)) }
+        ensures gate { OnOk result (self.new.log.gate
+            ≡ self.old.log.gate + 9 + length (tick_content (with_uploads judged.now entry.now))) }
+        ensures is_open { OnOk result (self.new.log.is_closed ≡ false) }
+        ensures disk_fault { IfErr result (λ e. e ≡ DiskFault
+            → Rose (D.faults disk.old) (D.faults disk.new) × (self.new.log.is_closed ≡ true)) }
+        ensures closed { (result ≡ Err Closed) ↔ (self.old.log.is_closed ≡ true) }
+        ensures unchanged { IfErr result
+            (λ e. e ≢ DiskFault → (disk.new ≡ disk.old) × (self.new ≡ self.old)) }
+        ensures alike { TellsAlike (D.seen disk.old) (D.seen disk.new) }
+        ensures steady { OnOk result (D.faults disk.new ≡ D.faults disk.old) }
+        ensures later { D.faults disk.old ≤ D.faults disk.new }
+    {
+        if self.log.is_closed() {
+            return Err(AppendFault::Closed);
+        }
+        let piece = tick_piece(alloc, judged, entry)?;
+        Ok(self.log.append_piece(disk, piece)?)
     }
 }

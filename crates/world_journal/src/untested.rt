@@ -23,9 +23,9 @@ use std::alloc::Global;
 use tick_journal::{BytesFault, TickRecord, read_tick};
 use world_io::Disk;
 
-/// Where the reading of a journal stands that doesn't test whether the world after a record keeps the rules of
-/// objects: for a reader who knows it in another way. The journal is one only if they are kept, so who doesn't
-/// know it has to ask (`tested`).
+/// Where the reading of a journal stands that doesn't test whether the world after a record keeps the rules
+/// of objects: for a reader who knows it in another way. The journal is one only if they are kept, so who
+/// doesn't know it has to ask (`tested`).
 #[derive(Drop)]
 pub struct UntestedWalk {
     pub(crate) world: World,
@@ -37,16 +37,16 @@ pub struct UntestedWalk {
     ghost limit: { len < 2 ^ 62 },
 }
 
-// The record that a content spells, where it spells one that fits behind the world, which is then led on by its
-// tables: they are gone from it. Else the world may be any.
+// The record that a content spells, where it spells one that fits behind the world, which is then led on by
+// its tables: they are gone from it. Else the world may be any.
 fn next_fitting(
     alloc: Global,
     world: &mut World,
     content: &[u8],
 ) -> Result<Option<TickRecord>, NoMemory>
     requires { ArePlaced world.old.rooms }
-    ensures some { IfOk result (λ found. IfSome found (λ told. (entry : Recorded) × SpellsTick content.now entry
-        × Fits world.old entry × (world.new ≡ world_next world.old entry)
+    ensures some { IfOk result (λ found. IfSome found (λ told. (entry : Recorded)
+        × SpellsTick content.now entry × Fits world.old entry × (world.new ≡ world_next world.old entry)
         × (told ≡ record entry { rooms = [] }))) }
     ensures none { IfOk result (λ found. IfNone found
         ((entry : Recorded) → SpellsTick content.now entry → Fits world.old entry → ⊥)) }
@@ -73,8 +73,8 @@ impl UntestedWalk {
         &self.world
     }
 
-    /// Reads the next record, leads the world on by it, and answers the record without its tables, which are the
-    /// world's then. There is none at the closed gate. It takes time and memory for what is recorded.
+    /// Reads the next record, leads the world on by it, and answers the record without its tables, which are
+    /// the world's then. There is none at the closed gate. It takes time and memory for what is recorded.
     pub fn next<D: Disk>(
         &mut self,
         alloc: Global,
@@ -109,8 +109,8 @@ impl UntestedWalk {
         Ok(Some(entry))
     }
 
-    /// The reading that tests the rules from here on, if the world keeps the rules of objects: the frame of the
-    /// last record fails where it doesn't. It takes time and memory for the whole world.
+    /// The reading that tests the rules from here on, if the world keeps the rules of objects: the frame of
+    /// the last record fails where it doesn't. It takes time and memory for the whole world.
     pub fn tested(self, alloc: Global) -> Result<Walk, RecoverFault>
         requires { ArePlaced self.world.rooms }
         ensures same { IfOk result (λ walk. (walk.world ≡ self.world) × (walk.gate ≡ self.gate)

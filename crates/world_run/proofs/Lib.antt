@@ -1,5 +1,4 @@
-pub mod LinesSums
-pub mod LinesTexts
+pub mod Left
 pub mod RunsLists
 pub mod Asked
 pub mod Demonstrates

@@ -19,15 +19,12 @@ use Rattle.upload_stream.specs.Streams.{Upload}
 use Rattle.hosted_tick.specs.Hosting.{Held, IsHosted}
 use Rattle.world_run.specs.declared.kept.Kept.{Kept}
 use Rattle.world_run.specs.inner.Held.{Step, step_lines, Follow, IsKeptAt, IsStep, last_of, CutsLast, Leaves, LeavesPart, Prints, output, recorded_of}
-use Rattle.world_run.specs.Lines.{start_line}
+use Rattle.run_lines.specs.Lines.{start_line}
+use Rattle.run_lines.proofs.Giving.{appends_nothing}
 use Rattle.world_run.specs.Runs.{AppendsPart, Stood}
 use Rattle.world_run.specs.inner.Stages.{Continues, Grows, GrowsPart}
 
 -- ---- known bytes
-
-pub appends_nothing : (a : Option (List ℕ)) → Appends a a []
-appends_nothing None = tt
-appends_nothing (Some xs) = sym (append-nil xs)
 
 -- a part of a last piece behind two whole ones
 appends_part : (a b c : Option (List ℕ)) (xs ys zs : List ℕ) → Appends a b xs → AppendsPart b c ys zs → AppendsPart a c (xs ++ ys) zs

@@ -32,7 +32,7 @@ use Rattle.record_follows.specs.Courses.{world_after}
 use Rattle.recorded_tick.specs.Recording.{AreChangedRooms, IsRecordOf}
 use Rattle.hosted_tick.specs.Hosting.{Held, IsHosted, state_of}
 use Rattle.world_run.proofs.Checked.{gave_whole}
-use Rattle.world_run.specs.Lines.{object_count, total_energy, start_line, tick_line, tick_lines}
+use Rattle.run_lines.specs.Lines.{object_count, total_energy, start_line, tick_line, tick_lines}
 use Rattle.world_run.specs.Listed.{listed_room, listed}
 use Rattle.world_run.specs.Runs.{Step, HasSerials, IsExhausted, IsStep, Follow, last_of, output, recorded_of, resumed, step_lines, AppendsPart}
 use Rattle.world_run.specs.inner.Held as held
@@ -136,7 +136,7 @@ start_shown first s = ap start_line (listed_is first s) ∙ start_same first
 lines_shown : (step : held.Step) → IsSound step.after.world → step_lines (shown step) ≡ held.step_lines step
 lines_shown step s =
     ap (tick_lines step.uploads step.runs) (listed_is step.after.world s)
-    ∙ ap (λ (line : List ℕ). flat_map Rattle.world_run.specs.Lines.upload_line step.uploads ++ flat_map Rattle.world_run.specs.Lines.run_line step.runs ++ line) (line_same step.after.world (length (Rattle.world_rules.specs.Tick.intents_of step.runs)))
+    ∙ ap (λ (line : List ℕ). flat_map Rattle.run_lines.specs.Lines.upload_line step.uploads ++ flat_map Rattle.run_lines.specs.Lines.run_line step.runs ++ line) (line_same step.after.world (length (Rattle.world_rules.specs.Tick.intents_of step.runs)))
 
 all_shown : (f : Step → List ℕ) (h : held.Step → List ℕ) → ((step : held.Step) → IsSound step.after.world → f (shown step) ≡ h step) → (steps : List held.Step) → AreSound steps → flat_map f (map shown steps) ≡ flat_map h steps
 all_shown f h same [] sound = refl

@@ -10,7 +10,7 @@ use Rattle.upload_stream.specs.Streams.{Upload, UploadList}
 use Rattle.tick_journal.specs.declared.tick_record.TickRecord.{TickRecord}
 use Rattle.world_journal.specs.Faults.{FailsAt}
 use Rattle.world_journal.specs.Journals.{IsWholeJournal}
-use Rattle.world_run.specs.Lines.{start_line}
+use Rattle.run_lines.specs.Lines.{start_line}
 use Rattle.world_run.specs.Listed.{listed}
 use Rattle.command_words.specs.Words.{AreRun, Asks, AsksAtLeast}
 use Rattle.world_run.specs.Runs.{Step, Follow, IsExhausted, last_of, output, recorded_of, resumed, step_lines}

@@ -1,4 +1,3 @@
-pub mod Lines
 pub mod Faults
 pub mod Listed
 pub mod Runs

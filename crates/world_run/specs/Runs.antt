@@ -21,7 +21,7 @@ use Rattle.record_follows.specs.Courses.{modules_after, world_after}
 use Rattle.recorded_tick.specs.Recording.{IsRecordOf}
 use Rattle.world_journal.specs.Journals.{IsJournal}
 use Rattle.hosted_tick.specs.Next.{Next, State}
-use Rattle.world_run.specs.Lines.{start_line, tick_lines}
+use Rattle.run_lines.specs.Lines.{start_line, tick_lines}
 use Rattle.world_run.specs.Listed.{listed}
 use Rattle.world_run.specs.declared.status.Status.{Status}
 use Rattle.world_run.specs.declared.status.Status.TheVariants as statuses

@@ -3,7 +3,6 @@ ghost use Rattle.std.specs.Prelude.{◌≡◌, ◌≢◌, ◌⊎◌, ◌≤◌, 
 ghost use Rattle.std.specs.Prelude.{IfOk, IfErr};
 ghost use Rattle.byte_fields.specs.Front.{SpellsShortest};
 ghost use Rattle.command_words.specs.Words.{AreRooms};
-ghost use Rattle.upload_stream.specs.Entries.{upload_of};
 ghost use Rattle.wasm_module.specs.sections.Sections.{Spells};
 ghost use Rattle.world_gen.specs.PlayerModule.{player_module};
 ghost use Rattle.world_gen.specs.Uploads.{uploads as uploads_of};
@@ -20,7 +19,7 @@ use crate::ticks::keep_journal;
 use made_worlds::generated_worlds_are_writable;
 use object_store::World;
 use std::alloc::{AllocError as NoMemory, Global};
-use upload_stream::read_uploads;
+use upload_stream::Uploads;
 use world_gen::{generate, generate_uploads};
 use world_io::{MemoryDisk, MemorySink, Sink, SteadySource, write_all};
 use world_text::write_world;
@@ -68,12 +67,12 @@ fn demonstrate(alloc: Global, seed: u64, rooms: u32, ticks: u64) -> Result<Vec<u
     let Ok(stream) = generate_uploads(alloc, seed, rooms) else {
         return Err(Status::Memory);
     };
-    let Ok(uploads) = read_uploads(alloc, &stream) else {
+    let Ok(uploads) = Uploads::read(&stream) else {
         return Err(Status::Memory);
     };
     let mut lines = MemorySink::new(alloc, Vec::new(alloc));
     let mut disk = MemoryDisk::new(Vec::new(alloc), Vec::new(alloc), None);
-    match keep_journal(alloc, world, &uploads, ticks, &mut lines, &mut disk) {
+    match keep_journal(alloc, world, uploads, ticks, &mut lines, &mut disk) {
         Status::Done => match text_of(alloc, lines.written(), disk.bytes().len()) {
             Ok(text) => Ok(text),
             Err(_) => Err(Status::Memory),

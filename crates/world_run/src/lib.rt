@@ -4,7 +4,6 @@
 mod demo;
 mod inputs;
 mod kept;
-mod lines;
 mod made;
 mod opening;
 mod replayed;

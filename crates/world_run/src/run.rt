@@ -24,7 +24,7 @@ use crate::inputs::{Inputs, read_inputs};
 use crate::status::Status;
 use crate::ticks::keep_journal;
 use std::alloc::Global;
-use upload_stream::{StreamFault, read_uploads};
+use upload_stream::Uploads;
 use world_io::{Disk, Sink, Source};
 
 /// Runs N ticks on the world of a file, for the words `run WORLD UPLOADS JOURNAL --ticks N`.
@@ -196,9 +196,8 @@ fn run_stored<W: Source, U: Source, O: Sink, D: Disk>(
         Ok(inputs) => inputs,
         Err(status) => return status,
     };
-    match read_uploads(alloc, &stream) {
-        Ok(uploads) => keep_journal(alloc, world, &uploads, ticks, out, disk),
-        Err(StreamFault::Bad(place)) => Status::Uploads(place),
-        Err(StreamFault::Memory) => Status::Memory,
+    match Uploads::read(&stream) {
+        Ok(uploads) => keep_journal(alloc, world, uploads, ticks, out, disk),
+        Err(bad) => Status::Uploads(bad.place),
     }
 }

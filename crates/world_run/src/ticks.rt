@@ -1,15 +1,16 @@
 // The ticks of a run, each recorded before its lines are printed.
 ghost use Rattle.std.specs.Prelude.{◌≡◌, ◌≢◌, ◌⊎◌, ℕ, ◌+◌, ◌-◌, ◌^◌, ◌<◌, ◌≤◌, false, List, [], ◌∷◌, ◌++◌};
-ghost use Rattle.std.specs.Prelude.{length, map, Option, Some, IfOk, IfErr, IfSome, IfNone, OnOk, suc};
-ghost use Rattle.std.specs.List.Sorted.{IsNonDecreasingBy};
+ghost use Rattle.std.specs.Prelude.{length, Option, Some, IfOk, IfErr, IfSome, IfNone, OnOk, OnErr};
+ghost use Rattle.std.specs.List.{flat_map};
 ghost use Rattle.std.specs.Io.KnownBytes.{Appends};
 ghost use Rattle.frame_log.specs.Frames.{IsLog};
 ghost use Rattle.object_store.specs.Stored.{Stored};
-ghost use Rattle.world_io.specs.Causes.{Rose};
+ghost use Rattle.world_io.specs.Causes.{HasCause, Rose};
 ghost use Rattle.world_io.specs.Disk.{TellsAlike};
 ghost use Rattle.world_io.specs.Told.{AppendsPrefix};
 ghost use Rattle.world_rules.specs.Sound.{HaveSerials};
-ghost use Rattle.upload_stream.specs.Entries.{upload_of};
+ghost use Rattle.upload_stream.specs.Streams.{Upload, uploads_after, uploads_at};
+ghost use Rattle.judged_uploads.specs.Judging.{with_uploads};
 ghost use Rattle.site_limit.specs.FewSites.{HaveFewSites};
 ghost use Rattle.hosted_tick.specs.Hosting.{IsHosted, state_of};
 ghost use Rattle.record_follows.specs.Courses.{modules_after, world_after};
@@ -22,7 +23,7 @@ ghost use Rattle.tick_journal.specs.declared.tick_record.TickRecord.{TickRecord 
 ghost use Rattle.world_journal.specs.Faults.{FailsAt};
 ghost use Rattle.world_journal.specs.Journals.{HasJournal, IsJournal, IsQuiet, IsWholeJournal, MayFollow};
 ghost use Rattle.record_follows.specs.Follows.{after};
-ghost use Rattle.world_run.specs.Lines.{tick_lines};
+ghost use Rattle.run_lines.specs.Lines.{upload_line};
 ghost use Rattle.world_run.specs.Runs.{DifferAt, IsKept, Stood};
 ghost use Rattle.world_run.specs.inner.Held.{Step, step_lines, IsAt, IsExhausted, IsKeptAt, IsStep, Leaves};
 ghost use Rattle.world_run.specs.inner.Held.{LeavesPart, MayStart, Prints, last_of};
@@ -30,43 +31,49 @@ ghost use Rattle.world_run.specs.inner.Stages.{Continues, IsOfRecord, IsOfTick, 
 ghost use Rattle.world_run.specs.inner.Stages.{Grows, GrowsPart};
 
 use crate::kept::Kept;
-use crate::lines::step_lines as lines_of;
 use crate::opening::{Opening, open_journal};
 use crate::status::Status;
 use hosted_tick::{Hosted, Ticked};
+use judged_uploads::JudgedUploads;
 use object_store::World;
 use recorded_tick::{Recorder, records_may_stand};
+use run_lines::{later_lines, print_uploads};
 use site_limit::ticks_keep_the_limit_of_sites;
 use std::alloc::{AllocError as NoMemory, Global};
 use tick_journal::TickRecord;
-use upload_stream::{Upload, uploads_at};
-use world_io::{Disk, Sink, write_all};
+use upload_stream::Uploads;
+use world_io::{Disk, Failed, Sink, write_all};
 use world_journal::{AppendFault, Journal};
 
 // The most that a room's next serial may be before a tick: 2^20 are left below 2^32.
 const MOST_SERIALS: u32 = 0xFFF0_0000;
 
+// The most bytes of a piece of the uploads' lines.
+const MOST_PIECE: usize = 65_536;
+
+// No line of an upload is longer.
+const MOST_LINE: usize = 64;
+
 /// Opens the journal, prints the opening line, and then runs the ticks.
 pub(crate) fn keep_journal<O: Sink, D: Disk>(
     alloc: Global,
     world: World,
-    stream: &[Upload],
+    stream: Uploads<'_>,
     ticks: u64,
     out: &mut O,
     disk: &mut D,
 ) -> Status
     requires starts { MayStart world }
-    requires order { IsNonDecreasingBy (λ upload. upload.tick) stream.now }
     requires ticks { ticks ≤ 1000000 }
     requires quiet { IsQuiet (D.seen disk.old) (D.moments disk.old) }
     ensures only { IsOfJournal result }
     ensures done { result ≡ Status.Done → (steps : List Step) × (length steps ≡ ticks)
         × Leaves (D.seen disk.old) (D.seen disk.new) (O.written out.old) (O.written out.new)
-        (map upload_of stream.now) world steps }
+        stream.entry world steps }
     ensures exhausted { (index : ℕ) → result ≡ Status.IdsExhausted index
         → (steps : List Step) × (length steps < ticks)
         × (leaves : Leaves (D.seen disk.old) (D.seen disk.new) (O.written out.old) (O.written out.new)
-        (map upload_of stream.now) world steps)
+        stream.entry world steps)
         × IsExhausted (last_of leaves.prints.first steps).world index }
     ensures journal_refused { (at : ℕ) → result ≡ Status.NotAJournal at
         → IfSome (D.seen disk.old) (FailsAt at) × (D.seen disk.new ≡ D.seen disk.old)
@@ -86,14 +93,14 @@ pub(crate) fn keep_journal<O: Sink, D: Disk>(
         ⊎ ((index : ℕ) × (result ≡ Status.IdsExhausted index)) }
     ensures write_stopped { result ≡ Status.WriteFault → (steps : List Step) × (length steps ≤ ticks)
         × LeavesPart (D.seen disk.old) (D.seen disk.new) (O.written out.old) (O.written out.new)
-        (map upload_of stream.now) world steps }
+        stream.entry world steps }
     ensures disk_stopped { result ≡ Status.DiskFault → (O.written out.new ≡ O.written out.old)
         ⊎ ((steps : List Step) × (length steps ≤ ticks) × Prints (D.seen disk.old)
-        (O.written out.old) (O.written out.new) (map upload_of stream.now) world steps) }
+        (O.written out.old) (O.written out.new) stream.entry world steps) }
     ensures memory_stopped { result ≡ Status.Memory
         → (IsKept (D.seen disk.old) (D.seen disk.new) × (O.written out.new ≡ O.written out.old))
         ⊎ ((steps : List Step) × (length steps ≤ ticks) × Leaves (D.seen disk.old) (D.seen disk.new)
-        (O.written out.old) (O.written out.new) (map upload_of stream.now) world steps) }
+        (O.written out.old) (O.written out.new) stream.entry world steps) }
     ensures write_steady { result ≢ Status.WriteFault → O.faults out.new ≡ O.faults out.old }
     ensures disk_steady { result ≢ Status.DiskFault → D.faults disk.new ≡ D.faults disk.old }
     ensures out_later { O.faults out.old ≤ O.faults out.new }
@@ -113,7 +120,7 @@ pub(crate) fn keep_journal<O: Sink, D: Disk>(
 fn run_ticks<O: Sink, D: Disk>(
     alloc: Global,
     first: Kept,
-    stream: &[Upload],
+    stream: Uploads<'_>,
     ticks: u64,
     out: &mut O,
     disk: &mut D,
@@ -121,27 +128,26 @@ fn run_ticks<O: Sink, D: Disk>(
     requires hosted { IsHosted first.hosted.world }
     requires few { HaveFewSites first.hosted.world }
     requires recorder { StandsAt first.recorder first.hosted.world }
-    requires order { IsNonDecreasingBy (λ upload. upload.tick) stream.now }
     requires tick { first.hosted.world.tick + ticks < 2 ^ 64 - 1 }
     requires is_open { first.journal.log.is_closed ≡ false }
     requires log { IsLog first.journal.log.gate (D.seen disk.old) (D.moments disk.old) }
     ensures only { IsOfTicks result }
     ensures done { result ≡ Status.Done → (steps : List Step) × (length steps ≡ ticks)
-        × Grows (O.written out.old) (O.written out.new) (map upload_of stream.now) first.hosted steps
+        × Grows (O.written out.old) (O.written out.new) stream.entry first.hosted steps
         × Continues first (D.seen disk.old) (D.moments disk.old) (D.seen disk.new) steps }
     ensures exhausted { (index : ℕ) → result ≡ Status.IdsExhausted index
         → (steps : List Step) × (length steps < ticks)
-        × Grows (O.written out.old) (O.written out.new) (map upload_of stream.now) first.hosted steps
+        × Grows (O.written out.old) (O.written out.new) stream.entry first.hosted steps
         × Continues first (D.seen disk.old) (D.moments disk.old) (D.seen disk.new) steps
         × IsExhausted (last_of first.hosted steps).world index }
     ensures memory { result ≡ Status.Memory → (steps : List Step) × (length steps ≤ ticks)
-        × Grows (O.written out.old) (O.written out.new) (map upload_of stream.now) first.hosted steps
+        × Grows (O.written out.old) (O.written out.new) stream.entry first.hosted steps
         × Continues first (D.seen disk.old) (D.moments disk.old) (D.seen disk.new) steps }
     ensures write_stopped { result ≡ Status.WriteFault → (steps : List Step) × (length steps ≤ ticks)
-        × GrowsPart (O.written out.old) (O.written out.new) (map upload_of stream.now) first.hosted steps
+        × GrowsPart (O.written out.old) (O.written out.new) stream.entry first.hosted steps
         × Continues first (D.seen disk.old) (D.moments disk.old) (D.seen disk.new) steps }
     ensures disk_stopped { result ≡ Status.DiskFault → (steps : List Step) × (length steps ≤ ticks)
-        × Grows (O.written out.old) (O.written out.new) (map upload_of stream.now) first.hosted steps }
+        × Grows (O.written out.old) (O.written out.new) stream.entry first.hosted steps }
     ensures write_fault { result ≡ Status.WriteFault → Rose (O.faults out.old) (O.faults out.new) }
     ensures disk_fault { result ≡ Status.DiskFault → Rose (D.faults disk.old) (D.faults disk.new) }
     ensures write_steady { result ≢ Status.WriteFault → O.faults out.new ≡ O.faults out.old }
@@ -150,8 +156,9 @@ fn run_ticks<O: Sink, D: Disk>(
     ensures disk_later { D.faults disk.old ≤ D.faults disk.new }
 {
     let mut kept = first;
+    let mut left = stream;
     for _turn in 0..ticks {
-        match one_tick(alloc, kept, stream, out, disk) {
+        match one_tick(alloc, kept, &mut left, out, disk) {
             Ok(next) => kept = next,
             Err(status) => return status,
         }
@@ -176,19 +183,18 @@ pub(crate) fn exhausted_room(world: &World) -> Option<u32>
 fn one_tick<O: Sink, D: Disk>(
     alloc: Global,
     kept: Kept,
-    stream: &[Upload],
+    stream: &mut Uploads<'_>,
     out: &mut O,
     disk: &mut D,
 ) -> Result<Kept, Status>
     requires hosted { IsHosted kept.hosted.world }
     requires few { HaveFewSites kept.hosted.world }
     requires recorder { StandsAt kept.recorder kept.hosted.world }
-    requires order { IsNonDecreasingBy (λ upload. upload.tick) stream.now }
     requires tick { kept.hosted.world.tick < 2 ^ 64 - 1 }
     requires is_open { kept.journal.log.is_closed ≡ false }
     requires log { IsLog kept.journal.log.gate (D.seen disk.old) (D.moments disk.old) }
     ensures step { IfOk result (λ next. (step : Step) × (step.after ≡ next.hosted)
-        × IsStep (map upload_of stream.now) kept.hosted step × HaveSerials kept.hosted.world.rooms
+        × IsStep stream.old kept.hosted step × HaveSerials kept.hosted.world.rooms
         × Appends (O.written out.old) (O.written out.new) (step_lines step)
         × ((base : Stored) (entries : List Recorded)
         → IsKeptAt base entries kept (D.seen disk.old) (D.moments disk.old)
@@ -198,6 +204,7 @@ fn one_tick<O: Sink, D: Disk>(
     ensures recorder { IfOk result (λ next. StandsAt next.recorder next.hosted.world) }
     ensures is_open { IfOk result (λ next. next.journal.log.is_closed ≡ false) }
     ensures log { IfOk result (λ next. IsLog next.journal.log.gate (D.seen disk.new) (D.moments disk.new)) }
+    ensures left { OnOk result (stream.new ≡ uploads_after kept.hosted.world.tick stream.old) }
     ensures only { IfErr result IsOfTick }
     ensures memory { IfErr result (λ status. status ≡ Status.Memory
         → (D.seen disk.new ≡ D.seen disk.old) × (O.written out.new ≡ O.written out.old)) }
@@ -209,7 +216,7 @@ fn one_tick<O: Sink, D: Disk>(
     ensures disk_fault { IfErr result (λ status. status ≡ Status.DiskFault
         → Rose (D.faults disk.old) (D.faults disk.new)) }
     ensures write_stopped { IfErr result (λ status. status ≡ Status.WriteFault
-        → (step : Step) × IsStep (map upload_of stream.now) kept.hosted step
+        → (step : Step) × IsStep stream.old kept.hosted step
         × HaveSerials kept.hosted.world.rooms × IsHosted step.after.world
         × AppendsPrefix (O.written out.old) (O.written out.new) (step_lines step)
         × ((base : Stored) (entries : List Recorded)
@@ -234,16 +241,16 @@ fn one_tick<O: Sink, D: Disk>(
     if let Some(index) = exhausted_room(hosted.world()) {
         return Err(Status::IdsExhausted(index));
     }
-    let Ok(made) = make_tick(alloc, hosted, recorder, stream) else {
+    let uploads = stream.take_tick(hosted.world().tick());
+    let Ok(made) = make_tick(alloc, hosted, recorder, uploads) else {
         return Err(Status::Memory);
     };
     let Made {
         hosted,
         recorder,
-        entry,
-        lines,
+        told,
     } = made;
-    match record(alloc, &mut journal, &entry, &lines, out, disk) {
+    match record(alloc, &mut journal, told, out, disk) {
         Ok(()) => Ok(Kept {
             hosted,
             recorder,
@@ -253,81 +260,127 @@ fn one_tick<O: Sink, D: Disk>(
     }
 }
 
-// The world after a tick with the recorder that stands at it, the tick's record, and its lines.
+// What is told of a tick: its record, but for the uploads, which are lent from their stream; and its lines,
+// but for those of the uploads, for which there is room.
 #[derive(Drop)]
-struct Made {
-    hosted: Hosted,
-    recorder: Recorder,
+struct Told<'a> {
+    uploads: JudgedUploads<'a>,
     entry: TickRecord,
     lines: Vec<u8>,
+    room: Vec<u8>,
 }
 
-// Makes the tick after a world.
-fn make_tick(
+// The world after a tick with the recorder that stands at it, and what is told of the tick.
+#[derive(Drop)]
+struct Made<'a> {
+    hosted: Hosted,
+    recorder: Recorder,
+    told: Told<'a>,
+}
+
+// Room for a piece of the lines of so many uploads, 64 KiB at most.
+fn room_for(alloc: Global, uploads: usize) -> Result<Vec<u8>, NoMemory>
+    ensures { IfOk result (λ room. room.items ≡ []) }
+{
+    Vec::with_capacity(alloc, uploads.min(MOST_PIECE / MOST_LINE) * MOST_LINE)
+}
+
+// Makes the tick after a world with its uploads.
+fn make_tick<'a>(
     alloc: Global,
     hosted: Hosted,
     mut recorder: Recorder,
-    stream: &[Upload],
-) -> Result<Made, NoMemory>
+    uploads: Uploads<'a>,
+) -> Result<Made<'a>, NoMemory>
     requires hosted { IsHosted hosted.world }
     requires few { HaveFewSites hosted.world }
     requires recorder { StandsAt recorder hosted.world }
-    requires order { IsNonDecreasingBy (λ upload. upload.tick) stream.now }
     requires tick { hosted.world.tick < 2 ^ 64 - 1 }
     requires serials { HaveSerials hosted.world.rooms }
     ensures step { IfOk result (λ made. (step : Step) × (step.after ≡ made.hosted)
-        × (step.recorded ≡ tick_as_read made.entry) × IsStep (map upload_of stream.now) hosted step
-        × (made.lines.items ≡ step_lines step)) }
+        × (step.recorded ≡ tick_as_read (with_uploads made.told.uploads made.told.entry))
+        × ((stream : List Upload) → uploads.entry ≡ uploads_at hosted.world.tick stream
+        → IsStep stream hosted step)
+        × (step_lines step ≡ flat_map upload_line made.told.uploads ++ made.told.lines.items)) }
     ensures hosted { IfOk result (λ made. IsHosted made.hosted.world) }
     ensures few { IfOk result (λ made. HaveFewSites made.hosted.world) }
     ensures recorder { IfOk result (λ made. StandsAt made.recorder made.hosted.world) }
-    ensures follows { IfOk result (λ made. MayFollow (world_as_read hosted.world) made.entry) }
-    ensures leads { IfOk result (λ made. after (world_as_read hosted.world) (tick_as_read made.entry)
+    ensures none { IfOk result (λ made. made.told.entry.uploads ≡ []) }
+    ensures room { IfOk result (λ made. made.told.room.items ≡ []) }
+    ensures follows { IfOk result (λ made. MayFollow (world_as_read hosted.world)
+        (with_uploads made.told.uploads made.told.entry)) }
+    ensures leads { IfOk result (λ made. after (world_as_read hosted.world)
+        (tick_as_read (with_uploads made.told.uploads made.told.entry))
         ≡ world_as_read made.hosted.world) }
     ensures modules { IfOk result (λ made. (entries : List Recorded)
         → (state_of hosted).modules ≡ modules_after empty entries
-        → (state_of made.hosted).modules ≡ modules_after empty (entries ++ tick_as_read made.entry ∷ [])) }
+        → (state_of made.hosted).modules ≡ modules_after empty
+        (entries ++ tick_as_read (with_uploads made.told.uploads made.told.entry) ∷ [])) }
 {
     records_may_stand();
     ticks_keep_the_limit_of_sites();
-    let uploads = uploads_at(stream, hosted.world().tick());
     let done = hosted.tick(alloc, uploads)?;
-    let lines = lines_of(alloc, &done)?;
+    let lines = later_lines(alloc, &done.runs, done.hosted.world())?;
+    let room = room_for(alloc, done.uploads.count())?;
     let Ticked {
         hosted,
         uploads,
         runs,
     } = done;
-    let entry = recorder.record(alloc, hosted.world(), uploads, runs)?;
+    let entry = recorder.record(alloc, hosted.world(), Vec::new(alloc), runs)?;
     recorder.lead(alloc, &entry)?;
     Ok(Made {
         hosted,
         recorder,
-        entry,
-        lines,
+        told: Told {
+            uploads,
+            entry,
+            lines,
+            room,
+        },
     })
+}
+
+// Prints the lines of a tick: those of the uploads in pieces for which there is room, and then the others.
+fn print_lines<O: Sink>(
+    out: &mut O,
+    uploads: &JudgedUploads<'_>,
+    room: Vec<u8>,
+    lines: &[u8],
+) -> Result<(), Failed>
+    requires { room.items ≡ [] }
+    ensures whole { OnOk result (Appends (O.written out.old) (O.written out.new)
+        (flat_map upload_line uploads.now ++ lines.now)) }
+    ensures cut { OnErr result (AppendsPrefix (O.written out.old) (O.written out.new)
+        (flat_map upload_line uploads.now ++ lines.now)) }
+    ensures cause { HasCause (O.faults out.old) (O.faults out.new) result }
+{
+    print_uploads(out, uploads, room)?;
+    write_all(out, lines)
 }
 
 // Records a tick, and then prints its lines.
 fn record<O: Sink, D: Disk>(
     alloc: Global,
     journal: &mut Journal,
-    entry: &TickRecord,
-    lines: &[u8],
+    told: Told<'_>,
     out: &mut O,
     disk: &mut D,
 ) -> Result<(), Status>
+    requires none { told.entry.uploads ≡ [] }
+    requires room { told.room.items ≡ [] }
     requires is_open { journal.old.log.is_closed ≡ false }
     requires log { IsLog journal.old.log.gate (D.seen disk.old) (D.moments disk.old) }
     ensures recorded { OnOk result ((base : Stored) (entries : List Recorded)
         → HasJournal base entries journal.old.log.gate (D.seen disk.old) (D.moments disk.old)
-        → MayFollow (world_after base entries) entry.now
-        → HasJournal base (entries ++ tick_as_read entry.now ∷ [])
+        → MayFollow (world_after base entries) (with_uploads told.entry.uploads told.entry.entry)
+        → HasJournal base (entries ++ tick_as_read (with_uploads told.entry.uploads told.entry.entry) ∷ [])
         journal.new.log.gate (D.seen disk.new) (D.moments disk.new)) }
     ensures log { OnOk result (IsLog journal.new.log.gate (D.seen disk.new) (D.moments disk.new)) }
     ensures is_open { OnOk result (journal.new.log.is_closed ≡ false) }
     ensures alike { TellsAlike (D.seen disk.old) (D.seen disk.new) }
-    ensures lines { OnOk result (Appends (O.written out.old) (O.written out.new) lines.now) }
+    ensures lines { OnOk result (Appends (O.written out.old) (O.written out.new)
+        (flat_map upload_line told.entry.uploads ++ told.entry.lines.items)) }
     ensures only { IfErr result (λ status. (status ≡ Status.Memory) ⊎ IsOfRecord status) }
     ensures memory { IfErr result (λ status. status ≡ Status.Memory
         → (D.seen disk.new ≡ D.seen disk.old) × (O.written out.new ≡ O.written out.old)) }
@@ -338,11 +391,12 @@ fn record<O: Sink, D: Disk>(
     ensures recorded_too { IfErr result (λ status. status ≡ Status.WriteFault
         → (base : Stored) (entries : List Recorded)
         → HasJournal base entries journal.old.log.gate (D.seen disk.old) (D.moments disk.old)
-        → MayFollow (world_after base entries) entry.now
-        → HasJournal base (entries ++ tick_as_read entry.now ∷ [])
+        → MayFollow (world_after base entries) (with_uploads told.entry.uploads told.entry.entry)
+        → HasJournal base (entries ++ tick_as_read (with_uploads told.entry.uploads told.entry.entry) ∷ [])
         journal.new.log.gate (D.seen disk.new) (D.moments disk.new)) }
     ensures lines_cut { IfErr result (λ status. status ≡ Status.WriteFault
-        → AppendsPrefix (O.written out.old) (O.written out.new) lines.now) }
+        → AppendsPrefix (O.written out.old) (O.written out.new)
+        (flat_map upload_line told.entry.uploads ++ told.entry.lines.items)) }
     ensures write_fault { IfErr result (λ status. status ≡ Status.WriteFault
         → Rose (O.faults out.old) (O.faults out.new)) }
     ensures steady { OnOk result ((O.faults out.new ≡ O.faults out.old)
@@ -354,13 +408,19 @@ fn record<O: Sink, D: Disk>(
     ensures out_later { O.faults out.old ≤ O.faults out.new }
     ensures disk_later { D.faults disk.old ≤ D.faults disk.new }
 {
-    match journal.append(alloc, disk, entry) {
+    let Told {
+        uploads,
+        entry,
+        lines,
+        room,
+    } = told;
+    match journal.append_judged(alloc, disk, &uploads, &entry) {
         Ok(()) => {}
         Err(AppendFault::Memory) => return Err(Status::Memory),
         Err(_) => return Err(Status::DiskFault),
     }
-    let Ok(()) = write_all(out, lines) else {
-        return Err(Status::WriteFault);
-    };
-    Ok(())
+    match print_lines(out, &uploads, room, &lines) {
+        Ok(()) => Ok(()),
+        Err(_) => Err(Status::WriteFault),
+    }
 }

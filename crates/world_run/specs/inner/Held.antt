@@ -21,7 +21,7 @@ use Rattle.site_limit.specs.FewSites.{HaveFewSites}
 use Rattle.hosted_tick.specs.Next.{Next}
 use Rattle.hosted_tick.specs.Hosting.{Held, IsHosted, state_of}
 use Rattle.world_journal.specs.Journals.{HasJournal, IsWholeJournal, MayBegin}
-use Rattle.world_run.specs.Lines.{start_line, tick_lines}
+use Rattle.run_lines.specs.Lines.{start_line, tick_lines}
 use Rattle.world_run.specs.Runs.{AppendsPart, Stood}
 use Rattle.world_run.specs.declared.kept.Kept.{Kept}
 

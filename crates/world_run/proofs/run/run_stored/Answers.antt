@@ -1,9 +1,8 @@
-use Rattle.std.proofs.Common.{◌≡◌, ℕ, List, Option, Some, inl, inr, map, subst, ◌∙◌}
+use Rattle.std.proofs.Common.{◌≡◌, ℕ, List, Option, Some, inl, inr, subst, ◌∙◌}
 use Rattle.upload_stream.specs.Streams.{IsFirstBad}
 use Rattle.upload_stream.proofs.Judged.{not_both}
 use Rattle.world_io.specs.Told.{GaveAll}
 use Rattle.object_store.specs.Stored.{Stored}
-use Rattle.upload_stream.specs.Entries.{upload_of}
 use Rattle.upload_stream.specs.Streams.{UploadList}
 use Rattle.world_run.specs.Runs.{Stood}
 use Rattle.world_run.proofs.Checked.{gave_whole}
@@ -14,24 +13,23 @@ pub returns-in-Err-clause-complete : goal.returns-in-Err-clause-complete
 returns-in-Err-clause-complete g c =
     λ bytes stream found list run left form told short spells disk_bytes entries kept stood world uploads out disk. inr (inl (c.in-Err.ensures.complete bytes stream found run left form told short world uploads))
 
-pub returns-in-Err-Bad-clause-complete : goal.returns-in-Err-Bad-clause-complete
-returns-in-Err-Bad-clause-complete g c =
+pub returns-in-Err-read-clause-complete : goal.returns-in-Err-read-clause-complete
+returns-in-Err-read-clause-complete g c =
     λ bytes stream found list run left form told short spells disk_bytes entries kept stood world uploads out disk.
     let gave : GaveAll (Some stream) (g.U.Source.left c.read_inputs.new.uploads) c.in-Ok.inputs.stream.items = subst (λ (o : Option (List ℕ)). GaveAll o (g.U.Source.left c.read_inputs.new.uploads) c.in-Ok.inputs.stream.items) told c.in-Ok.ensures.stream in
     let whole : c.deref.result.now ≡ stream = c.deref.ensures.value ∙ gave_whole _ stream c.in-Ok.inputs.stream.items gave in
-    let bad : IsFirstBad stream c.in-Err-Bad.place = subst (λ (b : List ℕ). IsFirstBad b c.in-Err-Bad.place) whole (c.in-Err-Bad.ensures.bad c.in-Err-Bad.place c.in-Err-Bad.field-0-is) in
-    absurd (not_both stream list c.in-Err-Bad.place spells bad)
+    let bad : IsFirstBad stream c.in-Err-read.bad.place = subst (λ (b : List ℕ). IsFirstBad b c.in-Err-read.bad.place) whole c.in-Err-read.ensures.bad in
+    absurd (not_both stream list c.in-Err-read.bad.place spells bad)
 
-pub returns-in-Ok-read_uploads-clause-exhausted : goal.returns-in-Ok-read_uploads-clause-exhausted
-returns-in-Ok-read_uploads-clause-exhausted g c = λ index is.
+pub returns-in-Ok-read-clause-exhausted : goal.returns-in-Ok-read-clause-exhausted
+returns-in-Ok-read-clause-exhausted g c = λ index is.
     let end = c.keep_journal.ensures.exhausted index is in
     let inputs = c.in-Ok.inputs in
-    let list : UploadList inputs.stream.items (map upload_of c.deref-in-Ok-read_uploads.result.now) =
-    subst (λ (b : List ℕ). UploadList b (map upload_of c.deref-in-Ok-read_uploads.result.now)) c.deref.ensures.value (rw (← c.deref-in-Ok-read_uploads.ensures.value) at c.in-Ok-read_uploads.ensures.list) in
-    (inputs.world, map upload_of c.deref-in-Ok-read_uploads.result.now, end.0, (inputs.ticks, end.1, c.in-Ok.ensures.run), c.in-Ok.ensures.found, c.in-Ok.ensures.starts.hosted.sound, (inputs.stream.items, c.in-Ok.ensures.stream, c.in-Ok.ensures.within, list), end.2, end.3)
+    let list : UploadList inputs.stream.items c.in-Ok-read.uploads = subst (λ (b : List ℕ). UploadList b c.in-Ok-read.uploads) c.deref.ensures.value c.in-Ok-read.ensures.list in
+    (inputs.world, c.in-Ok-read.uploads, end.0, (inputs.ticks, end.1, c.in-Ok.ensures.run), c.in-Ok.ensures.found, c.in-Ok.ensures.starts.hosted.sound, (inputs.stream.items, c.in-Ok.ensures.stream, c.in-Ok.ensures.within, list), end.2, end.3)
 
-pub returns-in-Ok-read_uploads-clause-complete : goal.returns-in-Ok-read_uploads-clause-complete
-returns-in-Ok-read_uploads-clause-complete g c =
+pub returns-in-Ok-read-clause-complete : goal.returns-in-Ok-read-clause-complete
+returns-in-Ok-read-clause-complete g c =
     λ bytes stream found list run left form told short spells disk_bytes entries kept stood world uploads out disk.
     let file = c.in-Ok.ensures.found in
     let gave = subst (λ (o : Option (List ℕ)). GaveAll o (g.W.Source.left c.read_inputs.new.world) file.0) left file.1 in

@@ -1,4 +1,4 @@
-use Rattle.std.proofs.Common.{◌≤◌, ◌^◌, List, map, length, sym, ap, subst, ◌∙◌}
+use Rattle.std.proofs.Common.{◌≤◌, ◌^◌, List, length, sym, ap, subst, ◌∙◌}
 use Rattle.std.specs.List.{AllByRecursion}
 use Rattle.game_tables.specs.Limits.{most_memory}
 use Rattle.intent_book.specs.declared.intent.Intent.{Intent}
@@ -6,7 +6,6 @@ use Rattle.intent_book.specs.declared.player_run.PlayerRun.{PlayerRun}
 use Rattle.kept_entries.specs.Split.{AreSplit}
 use Rattle.world_rules.specs.Tick.{book, gained, intents_of, next_world}
 use Rattle.world_rules.specs.World.{world_of}
-use Rattle.upload_stream.specs.Entries.{upload_of}
 use Rattle.ruled_tick.specs.Players.{AreByPlayers}
 use Rattle.hosted_tick.specs.Hosting.{Held, IsHosted, modules_of}
 use Rattle.hosted_tick.proofs.After.{hosted_after, next_of}
@@ -27,8 +26,8 @@ pub returns-clause-next : goal.returns-clause-next
 returns-clause-next c =
     let world = c.self.inside.world in
     let runs = c.in_ok-runs.field-0.runs.items in
-    next_of c.args.self world c.self.inside.modules.entries c.judge_all.new.modules.entries (map upload_of c.args.uploads.now) c.in_ok-records.records.items runs c.in_ok-after.after
-    c.self.view_is c.requires.hosted.sound c.in_ok-records.ensures.judged c.in_ok-runs.ensures.runs
+    next_of c.args.self world c.self.inside.modules.entries c.judge_all.new.modules.entries c.args.uploads c.in_ok-judged.judged runs c.in_ok-after.after
+    c.self.view_is c.requires.hosted.sound c.in_ok-judged.ensures.judged c.in_ok-runs.ensures.runs
     (c.in_ok-after.ensures.next ∙ ap (λ (r : List PlayerRun). next_world (world_of world) r) c.deref-2.ensures.value)
 
 pub returns-clause-hosted : goal.returns-clause-hosted

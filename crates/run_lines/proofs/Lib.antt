@@ -1,0 +1,3 @@
+pub mod LinesSums
+pub mod LinesTexts
+pub mod Giving

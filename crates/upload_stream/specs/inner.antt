@@ -1,0 +1,2 @@
+-- Definitions that a model, private functions and proofs cite alone.
+pub mod Reading
