@@ -10,14 +10,17 @@ looked for beside PROGRAM and in crates/machine_bench/out. The second has ticks 
 empty `loop` for each, beside the same without modules. The third has the modules that a player would write to hurt, and the time for an
 instruction that they pay for, beside that of a plain loop; what the tick takes besides is left out, for which it is measured with an empty
 `loop`, or where a record is full with a module that fills it and no more. The fourth has the calls that ask how much there is, the same way. The fifth has those that hardly pay for any, and the time for
-each player. The sixth has streams of uploads, by their entries and bytes, and the most memory that the program took (its least is what
+each player; where the module's instance begins with much, beside the time in which as many bytes of new memory are cleared by memset and copied by
+memcpy. The sixth has streams of uploads, by their entries and bytes, and the most memory that the program took (its least is what
 Python takes, which starts it).
 
 The times depend on the machine and on what else it does: compare figures of one run alone. With --quick each row is run once, in fewer
 ticks, which shows that it runs and little else.
 """
 
+import ctypes
 import json
+import mmap
 import os
 import struct
 import subprocess
@@ -367,8 +370,33 @@ CHEAP = {
     "imports in a mebibyte": many_imports(),
 }
 
+# What the instances of some of them begin with: the bytes of zeros, and those that are copied, eight for each global and entry of a table.
+BEGINS = {
+    "200,000 globals in a mebibyte": (0, 200_000 * 8),
+    "a table of 65,536 entries, filled": (0, 65_536 * 8),
+    "256 pages": (256 * 65_536, 0),
+    "256 pages and a mebibyte of data": (256 * 65_536, MIB - 100),
+    "a memory that grows from 0 to 256 pages": (256 * 65_536, 0),
+}
+
 
 # ---- times
+
+
+def copying(cleared, copied):
+    """The seconds in which so many bytes of new memory are cleared by memset, and so many are copied there by memcpy."""
+    source = ctypes.create_string_buffer(copied + 1)
+    best = float("inf")
+    for _ in range(20):
+        began = time.perf_counter()
+        with mmap.mmap(-1, max(cleared, copied)) as area:
+            room = ctypes.c_char.from_buffer(area)
+            at = ctypes.addressof(room)
+            ctypes.memset(at, 0, cleared)
+            ctypes.memmove(at, source, copied)
+            del room
+        best = min(best, time.perf_counter() - began)
+    return best
 
 
 def seconds(command, stdout=subprocess.PIPE):
@@ -526,7 +554,7 @@ def dropping(number, creeps):
 
 def cheap(bench):
     """Modules that hardly pay: the time for each of 64 players, without that of a tick without modules."""
-    print(f"{'64 players with':38}{'instructions':>13}{'tick ms':>10}{'ms each':>10}{'upload ms':>11}")
+    print(f"{'64 players with':40}{'instructions':>13}{'tick ms':>10}{'ms each':>10}{'upload ms':>11}{'a copy ms':>11}{'times':>7}")
     first = apart(64, 1, 1)
     none, _ = bench.tick(first, b"", 50)
     idle = bench.first_tick(first, b"")
@@ -540,7 +568,12 @@ def cheap(bench):
     for name, it, stream, base, start, count in rows:
         tick, used = bench.tick(it, stream, 20)
         upload = bench.first_tick(it, stream) - start
-        print(f"{name:38}{used / count:13,.0f}{tick * 1e3:10.2f}{(tick - base) * 1e3 / count:10.3f}{upload * 1e3 / count:11.3f}", flush=True)
+        each = (tick - base) / count
+        row = f"{name:40}{used / count:13,.0f}{tick * 1e3:10.2f}{each * 1e3:10.3f}{upload * 1e3 / count:11.3f}"
+        if name in BEGINS:
+            copy = copying(*BEGINS[name])
+            row += f"{copy * 1e3:11.3f}{each / copy:7.2f}"
+        print(row, flush=True)
 
 
 def uploads(bench):
