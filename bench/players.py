@@ -10,8 +10,8 @@ looked for beside PROGRAM and in crates/machine_bench/out. The second has ticks 
 empty `loop` for each, beside the same without modules. The third has the modules that a player would write to hurt, and the time for an
 instruction that they pay for, beside that of a plain loop; what the tick takes besides is left out, for which it is measured with an empty
 `loop`, or where a record is full with a module that fills it and no more. The fourth has the calls that ask how much there is, the same way. The fifth has those that hardly pay for any, and the time for
-each player; where the module's instance begins with much, beside the time in which as many bytes of new memory are cleared by memset and copied by
-memcpy. The sixth has streams of uploads, by their entries and bytes, and the most memory that the program took (its least is what
+each player; where the module's instance begins with much, beside the time in which as many bytes are cleared by memset and copied by memcpy, from the
+places of 64 modules in turn. The sixth has streams of uploads, by their entries and bytes, and the most memory that the program took (its least is what
 Python takes, which starts it).
 
 The times depend on the machine and on what else it does: compare figures of one run alone. With --quick each row is run once, in fewer
@@ -20,7 +20,6 @@ ticks, which shows that it runs and little else.
 
 import ctypes
 import json
-import mmap
 import os
 import struct
 import subprocess
@@ -384,18 +383,16 @@ BEGINS = {
 
 
 def copying(cleared, copied):
-    """The seconds in which so many bytes of new memory are cleared by memset, and so many are copied there by memcpy."""
-    source = ctypes.create_string_buffer(copied + 1)
+    """The seconds in which so many bytes are cleared by memset, and so many copied by memcpy, all in the same memory, from 64 places in turn."""
+    room = ctypes.create_string_buffer(max(cleared, copied))
+    places = [ctypes.create_string_buffer(b"\1" * copied, copied) for _ in range(64 if copied else 1)]
     best = float("inf")
     for _ in range(20):
         began = time.perf_counter()
-        with mmap.mmap(-1, max(cleared, copied)) as area:
-            room = ctypes.c_char.from_buffer(area)
-            at = ctypes.addressof(room)
-            ctypes.memset(at, 0, cleared)
-            ctypes.memmove(at, source, copied)
-            del room
-        best = min(best, time.perf_counter() - began)
+        for place in places:
+            ctypes.memset(room, 0, cleared)
+            ctypes.memmove(room, place, copied)
+        best = min(best, (time.perf_counter() - began) / len(places))
     return best
 
 
@@ -566,7 +563,8 @@ def cheap(bench):
         stream = b"".join(upload_entry(0, number, dropping(number, creeps)) for number in range(1, count + 1))
         rows.append((f"{creeps:,} drops, {count} players", it, stream, bench.tick(it, b"", 20)[0], bench.first_tick(it, b""), count))
     for name, it, stream, base, start, count in rows:
-        tick, used = bench.tick(it, stream, 20)
+        # (the first tick of some takes seconds, which is to be little beside the others)
+        tick, used = bench.tick(it, stream, 100 if name in BEGINS else 20)
         upload = bench.first_tick(it, stream) - start
         each = (tick - base) / count
         row = f"{name:40}{used / count:13,.0f}{tick * 1e3:10.2f}{each * 1e3:10.3f}{upload * 1e3 / count:11.3f}"
