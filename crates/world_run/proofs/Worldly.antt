@@ -1,7 +1,7 @@
 -- Runs of stored worlds are runs of the worlds that they store: the same journal, the same lines, the same ticks.
 use Rattle.std.proofs.Common.{◌≡◌, ℕ, suc, ◌≤◌, List, [], ◌∷◌, ◌++◌, length, map, take, Option, Some, None, option_map, inl, inr, refl, sym, ap, subst, ◌∙◌, append_assoc}
 use Rattle.std.specs.Prelude.{slice_get}
-use Rattle.std.specs.List.{All, AllByRecursion, flat_map}
+use Rattle.std.specs.List.{AllByRecursion, flat_map}
 use Rattle.std.specs.FinMap.{get, values}
 use Rattle.std.proofs.lemmas.List.{length-map, map-append}
 use Rattle.std.specs.Io.KnownBytes.{Appends}
@@ -13,7 +13,7 @@ use Rattle.object_store.specs.Tallies.{no_tallies}
 use Rattle.object_store.specs.Stored.{Stored}
 use Rattle.object_store.specs.Tables.{IsRising, Table}
 use Rattle.intent_book.specs.declared.player_run.PlayerRun.{PlayerRun}
-use Rattle.world_rules.specs.World.{World, Frame, Listing, ListedRoom, framed_from, listing_of, world_of}
+use Rattle.world_rules.specs.World.{World, Frame, Listing, framed_from, listing_of, world_of}
 use Rattle.world_rules.specs.World as worlds
 use Rattle.world_rules.specs.RoomParts.{RoomPart, objects_in}
 use Rattle.world_rules.specs.Sound.{IsSound, HaveSerials, serials_bound, bare_room, bare}

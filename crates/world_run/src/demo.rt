@@ -1,16 +1,12 @@
 // A run in memory on a world that is made of a number.
-ghost use Rattle.std.specs.Prelude.{◌≡◌, ◌≢◌, ◌⊎◌, ◌≤◌, ◌<◌, ℕ, List, [], ◌++◌, codes, decimal, length, map};
+ghost use Rattle.std.specs.Prelude.{◌≡◌, ◌≢◌, ◌⊎◌, ◌≤◌, ◌<◌, ℕ, List, ◌++◌, codes, decimal, length};
 ghost use Rattle.std.specs.Prelude.{IfOk, IfErr};
-ghost use Rattle.byte_fields.specs.Front.{SpellsShortest};
 ghost use Rattle.command_words.specs.Words.{AreRooms};
-ghost use Rattle.wasm_module.specs.sections.Sections.{Spells};
-ghost use Rattle.world_gen.specs.PlayerModule.{player_module};
-ghost use Rattle.world_gen.specs.Uploads.{uploads as uploads_of};
+ghost use Rattle.upload_stream.specs.Streams.{Upload, UploadList};
 ghost use Rattle.world_io.specs.Causes.{Rose};
 ghost use Rattle.world_rules.specs.World.{world_of};
 ghost use Rattle.world_run.specs.Demo.{EndsDemonstrating, IsDemonstrated, IsLastLine, IsNotDemonstrated};
 ghost use Rattle.world_run.specs.Demo.{made_world};
-ghost use Rattle.world_run.specs.Made.{IsPlayerText};
 ghost use Rattle.world_run.specs.inner.Held.{MayStart};
 
 use crate::inputs::load_world;
@@ -19,7 +15,7 @@ use crate::ticks::keep_journal;
 use made_worlds::generated_worlds_are_writable;
 use object_store::World;
 use std::alloc::{AllocError as NoMemory, Global};
-use upload_stream::Uploads;
+use upload_stream::{Uploads, stream_is_judged_once};
 use world_gen::{generate, generate_uploads};
 use world_io::{MemoryDisk, MemorySink, Sink, SteadySource, write_all};
 use world_text::write_world;
@@ -54,7 +50,7 @@ pub(crate) fn run_in_memory<O: Sink>(
 }
 
 // What is written. The disk and the sink of the run grow in memory, so that where one of them fails memory is
-// wanted; and the stream is a good one, so that memory is wanted where it can't be read.
+// wanted.
 fn demonstrate(alloc: Global, seed: u64, rooms: u32, ticks: u64) -> Result<Vec<u8>, Status>
     requires rooms { AreRooms rooms }
     requires ticks { ticks ≤ 1000000 }
@@ -67,9 +63,7 @@ fn demonstrate(alloc: Global, seed: u64, rooms: u32, ticks: u64) -> Result<Vec<u
     let Ok(stream) = generate_uploads(alloc, seed, rooms) else {
         return Err(Status::Memory);
     };
-    let Ok(uploads) = Uploads::read(&stream) else {
-        return Err(Status::Memory);
-    };
+    let uploads = uploads_of(&stream);
     let mut lines = MemorySink::new(alloc, Vec::new(alloc));
     let mut disk = MemoryDisk::new(Vec::new(alloc), Vec::new(alloc), None);
     match keep_journal(alloc, world, uploads, ticks, &mut lines, &mut disk) {
@@ -79,6 +73,18 @@ fn demonstrate(alloc: Global, seed: u64, rooms: u32, ticks: u64) -> Result<Vec<u
         },
         Status::IdsExhausted(index) => Err(Status::IdsExhausted(index)),
         _ => Err(Status::Memory),
+    }
+}
+
+// The uploads of a stream that has a list of them.
+fn uploads_of<'a>(stream: &'a [u8]) -> Uploads<'a>
+    requires { (uploads : List Upload) × UploadList stream.now uploads }
+    ensures { UploadList stream.entry.now result }
+{
+    stream_is_judged_once();
+    match Uploads::read(stream) {
+        Ok(uploads) => uploads,
+        Err(_) => unreachable!(),
     }
 }
 

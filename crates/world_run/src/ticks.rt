@@ -25,7 +25,7 @@ ghost use Rattle.world_journal.specs.Journals.{HasJournal, IsJournal, IsQuiet, I
 ghost use Rattle.record_follows.specs.Follows.{after};
 ghost use Rattle.run_lines.specs.Lines.{upload_line};
 ghost use Rattle.world_run.specs.Runs.{DifferAt, IsKept, Stood};
-ghost use Rattle.world_run.specs.inner.Held.{Step, step_lines, IsAt, IsExhausted, IsKeptAt, IsStep, Leaves};
+ghost use Rattle.world_run.specs.inner.Held.{Step, step_lines, IsExhausted, IsKeptAt, IsStep, Leaves};
 ghost use Rattle.world_run.specs.inner.Held.{LeavesPart, MayStart, Prints, last_of};
 ghost use Rattle.world_run.specs.inner.Stages.{Continues, IsOfRecord, IsOfTick, IsOfTicks, IsOfJournal};
 ghost use Rattle.world_run.specs.inner.Stages.{Grows, GrowsPart};

@@ -10,8 +10,8 @@ use Rattle.world_run.proofs.demo.demonstrate.Goals as goal
 pub returns-in-Ok-text_of-clause-text : goal.returns-in-Ok-text_of-clause-text
 returns-in-Ok-text_of-clause-text c =
     let found = c.in-Ok-generate_uploads.ensures.found in
-    let listed = subst (λ (b : List ℕ). UploadList b c.in-Ok-read.uploads) c.deref.ensures.value c.in-Ok-read.ensures.list in
-    let made = uploads_one c.in-Ok-generate_uploads.stream.items c.in-Ok-read.uploads (uploads found.0 c.args.rooms) listed found.2 in
+    let listed = subst (λ (b : List ℕ). UploadList b c.uploads_of-uploads.result) c.deref.ensures.value c.uploads_of-uploads.ensures in
+    let made = uploads_one c.in-Ok-generate_uploads.stream.items c.uploads_of-uploads.result (uploads found.0 c.args.rooms) listed found.2 in
     let run = c.keep_journal.ensures.done c.in-Done.is in
     let no_disk : c.new-disk.result.bytes.items ≡ [] = ap (λ v. v.items) c.new-disk.ensures.seen ∙ c.new-2.ensures.items in
     let told = c.in-Ok-text_of.ensures in
@@ -21,8 +21,8 @@ returns-in-Ok-text_of-clause-text c =
 pub returns-in-IdsExhausted-clause-none : goal.returns-in-IdsExhausted-clause-none
 returns-in-IdsExhausted-clause-none c =
     let found = c.in-Ok-generate_uploads.ensures.found in
-    let listed = subst (λ (b : List ℕ). UploadList b c.in-Ok-read.uploads) c.deref.ensures.value c.in-Ok-read.ensures.list in
-    let made = uploads_one c.in-Ok-generate_uploads.stream.items c.in-Ok-read.uploads (uploads found.0 c.args.rooms) listed found.2 in
+    let listed = subst (λ (b : List ℕ). UploadList b c.uploads_of-uploads.result) c.deref.ensures.value c.uploads_of-uploads.ensures in
+    let made = uploads_one c.in-Ok-generate_uploads.stream.items c.uploads_of-uploads.result (uploads found.0 c.args.rooms) listed found.2 in
     let run = c.keep_journal.ensures.exhausted c.in-IdsExhausted.index c.in-IdsExhausted.is in
     let no_disk : c.new-disk.result.bytes.items ≡ [] = ap (λ v. v.items) c.new-disk.ensures.seen ∙ c.new-2.ensures.items in
     exhausted c.args.seed c.args.rooms c.in-Ok.world c.in-Ok.ensures.same c.in-Ok.ensures.starts.hosted.sound found.0 found.1 _ made c.args.ticks c.in-IdsExhausted.index run.0 _ _ _ _ no_disk c.new-lines.ensures.written run.1 run.2 run.3
