@@ -4,20 +4,30 @@ use std::mem::size_of;
 use std::test::Fail;
 
 #[test]
-fn a_value_is_read_taken_and_put_back(rt: HostRuntime) -> Result<(), Fail> {
-    assert_eq!(rt; size_of::<OptionalBox<Vec<u8>>>(), 8);
+fn no_value_is_found_in_an_empty_one(rt: HostRuntime) -> Result<(), Fail> {
+    assert!(rt; size_of::<OptionalBox<Vec<u8>>>() == 8);
     let mut optional: OptionalBox<u64> = OptionalBox::none(rt.alloc());
     assert!(rt; optional.get().is_none());
     assert!(rt; optional.take().is_none());
-    optional = OptionalBox::of(Box::new(rt.alloc(), 7)?);
-    assert_eq!(rt; optional.get().copied(), Some(7));
-    let Some(value) = optional.take() else {
-        return Err(Fail::from("no value"));
-    };
+    Ok(())
+}
+
+#[test]
+fn a_value_is_read_and_taken_once(rt: HostRuntime) -> Result<(), Fail> {
+    let mut optional = OptionalBox::of(Box::new(rt.alloc(), 7)?);
+    assert!(rt; optional.get().copied() == Some(7));
+    assert!(rt; optional.take().is_some_and(|value| *value == 7));
     assert!(rt; optional.get().is_none());
     assert!(rt; optional.take().is_none());
-    optional = OptionalBox::of(Box::new(rt.alloc(), *value + 1)?);
-    assert_eq!(rt; optional.get().copied(), Some(8));
+    Ok(())
+}
+
+#[test]
+fn a_value_is_put_back(rt: HostRuntime) -> Result<(), Fail> {
+    let mut optional = OptionalBox::none(rt.alloc());
+    assert!(rt; optional.get().is_none());
+    optional = OptionalBox::of(Box::new(rt.alloc(), 8)?);
+    assert!(rt; optional.get().copied() == Some(8));
     assert!(rt; optional.into_box().is_some_and(|value| *value == 8));
     Ok(())
 }
@@ -67,10 +77,10 @@ fn leaves(alloc: Global, tree: &Tree) -> Result<Vec<u32>, NoMemory> {
 
 #[test]
 fn a_tree_stands_in_it(rt: HostRuntime) -> Result<(), Fail> {
-    assert_eq!(rt; size_of::<Tree>(), 16);
+    assert!(rt; size_of::<Tree>() == 16);
     let empty = tree_of(rt.alloc(), 0)?;
     assert!(rt; matches!(&empty, Tree::Node(Trees { list }) if list.get().is_none()));
     let deep = tree_of(rt.alloc(), 3)?;
-    assert_eq!(rt; leaves(rt.alloc(), &deep)?.as_slice(), [2, 1, 0].as_slice());
+    assert!(rt; leaves(rt.alloc(), &deep)?.as_slice() == [2, 1, 0].as_slice());
     Ok(())
 }

@@ -137,28 +137,25 @@ fn reads_fields(rt: HostRuntime) {
         0x11, 0x78, 0x56, 0x34, 0x12, 8, 7, 6, 5, 4, 3, 2, 1, 0xaa, 0xbb,
     ];
     let mut cursor = Cursor::over(&bytes);
-    assert_eq!(rt; cursor.u8(), Ok(0x11));
-    assert_eq!(rt; cursor.u32(), Ok(0x1234_5678));
-    assert_eq!(rt; cursor.u64(), Ok(0x0102_0304_0506_0708));
-    assert_eq!(rt; cursor.place(), 13);
-    assert_eq!(rt; cursor.left(), 2);
-    assert_eq!(rt; cursor.u32(), Err(Short));
-    assert_eq!(rt; cursor.u64(), Err(Short));
-    assert_eq!(rt; cursor.take(3), Err(Short));
-    assert_eq!(rt; cursor.place(), 13);
-    assert_eq!(rt; cursor.take(2), Ok(&[0xaa, 0xbb][..]));
-    assert_eq!(rt; cursor.u8(), Err(Short));
+    assert!(rt; cursor.u8() == Ok(0x11));
+    assert!(rt; cursor.u32() == Ok(0x1234_5678));
+    assert!(rt; cursor.u64() == Ok(0x0102_0304_0506_0708));
+    assert!(rt; cursor.place() == 13);
+    assert!(rt; cursor.left() == 2);
+    assert!(rt; cursor.u32() == Err(Short));
+    assert!(rt; cursor.u64() == Err(Short));
+    assert!(rt; cursor.take(3) == Err(Short));
+    assert!(rt; cursor.place() == 13);
+    assert!(rt; cursor.take(2) == Ok(&[0xaa, 0xbb][..]));
+    assert!(rt; cursor.u8() == Err(Short));
 }
 
 #[test]
 fn writes_fields(rt: HostRuntime) {
     let mut out = Vec::new(rt.alloc());
-    assert_eq!(rt; put_u32(&mut out, 0x1234_5678).is_ok(), true);
-    assert_eq!(rt; put_u64(&mut out, 0x0102_0304_0506_0708).is_ok(), true);
-    assert_eq!(rt;
-        out.as_slice(),
-        &[0x78, 0x56, 0x34, 0x12, 8, 7, 6, 5, 4, 3, 2, 1][..]
-    );
+    assert!(rt; put_u32(&mut out, 0x1234_5678).is_ok());
+    assert!(rt; put_u64(&mut out, 0x0102_0304_0506_0708).is_ok());
+    assert!(rt; out.as_slice() == &[0x78, 0x56, 0x34, 0x12, 8, 7, 6, 5, 4, 3, 2, 1][..]);
 }
 
 #[test]
@@ -173,8 +170,8 @@ fn writes_unsigned(rt: HostRuntime) {
     ];
     for (value, bytes) in rows {
         let mut out = Vec::new(rt.alloc());
-        assert_eq!(rt; put_leb_u32(&mut out, value).is_ok(), true);
-        assert_eq!(rt; out.as_slice(), bytes);
+        assert!(rt; put_leb_u32(&mut out, value).is_ok());
+        assert!(rt; out.as_slice() == bytes);
     }
 }
 
@@ -198,15 +195,15 @@ fn writes_signed(rt: HostRuntime) {
     ];
     for (value, bytes) in rows {
         let mut out = Vec::new(rt.alloc());
-        assert_eq!(rt; put_leb_s64(&mut out, value).is_ok(), true);
-        assert_eq!(rt; out.as_slice(), bytes);
+        assert!(rt; put_leb_s64(&mut out, value).is_ok());
+        assert!(rt; out.as_slice() == bytes);
     }
 }
 
 #[test]
 fn reads_back(rt: HostRuntime) {
     for value in [0, 127, 128, 16383, 16384, 4294967295] {
-        assert_eq!(rt; unsigned_back(rt.alloc(), value, &[0x80]), Ok(Ok(value)));
+        assert!(rt; unsigned_back(rt.alloc(), value, &[0x80]) == Ok(Ok(value)));
     }
     for value in [
         0,
@@ -218,15 +215,15 @@ fn reads_back(rt: HostRuntime) {
         9223372036854775807,
         -9223372036854775808,
     ] {
-        assert_eq!(rt; signed_back(rt.alloc(), value, &[0x00]), Ok(Ok(value)));
+        assert!(rt; signed_back(rt.alloc(), value, &[0x00]) == Ok(Ok(value)));
     }
 }
 
 #[test]
 fn reads_ahead_on_a_copy(rt: HostRuntime) {
     let mut cursor = Cursor::over(&[1, 2, 3]);
-    assert_eq!(rt; cursor.u8(), Ok(1));
+    assert!(rt; cursor.u8() == Ok(1));
     let mut ahead = cursor.copy();
-    assert_eq!(rt; (ahead.place(), ahead.u8()), (1, Ok(2)));
-    assert_eq!(rt; (cursor.place(), cursor.left(), cursor.u8()), (1, 2, Ok(2)));
+    assert!(rt; (ahead.place(), ahead.u8()) == (1, Ok(2)));
+    assert!(rt; (cursor.place(), cursor.left(), cursor.u8()) == (1, 2, Ok(2)));
 }

@@ -8,16 +8,16 @@ fn place(x: u8, y: u8) -> Place {
 
 #[test]
 fn range_is_the_greater_distance(rt: HostRuntime) {
-    assert_eq!(rt; range(place(3, 4), place(3, 4)), Some(0));
-    assert_eq!(rt; range(place(3, 4), place(5, 5)), Some(2));
-    assert_eq!(rt; range(place(5, 5), place(4, 9)), Some(4));
-    assert_eq!(rt; range(place(0, 49), place(49, 0)), Some(49));
+    assert!(rt; range(place(3, 4), place(3, 4)) == Some(0));
+    assert!(rt; range(place(3, 4), place(5, 5)) == Some(2));
+    assert!(rt; range(place(5, 5), place(4, 9)) == Some(4));
+    assert!(rt; range(place(0, 49), place(49, 0)) == Some(49));
     let elsewhere = Place {
         room: 8,
         x: 3,
         y: 4,
     };
-    assert_eq!(rt; range(place(3, 4), elsewhere), None);
+    assert!(rt; range(place(3, 4), elsewhere) == None);
 }
 
 #[test]
@@ -34,25 +34,25 @@ fn steps_go_clockwise_from_the_top(rt: HostRuntime) {
     ];
     for (number, x, y) in steps {
         let next = Direction::of_number(number).and_then(|to| step(place(10, 10), to));
-        assert_eq!(rt; next, Some(place(x, y)));
+        assert!(rt; next == Some(place(x, y)));
     }
-    assert_eq!(rt; step(place(49, 20), Direction::Right), None);
-    assert_eq!(rt; step(place(20, 0), Direction::TopLeft), None);
-    assert_eq!(rt; step(place(0, 49), Direction::TopRight), Some(place(1, 48)));
+    assert!(rt; step(place(49, 20), Direction::Right) == None);
+    assert!(rt; step(place(20, 0), Direction::TopLeft) == None);
+    assert!(rt; step(place(0, 49), Direction::TopRight) == Some(place(1, 48)));
 }
 
 #[test]
 fn borders_lie_across(rt: HostRuntime) {
     let name = |column, row| RoomName { column, row };
-    assert_eq!(rt; mirror(name(0, 0), 0, 20), Some((name(-1, 0), 49, 20)));
-    assert_eq!(rt; mirror(name(0, 0), 49, 1), Some((name(1, 0), 0, 1)));
-    assert_eq!(rt; mirror(name(0, 0), 20, 0), Some((name(0, -1), 20, 49)));
-    assert_eq!(rt; mirror(name(0, 0), 48, 49), Some((name(0, 1), 48, 0)));
-    assert_eq!(rt; mirror(name(0, 0), 20, 20), None);
-    assert_eq!(rt; mirror(name(0, 0), 0, 0), None);
-    assert_eq!(rt; mirror(name(0, 0), 49, 0), None);
-    assert_eq!(rt; mirror(name(-128, 0), 0, 20), None);
-    assert_eq!(rt; mirror(name(0, 127), 20, 49), None);
+    assert!(rt; mirror(name(0, 0), 0, 20) == Some((name(-1, 0), 49, 20)));
+    assert!(rt; mirror(name(0, 0), 49, 1) == Some((name(1, 0), 0, 1)));
+    assert!(rt; mirror(name(0, 0), 20, 0) == Some((name(0, -1), 20, 49)));
+    assert!(rt; mirror(name(0, 0), 48, 49) == Some((name(0, 1), 48, 0)));
+    assert!(rt; mirror(name(0, 0), 20, 20) == None);
+    assert!(rt; mirror(name(0, 0), 0, 0) == None);
+    assert!(rt; mirror(name(0, 0), 49, 0) == None);
+    assert!(rt; mirror(name(-128, 0), 0, 20) == None);
+    assert!(rt; mirror(name(0, 127), 20, 49) == None);
 }
 
 #[test]
@@ -71,8 +71,8 @@ fn names_are_read(rt: HostRuntime) -> Result<(), Fail> {
     ];
     for (text, column, row) in rooms {
         let name = RoomName::read(text)?;
-        assert_eq!(rt; name, RoomName { column, row });
-        assert_eq!(rt; format!(in rt.alloc(); "{name}")?.as_str(), text);
+        assert!(rt; name == RoomName { column, row });
+        assert!(rt; format!(in rt.alloc(); "{name}")?.as_str() == text);
     }
     Ok(())
 }
@@ -93,11 +93,11 @@ fn grounds_stand_row_by_row(rt: HostRuntime) -> Result<(), Fail> {
     let mut grounds = [Ground::Plain; 2500];
     grounds[3 * 50 + 7] = Ground::Swamp;
     let terrain = Terrain::of(rt.alloc(), &grounds)?.copy(rt.alloc())?;
-    assert_eq!(rt; terrain.at(7, 3), Ground::Swamp);
-    assert_eq!(rt; terrain.at(3, 7), Ground::Plain);
-    assert_eq!(rt; terrain.grounds().len(), 2500);
-    assert_eq!(rt; Ground::of_number(2), Some(Ground::Swamp));
-    assert_eq!(rt; Ground::of_number(3), None);
-    assert_eq!(rt; Ground::Wall.number(), 1);
+    assert!(rt; terrain.at(7, 3) == Ground::Swamp);
+    assert!(rt; terrain.at(3, 7) == Ground::Plain);
+    assert!(rt; terrain.grounds().len() == 2500);
+    assert!(rt; Ground::of_number(2) == Some(Ground::Swamp));
+    assert!(rt; Ground::of_number(3) == None);
+    assert!(rt; Ground::Wall.number() == 1);
     Ok(())
 }

@@ -1,11 +1,11 @@
 // The base contents of journals: written and read back, and those that are refused.
-use crate::worlds::{ALL_KINDS, file_of};
+use crate::worlds::all_kinds;
+use object_store::World;
 use room_terrain::{Ground, RoomName};
 use std::alloc::{AllocError, Global};
 use std::test::Fail;
 use tick_journal::{read_base_form, write_base};
 use world_bytes::BytesFault;
-use world_text::read_world;
 
 // The bytes before the tiles of a world of one room, W0S2, at tick 7, and those behind them: no object,
 // and no account.
@@ -59,20 +59,44 @@ fn is_malformed(alloc: Global, content: &[u8]) -> bool {
     }
 }
 
+// The world that a content spells.
+fn world_in(alloc: Global, content: &[u8]) -> Result<World, Fail> {
+    Ok(read_base_form(alloc, content)?)
+}
+
+// The content of a world.
+fn content_of(alloc: Global, world: &World) -> Result<Vec<u8>, Fail> {
+    Ok(write_base(alloc, world)?)
+}
+
+// Whether the world of a content is written as that content again.
+fn is_written_again(alloc: Global, content: &[u8]) -> Result<bool, Fail> {
+    Ok(content_of(alloc, &world_in(alloc, content)?)?.as_slice() == content)
+}
+
 #[test]
 fn a_world_comes_back(rt: HostRuntime) -> Result<(), Fail> {
     let alloc = rt.alloc();
-    let text = file_of(alloc, ALL_KINDS)?;
-    let Ok(file) = read_world(alloc, text.as_bytes()) else {
-        return Err("refused".into());
-    };
-    let written = write_base(alloc, &file.world)?;
-    let world = read_base_form(alloc, &written)?;
-    assert_eq!(rt; (world.tick(), world.rooms(), world.accounts()), (3, 2, 2));
+    let written = content_of(alloc, &all_kinds(alloc)?.world)?;
+    let world = world_in(alloc, &written)?;
+    assert!(rt; (world.tick(), world.rooms(), world.accounts()) == (3, 2, 2));
     let table = &world.room_list().get(1).ok_or("no room")?.table;
     let creep = table.get(4_294_967_299).ok_or("no creep")?;
-    assert_eq!(rt; (table.len(), creep.hits, creep.body.len()), (10, 200, 2));
-    assert!(rt; write_base(alloc, &world)?.as_slice() == written.as_slice());
+    assert!(rt; (table.len(), creep.hits, creep.body.len()) == (10, 200, 2));
+    assert!(rt; is_written_again(alloc, &written)?);
+    Ok(())
+}
+
+#[test]
+fn a_small_world_comes_back(rt: HostRuntime) -> Result<(), Fail> {
+    let alloc = rt.alloc();
+    let content = small(alloc, None)?;
+    let world = world_in(alloc, &content)?;
+    assert!(rt; (world.tick(), world.rooms(), world.accounts()) == (7, 1, 0));
+    let room = world.room_list().first().ok_or("no room")?;
+    assert!(rt; room.name == RoomName { column: -1, row: 2 });
+    assert!(rt; (room.terrain.at(49, 49), room.table.len()) == (Ground::Plain, 0));
+    assert!(rt; is_written_again(alloc, &content)?);
     Ok(())
 }
 
@@ -80,20 +104,6 @@ fn a_world_comes_back(rt: HostRuntime) -> Result<(), Fail> {
 fn a_content_is_read_to_its_end(rt: HostRuntime) -> Result<(), Fail> {
     let alloc = rt.alloc();
     let mut content = small(alloc, None)?;
-    let world = read_base_form(alloc, &content)?;
-    let room = world.room_list().first().ok_or("no room")?;
-    assert_eq!(rt; room.name, RoomName { column: -1, row: 2 });
-    assert_eq!(rt; room.terrain.at(49, 49), Ground::Plain);
-    assert_eq!(rt;
-        (
-            world.tick(),
-            world.rooms(),
-            room.table.len(),
-            world.accounts()
-        ),
-        (7, 1, 0, 0)
-    );
-    assert!(rt; write_base(alloc, &world)?.as_slice() == content.as_slice());
     content.push(0)?;
     assert!(rt; is_malformed(alloc, &content));
     for damage in DAMAGES {
@@ -105,19 +115,24 @@ fn a_content_is_read_to_its_end(rt: HostRuntime) -> Result<(), Fail> {
     Ok(())
 }
 
+// The content of the small world with one account, of the player of this number.
+fn with_account(alloc: Global, player: u8) -> Result<Vec<u8>, AllocError> {
+    let mut content = small(alloc, None)?;
+    content.truncate(2540);
+    let mut account = ACCOUNT;
+    account[4] = player;
+    content.extend_from_slice(&account)?;
+    Ok(content)
+}
+
 #[test]
 fn players_begin_with_one(rt: HostRuntime) -> Result<(), Fail> {
     let alloc = rt.alloc();
-    let mut content = small(alloc, None)?;
-    content.truncate(2540);
-    content.extend_from_slice(&ACCOUNT)?;
-    let world = read_base_form(alloc, &content)?;
+    let content = with_account(alloc, 1)?;
+    let world = world_in(alloc, &content)?;
     let account = world.account(1).ok_or("nobody")?;
-    assert_eq!(rt; (account.limit, account.bucket, account.points), (20, 5, 6));
-    assert!(rt; write_base(alloc, &world)?.as_slice() == content.as_slice());
-    if content.len() > 2544 {
-        content[2544] = 0;
-    }
-    assert!(rt; is_malformed(alloc, &content));
+    assert!(rt; (account.limit, account.bucket, account.points) == (20, 5, 6));
+    assert!(rt; is_written_again(alloc, &content)?);
+    assert!(rt; is_malformed(alloc, &with_account(alloc, 0)?));
     Ok(())
 }

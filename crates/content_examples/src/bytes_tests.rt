@@ -1,41 +1,74 @@
 // What is written in bytes and read back.
-use crate::worlds::{ALL_KINDS, file_of};
+use crate::worlds::all_kinds;
 use byte_fields::Cursor;
 use game_tables::{Action, Body, Part};
 use intent_book::Intent;
+use object_store::World;
+use std::alloc::Global;
 use std::test::Fail;
 use world_bytes::{read_account, read_intent, read_room, write_account, write_intent, write_room};
-use world_text::read_world;
+
+// The rooms of a world and its accounts.
+fn bytes_of(alloc: Global, world: &World) -> Result<Vec<u8>, Fail> {
+    let mut written = Vec::new(alloc);
+    for room in world.room_list() {
+        write_room(room.table.index(), &room.table, &mut written)?;
+    }
+    for account in world.account_list() {
+        write_account(account, &mut written)?;
+    }
+    Ok(written)
+}
+
+// Reads a room and writes it again. Gives its index twice, and the number of its objects.
+fn room_back(
+    alloc: Global,
+    from: &mut Cursor,
+    again: &mut Vec<u8>,
+) -> Result<(u32, u32, u32), Fail> {
+    let (index, table) = read_room(alloc, from)?;
+    write_room(table.index(), &table, again)?;
+    Ok((index, table.index(), table.len()))
+}
+
+// Reads an account and writes it again. Gives its player.
+fn account_back(alloc: Global, from: &mut Cursor, again: &mut Vec<u8>) -> Result<u32, Fail> {
+    let account = read_account(alloc, from)?;
+    write_account(&account, again)?;
+    Ok(account.player)
+}
 
 #[test]
 fn rooms_and_accounts_come_back(rt: HostRuntime) -> Result<(), Fail> {
     let alloc = rt.alloc();
-    let text = file_of(alloc, ALL_KINDS)?;
-    let Ok(file) = read_world(alloc, text.as_bytes()) else {
-        return Err("refused".into());
-    };
-    let mut written = Vec::new(alloc);
-    for room in file.world.room_list() {
-        write_room(room.table.index(), &room.table, &mut written)?;
-    }
-    for account in file.world.account_list() {
-        write_account(account, &mut written)?;
-    }
+    let written = bytes_of(alloc, &all_kinds(alloc)?.world)?;
     let mut from = Cursor::over(&written);
     let mut again = Vec::new(alloc);
-    for len in [0, 10] {
-        let (index, table) = read_room(alloc, &mut from)?;
-        assert_eq!(rt; (index, table.len()), (table.index(), len));
-        write_room(table.index(), &table, &mut again)?;
+    for (index, len) in [(0, 0), (1, 10)] {
+        assert!(rt; room_back(alloc, &mut from, &mut again)? == (index, index, len));
     }
     for player in [7, 9] {
-        let account = read_account(alloc, &mut from)?;
-        assert_eq!(rt; account.player, player);
-        write_account(&account, &mut again)?;
+        assert!(rt; account_back(alloc, &mut from, &mut again)? == player);
     }
-    assert_eq!(rt; from.left(), 0);
+    assert!(rt; from.left() == 0);
     assert!(rt; again.as_slice() == written.as_slice());
     Ok(())
+}
+
+// Writes an intent and reads it back. Gives the number of its action, its actor, its amount, the length of
+// its body, and the bytes that are left.
+fn intent_back(alloc: Global, intent: &Intent) -> Result<(u8, u64, u64, u64, usize), Fail> {
+    let mut bytes = Vec::new(alloc);
+    write_intent(intent, &mut bytes)?;
+    let mut from = Cursor::over(&bytes);
+    let back = read_intent(intent.player, &mut from)?;
+    Ok((
+        back.action.number(),
+        back.actor,
+        back.amount,
+        back.body.len(),
+        from.left(),
+    ))
 }
 
 #[test]
@@ -44,7 +77,7 @@ fn intents_of_all_actions_come_back(rt: HostRuntime) -> Result<(), Fail> {
         let action = Action::of_number(number).ok_or("a number of no action")?;
         let mut body = Body::new();
         for _ in 0..50 {
-            let written = Intent {
+            let intent = Intent {
                 player: 9,
                 action,
                 actor: 0x0807_0605_0403_0201,
@@ -52,19 +85,8 @@ fn intents_of_all_actions_come_back(rt: HostRuntime) -> Result<(), Fail> {
                 amount: u64::MAX,
                 body,
             };
-            let mut bytes = Vec::new(rt.alloc());
-            write_intent(&written, &mut bytes)?;
-            let mut from = Cursor::over(&bytes);
-            let back = read_intent(9, &mut from)?;
-            assert_eq!(rt;
-                (
-                    back.action.number(),
-                    back.actor,
-                    back.amount,
-                    back.body.len(),
-                    from.left()
-                ),
-                (number, written.actor, u64::MAX, body.len(), 0)
+            assert!(rt;
+                intent_back(rt.alloc(), &intent)? == (number, intent.actor, u64::MAX, body.len(), 0)
             );
             if body.len() < 50 {
                 body.push(Part::Claim);

@@ -104,43 +104,54 @@ fn is_malformed(alloc: Global, content: &[u8]) -> bool {
     }
 }
 
+// The record that a content spells.
+fn record_in(alloc: Global, content: &[u8]) -> Result<TickRecord, Fail> {
+    Ok(read_tick(alloc, content)?)
+}
+
+// Whether the record of a content is written as that content again.
+fn is_written_again(alloc: Global, content: &[u8]) -> Result<bool, Fail> {
+    let entry = record_in(alloc, content)?;
+    Ok(write_tick(alloc, &entry)?.as_slice() == content)
+}
+
 #[test]
-fn a_record_comes_back(rt: HostRuntime) -> Result<(), Fail> {
-    let alloc = rt.alloc();
-    let content = whole(alloc, None)?;
-    let entry = read_tick(alloc, &content)?;
-    let upload = entry.uploads.as_slice().first().ok_or("no upload")?;
-    assert_eq!(rt; (entry.tick, entry.uploads.as_slice().len()), (7, 2));
-    assert_eq!(rt;
-        (upload.player, upload.result_number, upload.bytes.len()),
-        (9, 0, 2)
-    );
+fn uploads_come_back(rt: HostRuntime) -> Result<(), Fail> {
+    let entry = record_in(rt.alloc(), &whole(rt.alloc(), None)?)?;
+    let uploads = entry.uploads.as_slice();
+    let upload = uploads.first().ok_or("no upload")?;
+    assert!(rt; (entry.tick, uploads.len()) == (7, 2));
+    assert!(rt; (upload.player, upload.result_number, upload.bytes.len()) == (9, 0, 2));
+    Ok(())
+}
+
+#[test]
+fn runs_come_back(rt: HostRuntime) -> Result<(), Fail> {
+    let entry = record_in(rt.alloc(), &whole(rt.alloc(), None)?)?;
     let runs = entry.runs.as_slice();
     let run = runs.first().ok_or("no run")?;
     let intent = run.intents.as_slice().last().ok_or("no intent")?;
-    assert_eq!(rt;
-        (run.player, run.outcome, run.used),
-        (1, RunOutcome::Finished, 5_000)
-    );
-    assert_eq!(rt;
+    assert!(rt; (run.player, run.outcome, run.used) == (1, RunOutcome::Finished, 5_000));
+    assert!(rt;
         (
             intent.player,
             intent.actor,
             intent.amount,
             intent.body.len()
-        ),
-        (1, 3, 1, 2)
+        ) == (1, 3, 1, 2)
     );
-    assert_eq!(rt;
-        runs.get(1).ok_or("one run")?.outcome,
-        RunOutcome::Trapped(9)
-    );
-    assert_eq!(rt; runs.get(2).ok_or("two runs")?.outcome, RunOutcome::Spent);
+    assert!(rt; runs.get(1).map(|run| run.outcome) == Some(RunOutcome::Trapped(9)));
+    assert!(rt; runs.get(2).map(|run| run.outcome) == Some(RunOutcome::Spent));
+    Ok(())
+}
+
+#[test]
+fn accounts_and_rooms_come_back(rt: HostRuntime) -> Result<(), Fail> {
+    let entry = record_in(rt.alloc(), &whole(rt.alloc(), None)?)?;
     let account = entry.accounts.as_slice().first().ok_or("no account")?;
-    assert_eq!(rt; (account.player, account.memory.len()), (1, 1));
+    assert!(rt; (account.player, account.memory.len()) == (1, 1));
     let table = entry.rooms.as_slice().last().ok_or("no room")?;
-    assert_eq!(rt; (table.index(), table.next(), table.len()), (3, 2, 1));
-    assert!(rt; write_tick(alloc, &entry)?.as_slice() == content.as_slice());
+    assert!(rt; (table.index(), table.next(), table.len()) == (3, 2, 1));
     Ok(())
 }
 
@@ -164,32 +175,37 @@ fn a_content_is_read_to_its_end(rt: HostRuntime) -> Result<(), Fail> {
     Ok(())
 }
 
-#[test]
-fn lists_are_empty_and_full(rt: HostRuntime) -> Result<(), Fail> {
-    let alloc = rt.alloc();
-    let nothing = TickRecord {
+// The bytes of a record of tick 5 in which nothing is.
+fn nothing(alloc: Global) -> Result<Vec<u8>, Fail> {
+    let entry = TickRecord {
         tick: 5,
         uploads: Entries::from_vec(Vec::new(alloc)),
         runs: Entries::from_vec(Vec::new(alloc)),
         accounts: Entries::from_vec(Vec::new(alloc)),
         rooms: Entries::from_vec(Vec::new(alloc)),
     };
-    let content = write_tick(alloc, &nothing)?;
+    Ok(write_tick(alloc, &entry)?)
+}
+
+#[test]
+fn lists_are_empty(rt: HostRuntime) -> Result<(), Fail> {
+    let alloc = rt.alloc();
+    let content = nothing(alloc)?;
     let mut empty = [0u8; 25];
     empty[0] = b'T';
     empty[1] = 5;
     assert!(rt; content.as_slice() == empty.as_slice());
-    let entry = read_tick(alloc, &content)?;
-    assert_eq!(rt;
-        (
-            entry.tick,
-            entry.runs.as_slice().len(),
-            entry.rooms.into_vec().len()
-        ),
-        (5, 0, 0)
-    );
-    let content = filled(alloc, 1_048_576, 4_096)?;
-    assert!(rt; write_tick(alloc, &read_tick(alloc, &content)?)?.as_slice() == content.as_slice());
+    let entry = record_in(alloc, &content)?;
+    assert!(rt; (entry.tick, entry.runs.as_slice().len()) == (5, 0));
+    assert!(rt; entry.rooms.into_vec().len() == 0);
+    Ok(())
+}
+
+#[test]
+fn lists_are_full(rt: HostRuntime) -> Result<(), Fail> {
+    let alloc = rt.alloc();
+    assert!(rt; is_written_again(alloc, &whole(alloc, None)?)?);
+    assert!(rt; is_written_again(alloc, &filled(alloc, 1_048_576, 4_096)?)?);
     assert!(rt; is_malformed(alloc, &filled(alloc, 1_048_577, 0)?));
     assert!(rt; is_malformed(alloc, &filled(alloc, 0, 4_097)?));
     Ok(())

@@ -1,13 +1,12 @@
 // Whether worlds keep the rules, as they are stored.
 ghost use Rattle.std.specs.Prelude.{◌≡◌, [], IfOk};
 
-use crate::worlds::{ALL_KINDS, file_of};
+use crate::worlds::all_kinds;
 use game_tables::Body;
 use object_store::{Kind, Object, RoomTable, World};
 use rule_check::keeps_rules;
 use std::alloc::{AllocError, Global};
 use std::test::Fail;
-use world_text::read_world;
 
 // A pile of 1 on a tile, or on none.
 fn pile(x: u8) -> Object {
@@ -37,23 +36,30 @@ fn with_pile(alloc: Global, file: &World, x: u8) -> Result<World, Fail> {
     Ok(world)
 }
 
-#[test]
-fn stored_worlds_keep_the_rules_or_not(rt: HostRuntime) -> Result<(), Fail> {
-    let alloc = rt.alloc();
-    let text = file_of(alloc, ALL_KINDS)?;
-    let Ok(file) = read_world(alloc, text.as_bytes()) else {
-        return Err("refused".into());
-    };
-    assert!(rt; keeps_rules(alloc, &file.world)?);
-    assert!(rt; keeps_rules(alloc, &World::empty(alloc, 0))?);
-    assert!(rt; keeps_rules(alloc, &with_pile(alloc, &file.world, 49)?)?);
-    assert!(rt; !keeps_rules(alloc, &with_pile(alloc, &file.world, 50)?)?);
-    let mut twice = with_pile(alloc, &file.world, 20)?;
-    let room = file.world.room_list().first().ok_or("no room")?;
+// That world with a second room of the same name, without objects.
+fn with_a_room_twice(alloc: Global, file: &World) -> Result<World, Fail> {
+    let mut twice = with_pile(alloc, file, 20)?;
+    let room = file.room_list().first().ok_or("no room")?;
     let table = RoomTable::of(alloc, 1, 1, Vec::new(alloc))?;
     if twice.rooms() == 1 {
         twice.push_room(room.name, room.terrain.copy(alloc)?, table)?;
     }
-    assert!(rt; !keeps_rules(alloc, &twice)?);
+    Ok(twice)
+}
+
+// Whether a world keeps the rules.
+fn is_kept(alloc: Global, world: &World) -> Result<bool, Fail> {
+    Ok(keeps_rules(alloc, world)?)
+}
+
+#[test]
+fn stored_worlds_keep_the_rules_or_not(rt: HostRuntime) -> Result<(), Fail> {
+    let alloc = rt.alloc();
+    let world = all_kinds(alloc)?.world;
+    assert!(rt; is_kept(alloc, &world)?);
+    assert!(rt; is_kept(alloc, &World::empty(alloc, 0))?);
+    assert!(rt; is_kept(alloc, &with_pile(alloc, &world, 49)?)?);
+    assert!(rt; !is_kept(alloc, &with_pile(alloc, &world, 50)?)?);
+    assert!(rt; !is_kept(alloc, &with_a_room_twice(alloc, &world)?)?);
     Ok(())
 }

@@ -1,14 +1,22 @@
-// The texts of worlds.
+// The texts of worlds, and the worlds that they say.
 use std::alloc::{AllocError, Global};
+use std::test::Fail;
+use world_text::{WorldFile, read_world};
+
+// So many zeros.
+fn zeros(alloc: Global, count: usize) -> Result<String, AllocError> {
+    let mut text = String::new(alloc);
+    for _ in 0..count {
+        text.push('0')?;
+    }
+    Ok(text)
+}
 
 /// Plain ground with walls at the corners.
 pub fn grounds(alloc: Global) -> Result<String, AllocError> {
-    let mut terrain = String::new(alloc);
-    for at in 0..2500_usize {
-        let corner = at == 0 || at == 49 || at == 2450 || at == 2499;
-        terrain.push(if corner { '1' } else { '0' })?;
-    }
-    Ok(terrain)
+    let edge = zeros(alloc, 48)?;
+    let middle = zeros(alloc, 2_400)?;
+    format!(in alloc; "1{edge}1{middle}1{edge}1")
 }
 
 /// The text of a room of that ground with this name, next serial and objects.
@@ -36,4 +44,17 @@ pub fn file_of(alloc: Global, objects: &str) -> Result<String, AllocError> {
     format!(in alloc;
         "{{\"version\":1,\"tick\":3,\"rooms\":[{first},{second}],\"players\":[{players}]}}"
     )
+}
+
+/// What a file of these bytes says.
+pub fn read_file(alloc: Global, bytes: &[u8]) -> Result<WorldFile, Fail> {
+    match read_world(alloc, bytes) {
+        Ok(file) => Ok(file),
+        Err(_) => Err("refused".into()),
+    }
+}
+
+/// What the file of all kinds says.
+pub fn all_kinds(alloc: Global) -> Result<WorldFile, Fail> {
+    read_file(alloc, file_of(alloc, ALL_KINDS)?.as_bytes())
 }

@@ -2,7 +2,7 @@
 use crate::worlds::{IDLE, PARTS, account, pile, world_of};
 use changed_rules::Census;
 use intent_book::{Intents, RunOutcome};
-use object_store::{Bytes, RoomTable, World};
+use object_store::{Account, Bytes, RoomTable, World};
 use record_follows::{advance, after, follows};
 use std::alloc::{AllocError, Global};
 use std::test::Fail;
@@ -39,32 +39,51 @@ const RIGHT: Changed = Changed {
     bytes: 34,
 };
 
-// The record with these changes. Of the room there are two tables, of which the first counts, and of the
-// player two accounts.
-fn record(alloc: Global, changed: Changed) -> Result<TickRecord, AllocError> {
-    let pile = pile(changed.id, changed.x, changed.energy, changed.owner);
-    let first = RoomTable::of(alloc, changed.index, 3, vec![in alloc; pile]?)?;
-    let second = RoomTable::of(alloc, changed.index, 3, Vec::new(alloc))?;
+// The upload of the record.
+fn uploads(alloc: Global, changed: Changed) -> Result<Vec<UploadEntry>, AllocError> {
     let bytes = IDLE.get(..changed.bytes).unwrap_or(&[]);
     let upload = UploadEntry {
         player: changed.sender,
         result_number: changed.result_number,
         bytes: Bytes::of(alloc, bytes)?,
     };
+    Ok(vec![in alloc; upload]?)
+}
+
+// The run of the record.
+fn runs(alloc: Global, changed: Changed) -> Result<Vec<RunEntry>, AllocError> {
     let run = RunEntry {
         player: changed.runner,
         outcome: RunOutcome::Finished,
         used: 3,
         intents: Intents::new(alloc),
     };
+    Ok(vec![in alloc; run]?)
+}
+
+// The accounts of the record: two of one player, of which the first counts.
+fn accounts(alloc: Global, changed: Changed) -> Result<Vec<Account>, AllocError> {
     let one = account(alloc, changed.account, 6, b"")?;
     let other = account(alloc, changed.account, 8, b"")?;
+    Ok(vec![in alloc; one, other]?)
+}
+
+// The tables of the record: two of one room, of which the first counts.
+fn tables(alloc: Global, changed: Changed) -> Result<Vec<RoomTable>, AllocError> {
+    let pile = pile(changed.id, changed.x, changed.energy, changed.owner);
+    let first = RoomTable::of(alloc, changed.index, 3, vec![in alloc; pile]?)?;
+    let second = RoomTable::of(alloc, changed.index, 3, Vec::new(alloc))?;
+    Ok(vec![in alloc; first, second]?)
+}
+
+// The record with these changes.
+fn record(alloc: Global, changed: Changed) -> Result<TickRecord, AllocError> {
     Ok(TickRecord {
         tick: changed.tick,
-        uploads: Entries::from_vec(vec![in alloc; upload]?),
-        runs: Entries::from_vec(vec![in alloc; run]?),
-        accounts: Entries::from_vec(vec![in alloc; one, other]?),
-        rooms: Entries::from_vec(vec![in alloc; first, second]?),
+        uploads: Entries::from_vec(uploads(alloc, changed)?),
+        runs: Entries::from_vec(runs(alloc, changed)?),
+        accounts: Entries::from_vec(accounts(alloc, changed)?),
+        rooms: Entries::from_vec(tables(alloc, changed)?),
     })
 }
 
@@ -158,13 +177,13 @@ fn a_record_that_follows_leads_to_the_world_after_it(rt: HostRuntime) -> Result<
         return Err("no census".into());
     };
     let entry = record(alloc, RIGHT)?;
-    assert_eq!(rt; seen(&world), (41, Some(5), Some(5), Some(5), Some(5)));
+    assert!(rt; seen(&world) == (41, Some(5), Some(5), Some(5), Some(5)));
     if follows(alloc, &world, &entry)? {
         let next = after(alloc, &world, &entry)?;
-        assert_eq!(rt; seen(&next), (42, Some(5), Some(1), Some(6), Some(5)));
+        assert!(rt; seen(&next) == (42, Some(5), Some(1), Some(6), Some(5)));
     }
     assert!(rt; advance(alloc, &mut census, &mut world, &entry)?);
-    assert_eq!(rt; seen(&world), (42, Some(5), Some(1), Some(6), Some(5)));
+    assert!(rt; seen(&world) == (42, Some(5), Some(1), Some(6), Some(5)));
     assert!(rt; !advance(alloc, &mut census, &mut world, &entry)?);
     Ok(())
 }

@@ -69,17 +69,14 @@ fn modules_of_a_journal_run_again(rt: HostRuntime) -> Result<(), Fail> {
     let bytes = journal_of(alloc, &[4, 5])?;
     let entry = next_record(alloc, &bytes)?;
     let runs = entry.runs.as_slice();
-    assert_eq!(rt; (entry.tick, runs.len()), (6, 2));
+    assert!(rt; (entry.tick, runs.len()) == (6, 2));
     // (the latest module of player 7)
     for (place, player, outcome) in [(0, 7, RunOutcome::Trapped(1)), (1, 9, RunOutcome::Finished)] {
         let run = runs.get(place).ok_or("no run")?;
-        assert_eq!(rt; (run.player, run.outcome), (player, outcome));
+        assert!(rt; (run.player, run.outcome) == (player, outcome));
     }
     let longer = added(alloc, &bytes, &entry)?;
-    assert_eq!(rt;
-        span(alloc, &mut disk_of(alloc, &longer, None)?),
-        Ok((FIRST, 6))
-    );
+    assert!(rt; span(alloc, &mut disk_of(alloc, &longer, None)?) == Ok((FIRST, 6)));
     Ok(())
 }
 

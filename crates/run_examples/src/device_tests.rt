@@ -1,6 +1,4 @@
 // Runs and checks over devices in memory, of which a call fails.
-ghost use Rattle.std.specs.Prelude.{◌≡◌, ◌<◌, ◌^◌, length, IfOk};
-
 use crate::worlds::room;
 use std::alloc::{AllocError, Global};
 use std::test::Fail;
@@ -15,17 +13,22 @@ const START: &[u8] = b"start tick 0 rooms 1 objects 2 players 0\n";
 const TICK_1: &[u8] =
     b"start tick 0 rooms 1 objects 2 players 0\ntick 1 objects 2 intents 0 energy 2499\n";
 
-// The inputs of a run, and the numbers of the calls that fail.
-#[derive(Drop)]
-struct Inputs {
-    world: Vec<u8>,
-    uploads: Vec<u8>,
-    disk: Vec<u8>,
-    reads: Vec<u64>,
-    upload_reads: Vec<u64>,
-    writes: Vec<u64>,
-    calls: Vec<u64>,
+// The numbers of the calls of a run that fail: reads of the world's file and of that of the uploads, writes
+// of lines, and calls of the disk.
+#[derive(Clone, Copy)]
+struct Failing<'a> {
+    reads: &'a [u64],
+    upload_reads: &'a [u64],
+    writes: &'a [u64],
+    calls: &'a [u64],
 }
+
+const NOTHING: Failing<'static> = Failing {
+    reads: &[],
+    upload_reads: &[],
+    writes: &[],
+    calls: &[],
+};
 
 // How a run ended, with what it printed and left on the disk.
 #[derive(Drop)]
@@ -47,21 +50,6 @@ fn small_world(alloc: Global) -> Result<Vec<u8>, AllocError> {
     Ok(text.into_bytes())
 }
 
-// The small world, no uploads, an empty disk, and no call that fails.
-fn small_inputs(alloc: Global) -> Result<Inputs, AllocError>
-    ensures { IfOk result (λ inputs. length inputs.disk.items ≡ 0) }
-{
-    Ok(Inputs {
-        world: small_world(alloc)?,
-        uploads: Vec::new(alloc),
-        disk: Vec::new(alloc),
-        reads: Vec::new(alloc),
-        upload_reads: Vec::new(alloc),
-        writes: Vec::new(alloc),
-        calls: Vec::new(alloc),
-    })
-}
-
 fn words(alloc: Global, ticks: &str) -> Result<Vec<String>, AllocError> {
     let mut words = Vec::new(alloc);
     for word in ["run", "w.json", "u.bin", "j.bin", "--ticks", ticks] {
@@ -70,22 +58,19 @@ fn words(alloc: Global, ticks: &str) -> Result<Vec<String>, AllocError> {
     Ok(words)
 }
 
-fn run(alloc: Global, inputs: Inputs, ticks: &str) -> Result<Ended, AllocError>
-    requires { length inputs.disk.items < 2 ^ 62 }
-{
-    let Inputs {
-        world,
-        uploads,
-        disk,
-        reads,
-        upload_reads,
-        writes,
-        calls,
-    } = inputs;
-    let mut world = MemorySource::new(world, reads);
-    let mut uploads = MemorySource::new(uploads, upload_reads);
-    let mut out = MemorySink::new(alloc, writes);
-    let mut disk = MemoryDisk::new(disk, calls, None);
+// A run on the small world, without uploads and on an empty disk.
+fn run(alloc: Global, failing: Failing, ticks: &str) -> Result<Ended, AllocError> {
+    let mut world = MemorySource::new(small_world(alloc)?, Vec::from_slice(alloc, failing.reads)?);
+    let mut uploads = MemorySource::new(
+        Vec::new(alloc),
+        Vec::from_slice(alloc, failing.upload_reads)?,
+    );
+    let mut out = MemorySink::new(alloc, Vec::from_slice(alloc, failing.writes)?);
+    let mut disk = MemoryDisk::new(
+        Vec::new(alloc),
+        Vec::from_slice(alloc, failing.calls)?,
+        None,
+    );
     let words = words(alloc, ticks)?;
     let status = run_alone(alloc, &words, &mut world, &mut uploads, &mut out, &mut disk);
     Ok(Ended {
@@ -95,55 +80,64 @@ fn run(alloc: Global, inputs: Inputs, ticks: &str) -> Result<Ended, AllocError>
     })
 }
 
+// How a run of one tick ends, and how much it prints and leaves on the disk.
+fn end_of(alloc: Global, failing: Failing) -> Result<(Status, usize, usize), AllocError> {
+    let ended = run(alloc, failing, "1")?;
+    Ok((ended.status, ended.printed.len(), ended.journal.len()))
+}
+
 #[test]
 fn a_failing_first_call_is_named(rt: HostRuntime) -> Result<(), Fail> {
     let alloc = rt.alloc();
-    let reads = Inputs {
-        reads: vec![in alloc; 0u64]?,
-        ..small_inputs(alloc)?
+    let reads = Failing {
+        reads: &[0],
+        ..NOTHING
     };
-    let ended = run(alloc, reads, "1")?;
-    assert_eq!(rt; ended.status, Status::ReadFault);
-    assert!(rt; ended.journal.is_empty());
-    let upload_reads = Inputs {
-        upload_reads: vec![in alloc; 0u64]?,
-        ..small_inputs(alloc)?
+    assert!(rt; end_of(alloc, reads)? == (Status::ReadFault, 0, 0));
+    let upload_reads = Failing {
+        upload_reads: &[0],
+        ..NOTHING
     };
-    let ended = run(alloc, upload_reads, "1")?;
-    assert_eq!(rt; ended.status, Status::ReadFault);
-    assert!(rt; ended.journal.is_empty());
-    let writes = Inputs {
-        writes: vec![in alloc; 0u64]?,
-        ..small_inputs(alloc)?
-    };
-    let ended = run(alloc, writes, "1")?;
-    assert_eq!(rt; ended.status, Status::WriteFault);
-    assert!(rt; ended.printed.is_empty());
-    assert!(rt; !ended.journal.is_empty());
-    let calls = Inputs {
-        calls: vec![in alloc; 0u64]?,
-        ..small_inputs(alloc)?
-    };
-    let ended = run(alloc, calls, "1")?;
-    assert_eq!(rt; ended.status, Status::DiskFault);
-    assert!(rt; ended.printed.is_empty());
+    assert!(rt; end_of(alloc, upload_reads)? == (Status::ReadFault, 0, 0));
+    let (status, printed, left) = end_of(
+        alloc,
+        Failing {
+            writes: &[0],
+            ..NOTHING
+        },
+    )?;
+    assert!(rt; (status, printed) == (Status::WriteFault, 0));
+    assert!(rt; left > 0);
+    let (status, printed, _left) = end_of(
+        alloc,
+        Failing {
+            calls: &[0],
+            ..NOTHING
+        },
+    )?;
+    assert!(rt; (status, printed) == (Status::DiskFault, 0));
     Ok(())
 }
 
 #[test]
-fn a_failing_later_call_leaves_the_ticks_before(rt: HostRuntime) -> Result<(), Fail> {
+fn a_failing_later_write_leaves_the_ticks_before(rt: HostRuntime) -> Result<(), Fail> {
     let alloc = rt.alloc();
-    let whole = run(alloc, small_inputs(alloc)?, "1")?;
-    let writes = Inputs {
-        writes: vec![in alloc; 1u64]?,
-        ..small_inputs(alloc)?
+    let whole = run(alloc, NOTHING, "1")?;
+    let writes = Failing {
+        writes: &[1],
+        ..NOTHING
     };
     let ended = run(alloc, writes, "2")?;
-    assert_eq!(rt; ended.status, Status::WriteFault);
-    assert_eq!(rt; ended.printed.as_slice(), START);
-    assert_eq!(rt; ended.journal.as_slice(), whole.journal.as_slice());
-    // The calls of the disk are its length twice; a write and a sync of the closed gate, of the world's frame
-    // and of its gate; and in each tick a write and a sync of the frame and of its gate.
+    assert!(rt; ended.status == Status::WriteFault);
+    assert!(rt; ended.printed.as_slice() == START);
+    assert!(rt; ended.journal.as_slice() == whole.journal.as_slice());
+    Ok(())
+}
+
+// The calls of the disk are its length twice; a write and a sync of the closed gate, of the world's frame
+// and of its gate; and in each tick a write and a sync of the frame and of its gate.
+#[test]
+fn a_failing_later_call_of_the_disk_ends_the_lines(rt: HostRuntime) -> Result<(), Fail> {
     for (call, printed) in [
         (1_u64, 0_usize),
         (2, 0),
@@ -154,13 +148,12 @@ fn a_failing_later_call_leaves_the_ticks_before(rt: HostRuntime) -> Result<(), F
         (12, TICK_1.len()),
         (15, TICK_1.len()),
     ] {
-        let calls = Inputs {
-            calls: vec![in alloc; call]?,
-            ..small_inputs(alloc)?
+        let calls = Failing {
+            calls: &[call],
+            ..NOTHING
         };
-        let ended = run(alloc, calls, "2")?;
-        assert_eq!(rt; ended.status, Status::DiskFault);
-        assert_eq!(rt; ended.printed.len(), printed);
+        let ended = run(rt.alloc(), calls, "2")?;
+        assert!(rt; (ended.status, ended.printed.len()) == (Status::DiskFault, printed));
     }
     Ok(())
 }
@@ -185,12 +178,12 @@ fn a_failing_call_of_a_check_is_named(rt: HostRuntime) -> Result<(), Fail> {
     // The second read finds the end.
     for call in [0_u64, 1] {
         let ended = check(alloc, vec![in alloc; call]?, Vec::new(alloc))?;
-        assert_eq!(rt; ended, (Status::ReadFault, false));
+        assert!(rt; ended == (Status::ReadFault, false));
     }
     let ended = check(alloc, Vec::new(alloc), vec![in alloc; 0u64]?)?;
-    assert_eq!(rt; ended, (Status::WriteFault, false));
+    assert!(rt; ended == (Status::WriteFault, false));
     let ended = check(alloc, Vec::new(alloc), Vec::new(alloc))?;
-    assert_eq!(rt; ended, (Status::Refused(Refusal::NoLoop), true));
+    assert!(rt; ended == (Status::Refused(Refusal::NoLoop), true));
     Ok(())
 }
 
@@ -251,9 +244,9 @@ fn each_frame_is_synced(rt: HostRuntime) -> Result<(), Fail> {
     };
     let words = words(alloc, "2")?;
     let status = run_alone(alloc, &words, &mut world, &mut uploads, &mut out, &mut disk);
-    assert_eq!(rt; status, Status::Done);
+    assert!(rt; status == Status::Done);
     // Three for the world, the closed gate among them, and two for each tick.
-    assert_eq!(rt; disk.syncs, 7);
+    assert!(rt; disk.syncs == 7);
     assert!(rt; !disk.late);
     assert!(rt; !disk.waits);
     Ok(())

@@ -23,8 +23,8 @@ fn a_file_is_written_whole(rt: HostRuntime) -> Result<(), Fail> {
     assert!(rt; !text.is_empty());
     fs::write(&rt, path, b"older than all that follows")?;
     let mut sink = FileSink::create(&rt, path);
-    assert_eq!(rt; fs::read(&rt, path)?.len(), 0);
-    assert_eq!(rt; sink.write(&text), Ok(200_000));
+    assert!(rt; fs::read(&rt, path)?.len() == 0);
+    assert!(rt; sink.write(&text) == Ok(200_000));
     write_all(&mut sink, b" and its end")?;
     text.extend_from_slice(b" and its end")?;
     assert!(rt; fs::read(&rt, path)?.as_slice() == text.as_slice());
@@ -39,13 +39,21 @@ fn a_file_is_read_whole(rt: HostRuntime) -> Result<(), Fail> {
     fs::write(&rt, path, text.as_slice())?;
     let mut source = FileSource::open(&rt, path);
     assert!(rt; read_all(rt.alloc(), &mut source, 200_000)?.as_slice() == text.as_slice());
-    assert_eq!(rt; source.read(&mut [0u8; 4]), Ok(0));
+    assert!(rt; source.read(&mut [0u8; 4]) == Ok(0));
+    fs::remove_file(&rt, path)?;
+    Ok(())
+}
+
+#[test]
+fn a_file_is_read_from_a_place(rt: HostRuntime) -> Result<(), Fail> {
+    let path = "world_io_a_place.bin";
+    fs::write(&rt, path, long_text(rt.alloc(), 0, 200_000)?.as_slice())?;
     let mut disk = FileDisk::open(&rt, path);
     let mut buf = vec![in rt.alloc(); 0u8; 199_990]?;
-    assert_eq!(rt; disk.read(10, &mut buf), Ok(199_990));
+    assert!(rt; disk.read(10, &mut buf) == Ok(199_990));
     assert!(rt; buf.as_slice() == long_text(rt.alloc(), 10, 200_000)?.as_slice());
-    assert_eq!(rt; disk.read(199_990, &mut buf), Ok(10));
-    assert_eq!(rt; disk.read(200_000, &mut buf), Ok(0));
+    assert!(rt; disk.read(199_990, &mut buf) == Ok(10));
+    assert!(rt; disk.read(200_000, &mut buf) == Ok(0));
     fs::remove_file(&rt, path)?;
     Ok(())
 }
@@ -54,10 +62,10 @@ fn a_file_is_read_whole(rt: HostRuntime) -> Result<(), Fail> {
 fn a_disk_is_the_file_at_its_path(rt: HostRuntime) -> Result<(), Fail> {
     let path = "world_io_a_disk.bin";
     let mut made = FileDisk::open_or_make(&rt, path);
-    assert_eq!(rt; made.len(), Ok(0));
+    assert!(rt; made.len() == Ok(0));
     made.write_at(0, &long_text(rt.alloc(), 0, 200_000)?)?;
     let mut disk = FileDisk::open_or_make(&rt, path);
-    assert_eq!(rt; disk.len(), Ok(200_000));
+    assert!(rt; disk.len() == Ok(200_000));
     disk.write_at(199_999, b"over the end")?;
     disk.write_at(0, b"front")?;
     disk.cut(200_009)?;
@@ -66,8 +74,8 @@ fn a_disk_is_the_file_at_its_path(rt: HostRuntime) -> Result<(), Fail> {
     want.extend_from_slice(&long_text(rt.alloc(), 5, 199_999)?)?;
     want.extend_from_slice(b"over the e")?;
     let mut only_read = FileDisk::open(&rt, path);
-    assert_eq!(rt; only_read.write_at(0, b"x"), Err(Failed));
-    assert_eq!(rt; only_read.cut(0), Err(Failed));
+    assert!(rt; only_read.write_at(0, b"x") == Err(Failed));
+    assert!(rt; only_read.cut(0) == Err(Failed));
     assert!(rt; fs::read(&rt, path)?.as_slice() == want.as_slice());
     fs::remove_file(&rt, path)?;
     Ok(())
@@ -77,17 +85,16 @@ fn a_disk_is_the_file_at_its_path(rt: HostRuntime) -> Result<(), Fail> {
 fn fails_where_no_file_opens(rt: HostRuntime) -> Result<(), Fail> {
     let path = "world_io_no_folder/file";
     let mut source = FileSource::open(&rt, path);
-    assert_eq!(rt;
-        read_all(rt.alloc(), &mut source, 9).map(|text| text.len()),
-        Err(ReadStop::Fault)
+    assert!(rt;
+        read_all(rt.alloc(), &mut source, 9).map(|text| text.len()) == Err(ReadStop::Fault)
     );
-    assert_eq!(rt; FileSink::create(&rt, path).write(b"x"), Err(Failed));
-    assert_eq!(rt; FileDisk::open(&rt, "world_io_no_file").len(), Err(Failed));
+    assert!(rt; FileSink::create(&rt, path).write(b"x") == Err(Failed));
+    assert!(rt; FileDisk::open(&rt, "world_io_no_file").len() == Err(Failed));
     let mut disk = FileDisk::open_or_make(&rt, path);
-    assert_eq!(rt; disk.len(), Err(Failed));
-    assert_eq!(rt; disk.sync(), Err(Failed));
+    assert!(rt; disk.len() == Err(Failed));
+    assert!(rt; disk.sync() == Err(Failed));
     let mut output = StreamSink::over(rt.stderr());
     write_all(&mut output, b"")?;
-    assert_eq!(rt; output.write(b"\n"), Ok(1));
+    assert!(rt; output.write(b"\n") == Ok(1));
     Ok(())
 }

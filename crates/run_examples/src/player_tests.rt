@@ -1,11 +1,10 @@
 // Runs of a player's module on a world that was read from a file.
-use crate::worlds::room;
+use crate::worlds::{room, world_in};
 use game_tables::Action;
 use intent_book::{PlayerRun, RunOutcome};
 use player_run::{admit, run_player};
 use std::alloc::{AllocError, Global};
 use std::test::Fail;
-use world_text::read_world;
 
 // (module
 //   (type (func)) (type (func (param i64 i32) (result i32)))
@@ -33,11 +32,7 @@ fn one_creep(alloc: Global) -> Result<String, AllocError> {
 
 // The run of the module of these bytes.
 fn run_of(alloc: Global, bytes: &[u8]) -> Result<PlayerRun, Fail> {
-    let text = one_creep(alloc)?;
-    let Ok(file) = read_world(alloc, text.as_bytes()) else {
-        return Err("refused".into());
-    };
-    let world = &file.world;
+    let world = world_in(alloc, one_creep(alloc)?.as_str())?;
     let Some(account) = world.account(1) else {
         return Err("no account".into());
     };
@@ -47,27 +42,23 @@ fn run_of(alloc: Global, bytes: &[u8]) -> Result<PlayerRun, Fail> {
     let Ok(linked) = admit(alloc, bytes) else {
         return Err("no module".into());
     };
-    Ok(run_player(alloc, &linked, world, 1)?)
+    Ok(run_player(alloc, &linked, &world, 1)?)
 }
 
 #[test]
 fn a_creep_drops_what_its_module_says(rt: HostRuntime) -> Result<(), Fail> {
     let run = run_of(rt.alloc(), DROPS)?;
-    assert_eq!(rt;
-        (run.player, run.outcome, run.used),
-        (1, RunOutcome::Finished, 4)
-    );
-    assert_eq!(rt; run.memory.as_slice(), b"one".as_slice());
-    assert_eq!(rt; run.intents.len(), 1);
+    assert!(rt; (run.player, run.outcome, run.used) == (1, RunOutcome::Finished, 4));
+    assert!(rt; run.memory.as_slice() == b"one".as_slice());
+    assert!(rt; run.intents.len() == 1);
     let entry = run.intents.nth(0).ok_or("no entry")?;
-    assert_eq!(rt;
+    assert!(rt;
         (
             entry.player,
             entry.action == Action::DropLoad,
             entry.actor,
             entry.amount
-        ),
-        (1, true, 3, 5)
+        ) == (1, true, 3, 5)
     );
     Ok(())
 }
@@ -75,10 +66,7 @@ fn a_creep_drops_what_its_module_says(rt: HostRuntime) -> Result<(), Fail> {
 #[test]
 fn a_loop_spends_what_the_account_allows(rt: HostRuntime) -> Result<(), Fail> {
     let run = run_of(rt.alloc(), NEVER_ENDS)?;
-    assert_eq!(rt;
-        (run.player, run.outcome, run.used),
-        (1, RunOutcome::Spent, 30_000)
-    );
-    assert_eq!(rt; (run.intents.len(), run.memory.len()), (0, 3));
+    assert!(rt; (run.player, run.outcome, run.used) == (1, RunOutcome::Spent, 30_000));
+    assert!(rt; (run.intents.len(), run.memory.len()) == (0, 3));
     Ok(())
 }

@@ -4,7 +4,7 @@ ghost use Rattle.game_tables.specs.Limits.{most_rooms};
 ghost use Rattle.object_store.specs.Stored.{HasAccount};
 ghost use Rattle.world_rules.specs.Sound.{IsSound};
 
-use crate::worlds::room;
+use crate::worlds::{room, world_in};
 use host_calls::Desk;
 use intent_book::{Intents, PlayerRun, RunOutcome};
 use object_store::{Bytes, World};
@@ -15,7 +15,6 @@ use std::test::Fail;
 use visible_view::View;
 use wasm_machine::{Instance, Outcome};
 use world_roster::Roster;
-use world_text::read_world;
 
 // Fills its memory with bytes of 255, wants four things of each of 1,024 creeps, makes the whole memory its
 // text, and calls itself until it traps, with 61 values in each frame.
@@ -57,31 +56,40 @@ const MANY: &[u8] =
 const FEW: &[u8] =
     b"\0asm\x01\0\0\0\x01\x1a\x05`\0\0`\x03~~\x7f\x01\x7f`\0\x01\x7f`\x01\x7f\x01\x7f`\x02\x7f\x7f\x01\x7f\x02Y\x04\x07screeps\x08transfer\0\x01\x07screeps\x0dmemory_length\0\x02\x07screeps\x0bmemory_read\0\x03\x07screeps\x0cmemory_write\0\x04\x03\x02\x01\0\x05\x03\x01\0\x01\x07\x08\x01\x04loop\0\x04\x0a'\x01%\x01\x01\x7fB\xd1\x0fB\xd2\x0fA\x05\x10\0\x1a \0A\x10j\x10\x02\x1aA\x0f\x10\x01:\0\0A\x0fA\x0c\x10\x03\x1a\x0b";
 
+// Where a creep stands.
+fn stand(alloc: Global, id: u32, x: u32, y: u32) -> Result<String, AllocError> {
+    format!(in alloc; "\"id\":{id},\"kind\":\"creep\",\"x\":{x},\"y\":{y}")
+}
+
 // A creep with what it needs to move, to carry and to attack.
-fn creep(
-    alloc: Global,
-    id: u32,
-    x: u32,
-    y: u32,
-    owner: u32,
-    energy: u32,
-) -> Result<String, AllocError> {
+fn creep(alloc: Global, stand: &str, owner: u32, energy: u32) -> Result<String, AllocError> {
     format!(in alloc;
-        "{{\"id\":{id},\"kind\":\"creep\",\"x\":{x},\"y\":{y},\"owner\":{owner},\"body\":[\"move\",\"carry\",\"ranged_attack\"],\"energy\":{energy},\"timer\":9}}"
+        "{{{stand},\"owner\":{owner},\"body\":[\"move\",\"carry\",\"ranged_attack\"],\"energy\":{energy},\"timer\":9}}"
     )
 }
 
-// The creeps 1 to 1,024 of player 1, and two neighbours of player 2.
-fn two_players(alloc: Global) -> Result<String, AllocError> {
+// The creeps 1 to 1,024 of player 1.
+fn many_creeps(alloc: Global) -> Result<String, AllocError> {
     let mut creeps = String::new(alloc);
     for at in 0..1_024_u32 {
-        let text = creep(alloc, at + 1, 1 + at % 48, 1 + at / 48, 1, 10)?;
-        creeps.push_str(text.as_str())?;
+        let stand = stand(alloc, at + 1, 1 + at % 48, 1 + at / 48)?;
+        creeps.push_str(creep(alloc, stand.as_str(), 1, 10)?.as_str())?;
         creeps.push(',')?;
     }
-    let one = creep(alloc, 2_001, 10, 30, 2, 40)?;
-    let other = creep(alloc, 2_002, 11, 30, 2, 0)?;
-    let objects = format!(in alloc; "{creeps}{one},{other}")?;
+    Ok(creeps)
+}
+
+// Two neighbours of player 2.
+fn two_creeps(alloc: Global) -> Result<String, AllocError> {
+    let one = creep(alloc, stand(alloc, 2_001, 10, 30)?.as_str(), 2, 40)?;
+    let other = creep(alloc, stand(alloc, 2_002, 11, 30)?.as_str(), 2, 0)?;
+    format!(in alloc; "{one},{other}")
+}
+
+// The world of both players.
+fn two_players(alloc: Global) -> Result<String, AllocError> {
+    let mut objects = many_creeps(alloc)?;
+    objects.push_str(two_creeps(alloc)?.as_str())?;
     let only = room(alloc, "E0S0", 3_000, objects.as_str())?;
     let players =
         "{\"player\":1,\"limit\":20,\"bucket\":0,\"memory\":\"6f6e65\"},{\"player\":2,\"limit\":1,\"bucket\":0,\"memory\":\"74776f\"}";
@@ -103,7 +111,18 @@ struct Alone {
     memory: Bytes,
 }
 
-// Runs a module on what a player sees, in a desk and an instance of its own.
+// How a module ends at a desk, in an instance of its own.
+fn outcome_of(
+    alloc: Global,
+    linked: &Linked,
+    desk: &mut Desk,
+    fuel: u64,
+) -> Result<Outcome, AllocError> {
+    let mut instance = Instance::new(alloc, linked)?;
+    Ok(instance.run(desk, fuel))
+}
+
+// Runs a module on what a player sees, at a desk and in an instance of its own.
 fn run_by_itself(alloc: Global, linked: &Linked, view: &View, fuel: u64) -> Result<Alone, Fail> {
     let account = view.account();
     let text = account.memory.as_slice();
@@ -111,8 +130,7 @@ fn run_by_itself(alloc: Global, linked: &Linked, view: &View, fuel: u64) -> Resu
         return Err("too long a text".into());
     }
     let mut desk = Desk::new(alloc, view, account.player, text)?;
-    let mut instance = Instance::new(alloc, linked)?;
-    let outcome = instance.run(&mut desk, fuel);
+    let outcome = outcome_of(alloc, linked, &mut desk, fuel)?;
     let (book, memory) = desk.finish();
     Ok(Alone {
         outcome,
@@ -143,31 +161,49 @@ fn assert_alike(rt: &impl Abort, run: &PlayerRun, alone: &Alone) {
         Outcome::Trapped { used, .. } => (RunOutcome::Trapped(8), used),
         Outcome::Spent { used } => (RunOutcome::Spent, used),
     };
-    assert_eq!(rt; (run.outcome, run.used), (outcome, used));
-    assert_eq!(rt; run.memory.as_slice(), alone.memory.as_slice());
-    assert_eq!(rt; run.intents.len(), alone.intents.len());
+    assert!(rt; (run.outcome, run.used) == (outcome, used));
+    assert!(rt; run.memory.as_slice() == alone.memory.as_slice());
+    assert!(rt; run.intents.len() == alone.intents.len());
     for (entry, same) in run
         .intents
         .as_slice()
         .iter()
         .zip(alone.intents.as_slice().iter())
     {
-        assert_eq!(rt;
-            (entry.player, entry.action.number(), entry.actor),
-            (same.player, same.action.number(), same.actor)
+        assert!(rt;
+            (entry.player, entry.action.number(), entry.actor)
+                == (same.player, same.action.number(), same.actor)
         );
-        assert_eq!(rt; (entry.target, entry.amount), (same.target, same.amount));
+        assert!(rt; (entry.target, entry.amount) == (same.target, same.amount));
     }
 }
 
-#[test]
-fn a_run_is_the_same_in_the_room_of_another(rt: HostRuntime) -> Result<(), Fail> {
-    let alloc = rt.alloc();
-    let text = two_players(alloc)?;
-    let Ok(file) = read_world(alloc, text.as_bytes()) else {
-        return Err("refused".into());
-    };
-    let world = &file.world;
+// The run of the first player fills whatever a run can fill.
+fn assert_fills(rt: &impl Abort, run: &PlayerRun, alone: &Alone) {
+    assert!(rt; (run.player, run.outcome) == (1, RunOutcome::Trapped(8)));
+    assert!(rt; (run.intents.len(), run.memory.len()) == (4_096, 65_536));
+    assert_alike(rt, run, alone);
+}
+
+// The run of the second player meets nothing of another's.
+fn assert_clean(rt: &impl Abort, run: &PlayerRun, alone: &Alone) {
+    assert!(rt;
+        (run.player, run.outcome, run.used, run.intents.len()) == (2, RunOutcome::Finished, 17, 1)
+    );
+    assert!(rt; run.memory.as_slice() == b"\x03two\0\0\0\0\0\0\0\0".as_slice());
+    assert_alike(rt, run, alone);
+}
+
+// Runs the modules by themselves, and then one behind the other in one room, twice.
+fn assert_room_is_shared(
+    rt: &impl Abort,
+    alloc: Global,
+    world: &World,
+    many: &Linked,
+    few: &Linked,
+) -> Result<(), Fail>
+    requires { IsSound world.now }
+{
     let Some(one) = world.account(1) else {
         return Err("no first account".into());
     };
@@ -177,29 +213,33 @@ fn a_run_is_the_same_in_the_room_of_another(rt: HostRuntime) -> Result<(), Fail>
     if world.rooms() > 400 || one.memory.len() > 65_536 || two.memory.len() > 65_536 {
         return Err("not the world of the file".into());
     }
-    let many = linked(alloc, MANY)?;
-    let few = linked(alloc, FEW)?;
-    let first = run_in_world(alloc, &many, world, 1, 200_000)?;
-    let second = run_in_world(alloc, &few, world, 2, 10_000)?;
+    let first = run_in_world(alloc, many, world, 1, 200_000)?;
+    let second = run_in_world(alloc, few, world, 2, 10_000)?;
     let roster = Roster::of(alloc, world)?;
-    let run = run_player_among(alloc, &many, world, &roster, 1)?;
-    assert_eq!(rt; (run.player, run.outcome), (1, RunOutcome::Trapped(8)));
-    assert_eq!(rt; (run.intents.len(), run.memory.len()), (4_096, 65_536));
-    assert_alike(&rt, &run, &first);
+    assert_fills(
+        rt,
+        &run_player_among(alloc, many, world, &roster, 1)?,
+        &first,
+    );
     let mut shared = RunRoom::new(alloc)?;
     for _again in 0..2 {
-        let run = run_player_in(alloc, &mut shared, &many, world, &roster, 1)?;
-        assert_alike(&rt, &run, &first);
-        let run = run_player_in(alloc, &mut shared, &few, world, &roster, 2)?;
-        assert_eq!(rt;
-            (run.player, run.outcome, run.used, run.intents.len()),
-            (2, RunOutcome::Finished, 17, 1)
+        assert_fills(
+            rt,
+            &run_player_in(alloc, &mut shared, many, world, &roster, 1)?,
+            &first,
         );
-        assert_eq!(rt;
-            run.memory.as_slice(),
-            b"\x03two\0\0\0\0\0\0\0\0".as_slice()
+        assert_clean(
+            rt,
+            &run_player_in(alloc, &mut shared, few, world, &roster, 2)?,
+            &second,
         );
-        assert_alike(&rt, &run, &second);
     }
     Ok(())
+}
+
+#[test]
+fn a_run_is_the_same_in_the_room_of_another(rt: HostRuntime) -> Result<(), Fail> {
+    let world = world_in(rt.alloc(), two_players(rt.alloc())?.as_str())?;
+    let (many, few) = (linked(rt.alloc(), MANY)?, linked(rt.alloc(), FEW)?);
+    assert_room_is_shared(&rt, rt.alloc(), &world, &many, &few)
 }

@@ -1,8 +1,8 @@
 // Single ticks of worlds that were read from files.
-ghost use Rattle.std.specs.Prelude.{◌<◌, ◌≤◌, ◌^◌, IsTrue, length};
+ghost use Rattle.std.specs.Prelude.{◌<◌, ◌≤◌, ◌^◌, IfOk, IsTrue, length};
 ghost use Rattle.world_rules.specs.Sound.{HaveSerials, IsSound};
 
-use crate::worlds::room;
+use crate::worlds::{room, world_in};
 use exit_crossing::Crosser;
 use game_tables::{Action, Body};
 use intent_book::Intent;
@@ -11,7 +11,6 @@ use room_step::{Crossers, StepDone, step_room};
 use ruled_tick::tick_plain;
 use std::alloc::{AllocError, Global};
 use std::test::Fail;
-use world_text::read_world;
 
 // Creeps 3 and 4 of players 2 and 1 stand in the first room, and one of player 1 on a pile; in the second one
 // of each
@@ -56,6 +55,30 @@ fn have_serials(world: &World) -> bool
         .all(|room| room.table.next() <= 4_293_918_720)
 }
 
+// The world of a text, whose rooms have serials left.
+fn world_of(alloc: Global, text: &str) -> Result<World, Fail>
+    ensures sound { IfOk result (λ world. IsSound world) }
+    ensures serials { IfOk result (λ world. HaveSerials world.rooms) }
+{
+    let world = world_in(alloc, text)?;
+    if !have_serials(&world) {
+        return Err("used up".into());
+    }
+    Ok(world)
+}
+
+// The tick of a world by these entries.
+fn ticked(alloc: Global, world: &World, intents: &[Intent]) -> Result<World, Fail>
+    requires sound { IsSound world.now }
+    requires serials { HaveSerials world.now.rooms }
+    requires few { length intents.now ≤ 2 ^ 18 }
+{
+    if world.tick() > 99 {
+        return Err("another world".into());
+    }
+    Ok(tick_plain(alloc, world, intents)?)
+}
+
 // The energy of an object of a room.
 fn energy_of(world: &World, index: usize, id: u64) -> Option<u64> {
     let room = world.room_list().get(index)?;
@@ -85,13 +108,7 @@ fn memory_of(world: &World, player: u32) -> &[u8] {
 
 #[test]
 fn entries_of_two_rooms_are_ruled(rt: HostRuntime) -> Result<(), Fail> {
-    let text = two_rooms(rt.alloc())?;
-    let Ok(file) = read_world(rt.alloc(), text.as_bytes()) else {
-        return Err("refused".into());
-    };
-    if !have_serials(&file.world) {
-        return Err("used up".into());
-    }
+    let world = world_of(rt.alloc(), two_rooms(rt.alloc())?.as_str())?;
     let intents = [
         entry(2, Action::DropLoad, 3, 10),
         // (another player's creep, and nobody's entry)
@@ -110,10 +127,10 @@ fn entries_of_two_rooms_are_ruled(rt: HostRuntime) -> Result<(), Fail> {
         // (the last of two entries of one creep)
         entry(2, Action::DropLoad, 3, 0),
     ];
-    let next = tick_plain(rt.alloc(), &file.world, &intents)?;
-    assert_eq!(rt; (next.tick(), next.rooms(), next.accounts()), (42, 2, 2));
-    assert_eq!(rt; room_of(&next, 0), Some((6, 9)));
-    assert_eq!(rt; room_of(&next, 1), Some((4, 5)));
+    let next = ticked(rt.alloc(), &world, &intents)?;
+    assert!(rt; (next.tick(), next.rooms(), next.accounts()) == (42, 2, 2));
+    assert!(rt; room_of(&next, 0) == Some((6, 9)));
+    assert!(rt; room_of(&next, 1) == Some((4, 5)));
     for (index, id, energy) in [
         (0, 3, 0),
         (0, 4, 15),
@@ -128,14 +145,11 @@ fn entries_of_two_rooms_are_ruled(rt: HostRuntime) -> Result<(), Fail> {
         (1, 4_294_967_299, 1_500),
         (1, 4_294_967_300, 6),
     ] {
-        assert_eq!(rt; energy_of(&next, index, id), Some(energy), "of {id}");
+        assert!(rt; energy_of(&next, index, id) == Some(energy), "of {id}");
     }
-    assert_eq!(rt;
-        (saved_of(&next, 1), saved_of(&next, 2)),
-        (Some((30, 7)), Some((9_000, 0)))
-    );
-    assert_eq!(rt; memory_of(&next, 1), b"one".as_slice());
-    assert_eq!(rt; memory_of(&next, 2), b"two".as_slice());
+    assert!(rt; (saved_of(&next, 1), saved_of(&next, 2)) == (Some((30, 7)), Some((9_000, 0))));
+    assert!(rt; memory_of(&next, 1) == b"one".as_slice());
+    assert!(rt; memory_of(&next, 2) == b"two".as_slice());
     Ok(())
 }
 
@@ -160,60 +174,65 @@ fn step_at(
     )
 }
 
-#[test]
-fn rooms_step_by_themselves(rt: HostRuntime) -> Result<(), Fail> {
-    let text = two_rooms(rt.alloc())?;
-    let Ok(file) = read_world(rt.alloc(), text.as_bytes()) else {
-        return Err("refused".into());
-    };
-    if !have_serials(&file.world) || file.world.rooms() != 2 {
+// The step of a room of the world of a text.
+fn step_in(alloc: Global, text: &str, index: u32, intents: &[Intent]) -> Result<StepDone, Fail>
+    requires { length intents.now ≤ 2 ^ 18 }
+{
+    let world = world_of(alloc, text)?;
+    if index >= world.rooms() {
         return Err("another world".into());
     }
-    // (what another room's creep wants does nothing here)
-    let intents = [
+    Ok(step_at(alloc, &world, index, intents)?)
+}
+
+// Entries of creeps of both rooms.
+fn drops() -> [Intent; 3] {
+    [
         entry(1, Action::DropLoad, 4_294_967_297, 7),
         entry(1, Action::DropLoad, 4, 5),
         entry(2, Action::DropLoad, 3, 0),
-    ];
-    let first = step_at(rt.alloc(), &file.world, 0, &intents)?;
-    let second = step_at(rt.alloc(), &file.world, 1, &intents)?;
-    assert_eq!(rt; (first.room.len(), first.room.next()), (6, 9));
-    assert_eq!(rt; (second.room.len(), second.room.next()), (4, 5));
-    assert_eq!(rt; first.room.get(4).map(|creep| creep.energy), Some(15));
-    assert_eq!(rt;
-        second.room.get(4_294_967_297).map(|creep| creep.energy),
-        Some(43)
-    );
-    assert_eq!(rt;
-        second.room.get(4_294_967_299).map(|source| source.energy),
-        Some(1_500)
-    );
-    assert_eq!(rt;
-        (first.player, first.points, first.crossers.len()),
-        (0, 0, 0)
-    );
-    assert!(rt; first.room.spare() >= 196);
+    ]
+}
+
+// (what another room's creep wants does nothing here)
+#[test]
+fn the_first_room_steps_by_itself(rt: HostRuntime) -> Result<(), Fail> {
+    let text = two_rooms(rt.alloc())?;
+    let done = step_in(rt.alloc(), text.as_str(), 0, &drops())?;
+    assert!(rt; (done.room.len(), done.room.next()) == (6, 9));
+    assert!(rt; done.room.get(4).map(|creep| creep.energy) == Some(15));
+    assert!(rt; (done.player, done.points, done.crossers.len()) == (0, 0, 0));
+    assert!(rt; done.room.spare() >= 196);
     Ok(())
 }
 
 #[test]
-fn a_room_tells_who_leaves_and_who_gains(rt: HostRuntime) -> Result<(), Fail> {
-    let empty = room(rt.alloc(), "E0S0", 1, "")?;
+fn the_second_room_steps_by_itself(rt: HostRuntime) -> Result<(), Fail> {
+    let text = two_rooms(rt.alloc())?;
+    let done = step_in(rt.alloc(), text.as_str(), 1, &drops())?;
+    assert!(rt; (done.room.len(), done.room.next()) == (4, 5));
+    assert!(rt; done.room.get(4_294_967_297).map(|creep| creep.energy) == Some(43));
+    assert!(rt; done.room.get(4_294_967_299).map(|source| source.energy) == Some(1_500));
+    Ok(())
+}
+
+// A room without objects, and one of player 2, whose creep upgrades, with two creeps of player 1.
+fn colony(alloc: Global) -> Result<String, AllocError> {
+    let empty = room(alloc, "E0S0", 1, "")?;
     let colony = room(
-        rt.alloc(),
+        alloc,
         "E1S0",
         5,
         "{\"id\":4294967297,\"kind\":\"controller\",\"x\":10,\"y\":10,\"owner\":2,\"extra\":1,\"timer\":9},{\"id\":4294967298,\"kind\":\"creep\",\"x\":11,\"y\":10,\"owner\":2,\"body\":[\"work\",\"work\",\"carry\",\"move\"],\"energy\":5,\"timer\":1500},{\"id\":4294967299,\"kind\":\"creep\",\"x\":1,\"y\":25,\"owner\":1,\"body\":[\"move\"],\"timer\":1500},{\"id\":4294967300,\"kind\":\"creep\",\"x\":25,\"y\":1,\"owner\":1,\"body\":[\"move\"],\"timer\":1500}",
     )?;
-    let text = format!(in rt.alloc();
+    format!(in alloc;
         "{{\"version\":1,\"tick\":0,\"rooms\":[{empty},{colony}],\"players\":[{{\"player\":1,\"limit\":20}},{{\"player\":2,\"limit\":20}}]}}"
-    )?;
-    let Ok(file) = read_world(rt.alloc(), text.as_bytes()) else {
-        return Err("refused".into());
-    };
-    if !have_serials(&file.world) || file.world.rooms() != 2 {
-        return Err("another world".into());
-    }
+    )
+}
+
+#[test]
+fn a_room_tells_who_leaves_and_who_gains(rt: HostRuntime) -> Result<(), Fail> {
+    let text = colony(rt.alloc())?;
     let upgrade = Intent {
         target: 4_294_967_297,
         ..entry(2, Action::Upgrade, 4_294_967_298, 0)
@@ -224,26 +243,23 @@ fn a_room_tells_who_leaves_and_who_gains(rt: HostRuntime) -> Result<(), Fail> {
         upgrade,
         entry(1, Action::Move, 4_294_967_299, 7),
     ];
-    let done = step_at(rt.alloc(), &file.world, 1, &intents)?;
-    assert_eq!(rt; (done.player, done.points), (2, 2));
+    let done = step_in(rt.alloc(), text.as_str(), 1, &intents)?;
+    assert!(rt; (done.player, done.points) == (2, 2));
     let leaving = |place: u64| done
         .crossers
         .nth(place)
         .map(|crosser| (crosser.id, crosser.room));
-    assert_eq!(rt; leaving(0), Some((4_294_967_299, 1)));
-    assert_eq!(rt; leaving(1), Some((4_294_967_300, 1)));
-    assert_eq!(rt; leaving(2), None);
-    assert_eq!(rt;
+    assert!(rt; leaving(0) == Some((4_294_967_299, 1)));
+    assert!(rt; leaving(1) == Some((4_294_967_300, 1)));
+    assert!(rt; leaving(2) == None);
+    assert!(rt;
         done.room
             .get(4_294_967_299)
-            .map(|creep| (creep.x, creep.other_ticks)),
-        Some((0, 0))
+            .map(|creep| (creep.x, creep.other_ticks))
+            == Some((0, 0))
     );
-    let nothing = step_at(rt.alloc(), &file.world, 0, &intents)?;
-    assert_eq!(rt;
-        (nothing.room.len(), nothing.player, nothing.points),
-        (0, 0, 0)
-    );
+    let nothing = step_in(rt.alloc(), text.as_str(), 0, &intents)?;
+    assert!(rt; (nothing.room.len(), nothing.player, nothing.points) == (0, 0, 0));
     Ok(())
 }
 
@@ -253,11 +269,8 @@ fn crossers_are_a_list(rt: HostRuntime) -> Result<(), Fail> {
     assert!(rt; list.is_empty());
     list.push(Crosser { id: 7, room: 3 })?;
     list.push(Crosser { id: 8, room: 2 })?;
-    assert_eq!(rt; (list.len(), list.is_empty()), (2, false));
-    assert_eq!(rt;
-        list.nth(1).map(|crosser| (crosser.id, crosser.room)),
-        Some((8, 2))
-    );
-    assert_eq!(rt; list.as_slice().len(), 2);
+    assert!(rt; (list.len(), list.is_empty()) == (2, false));
+    assert!(rt; list.nth(1).map(|crosser| (crosser.id, crosser.room)) == Some((8, 2)));
+    assert!(rt; list.as_slice().len() == 2);
     Ok(())
 }

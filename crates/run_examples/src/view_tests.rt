@@ -1,10 +1,11 @@
 // What players see of a world that was read from a file.
-use crate::worlds::room;
-use object_store::{Ground, RoomName};
+ghost use Rattle.world_rules.specs.Sound.{IsSound};
+
+use crate::worlds::{room, world_in};
+use object_store::{Ground, RoomName, World};
 use std::alloc::{AllocError, Global};
 use std::test::Fail;
 use visible_view::View;
-use world_text::read_world;
 
 // Three rooms: player 1 has a controller in the first, and in the second a creep that was born in the first;
 // in the
@@ -34,31 +35,38 @@ fn three_rooms(alloc: Global) -> Result<String, AllocError> {
     )
 }
 
-#[test]
-fn players_see_their_rooms(rt: HostRuntime) -> Result<(), Fail> {
-    let text = three_rooms(rt.alloc())?;
-    let Ok(file) = read_world(rt.alloc(), text.as_bytes()) else {
-        return Err("refused".into());
-    };
-    let world = &file.world;
+// What player 1 sees of the world.
+fn seen(alloc: Global, world: &World) -> Result<View<'_>, Fail>
+    requires { IsSound world.now }
+{
     if world.rooms() > 400 || world.account(1).is_none() {
         return Err("not the world of the file".into());
     }
-    let one = View::of(rt.alloc(), world, 1)?;
-    assert_eq!(rt; (one.tick(), one.account().bucket, one.sites()), (6, 30, 2));
-    assert_eq!(rt;
-        (one.room_count(), one.room(0), one.room(1), one.room(2)),
-        (2, Some(0), Some(1), None)
+    Ok(View::of(alloc, world, 1)?)
+}
+
+#[test]
+fn players_see_their_rooms(rt: HostRuntime) -> Result<(), Fail> {
+    let world = world_in(rt.alloc(), three_rooms(rt.alloc())?.as_str())?;
+    let one = seen(rt.alloc(), &world)?;
+    assert!(rt; (one.tick(), one.account().bucket, one.sites()) == (6, 30, 2));
+    assert!(rt;
+        (one.room_count(), one.room(0), one.room(1), one.room(2)) == (2, Some(0), Some(1), None)
     );
-    assert_eq!(rt; one.name(1), Some(RoomName { column: -1, row: 0 }));
-    assert_eq!(rt; one.name(2), None);
-    assert_eq!(rt;
-        (one.ground(1, 49, 0), one.ground(1, 1, 0)),
-        (Some(Ground::Wall), Some(Ground::Plain))
+    assert!(rt; (one.name(1), one.name(2)) == (Some(RoomName { column: -1, row: 0 }), None));
+    assert!(rt;
+        (one.ground(1, 49, 0), one.ground(1, 1, 0)) == (Some(Ground::Wall), Some(Ground::Plain))
     );
-    assert_eq!(rt; (one.ground(2, 1, 1), one.ground(1, 50, 0)), (None, None));
-    // (ids rise over both rooms: the creep of the second stands between objects of the first)
-    assert_eq!(rt; one.count(), 5);
+    assert!(rt; (one.ground(2, 1, 1), one.ground(1, 50, 0)) == (None, None));
+    Ok(())
+}
+
+// (ids rise over both rooms: the creep of the second stands between objects of the first)
+#[test]
+fn objects_stand_in_rising_id(rt: HostRuntime) -> Result<(), Fail> {
+    let world = world_in(rt.alloc(), three_rooms(rt.alloc())?.as_str())?;
+    let one = seen(rt.alloc(), &world)?;
+    assert!(rt; one.count() == 5);
     for (place, id, room) in [
         (0, 1, 0),
         (1, 2, 0),
@@ -66,17 +74,20 @@ fn players_see_their_rooms(rt: HostRuntime) -> Result<(), Fail> {
         (3, 4, 0),
         (4, 4_294_967_297, 1),
     ] {
-        assert_eq!(rt; one.find(id), Some(place));
-        assert_eq!(rt;
-            (one.field(place, 0), one.field(place, 2)),
-            (Some(id), Some(room))
+        assert!(rt;
+            (one.find(id), one.field(place, 0), one.field(place, 2))
+                == (Some(place), Some(id), Some(room))
         );
     }
-    assert_eq!(rt;
-        (one.find(8_589_934_595), one.field(5, 0), one.field(0, 16)),
-        (None, None, None)
-    );
-    assert_eq!(rt; one.object(2).map_or(0, |creep| creep.energy), 40);
+    assert!(rt; (one.find(8_589_934_595), one.field(5, 0), one.field(0, 16)) == (None, None, None));
+    Ok(())
+}
+
+#[test]
+fn fields_are_told(rt: HostRuntime) -> Result<(), Fail> {
+    let world = world_in(rt.alloc(), three_rooms(rt.alloc())?.as_str())?;
+    let one = seen(rt.alloc(), &world)?;
+    assert!(rt; one.object(2).map_or(0, |creep| creep.energy) == 40);
     for (field, told) in [
         (1, 3),
         (3, 6),
@@ -91,11 +102,10 @@ fn players_see_their_rooms(rt: HostRuntime) -> Result<(), Fail> {
         (100, 1_050),
         (101, 3_100),
     ] {
-        assert_eq!(rt; one.field(2, field), Some(told), "field {field}");
+        assert!(rt; one.field(2, field) == Some(told), "field {field}");
     }
-    assert_eq!(rt;
-        (one.field(2, 102), one.field(1, 9), one.field(0, 11)),
-        (None, Some(3_000), Some(1))
+    assert!(rt;
+        (one.field(2, 102), one.field(1, 9), one.field(0, 11)) == (None, Some(3_000), Some(1))
     );
     Ok(())
 }

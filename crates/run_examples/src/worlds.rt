@@ -1,14 +1,26 @@
-// The texts of worlds.
+// The texts of worlds, and the worlds that they say.
+ghost use Rattle.std.specs.Prelude.{IfOk};
+ghost use Rattle.world_rules.specs.Sound.{IsSound};
+
+use object_store::World;
 use std::alloc::{AllocError, Global};
+use std::test::Fail;
+use world_text::read_world;
+
+// So many zeros.
+fn zeros(alloc: Global, count: usize) -> Result<String, AllocError> {
+    let mut text = String::new(alloc);
+    for _ in 0..count {
+        text.push('0')?;
+    }
+    Ok(text)
+}
 
 // Plain ground with walls at the corners.
 fn grounds(alloc: Global) -> Result<String, AllocError> {
-    let mut terrain = String::new(alloc);
-    for at in 0..2500_usize {
-        let corner = at == 0 || at == 49 || at == 2450 || at == 2499;
-        terrain.push(if corner { '1' } else { '0' })?;
-    }
-    Ok(terrain)
+    let edge = zeros(alloc, 48)?;
+    let middle = zeros(alloc, 2_400)?;
+    format!(in alloc; "1{edge}1{middle}1{edge}1")
 }
 
 /// The text of a room of that ground with this name, next serial and objects.
@@ -17,4 +29,14 @@ pub fn room(alloc: Global, name: &str, next: u32, objects: &str) -> Result<Strin
     format!(in alloc;
         "{{\"name\":\"{name}\",\"terrain\":\"{terrain}\",\"next\":{next},\"objects\":[{objects}]}}"
     )
+}
+
+/// The world that a file of this text says.
+pub fn world_in(alloc: Global, text: &str) -> Result<World, Fail>
+    ensures { IfOk result (λ world. IsSound world) }
+{
+    match read_world(alloc, text.as_bytes()) {
+        Ok(file) => Ok(file.world),
+        Err(_) => Err("refused".into()),
+    }
 }
