@@ -1,5 +1,5 @@
 // The judgement of uploads.
-ghost use Rattle.std.specs.Prelude.{◌≡◌, ◌≢◌, ℕ, List, IfOk, IfErr};
+ghost use Rattle.std.specs.Prelude.{◌≡◌, ◌≢◌, ◌⊎◌, ℕ, List, IfOk, IfErr};
 ghost use Rattle.wasm_module.specs.sections.Limits.{IsWithin, WithinBytes};
 ghost use Rattle.wasm_module.specs.sections.Sections.{Spells, module_view};
 ghost use Rattle.wasm_validate.specs.modules.Floats.{HasNoFloat};
@@ -42,9 +42,20 @@ fn admit_module(alloc: Global, found: Module) -> Result<Linked, Refusal>
 {
     match validate(alloc, found) {
         Ok(valid) => admit_valid(alloc, valid),
-        Err(ValidFault::FloatRefused(_)) => Err(Refusal::FloatRefused),
-        Err(ValidFault::Invalid(_)) => Err(Refusal::Invalid),
-        Err(ValidFault::Memory(_)) => Err(Refusal::Memory),
+        Err(fault) => Err(refusal_of(fault)),
+    }
+}
+
+// Why a module is refused that has a float, or is not valid.
+fn refusal_of(fault: ValidFault) -> Refusal
+    ensures float { result ≡ Refusal.FloatRefused → (m : _) × (fault ≡ ValidFault.FloatRefused m) }
+    ensures invalid { result ≡ Refusal.Invalid → (m : _) × (fault ≡ ValidFault.Invalid m) }
+    ensures one { (result ≡ Refusal.FloatRefused) ⊎ (result ≡ Refusal.Invalid) ⊎ (result ≡ Refusal.Memory) }
+{
+    match fault {
+        ValidFault::FloatRefused(_) => Refusal::FloatRefused,
+        ValidFault::Invalid(_) => Refusal::Invalid,
+        ValidFault::Memory(_) => Refusal::Memory,
     }
 }
 
