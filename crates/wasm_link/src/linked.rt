@@ -7,6 +7,7 @@ ghost use Rattle.wasm_validate.specs.modules.Modules.{IsValid};
 ghost use Rattle.wasm_link.specs.Linking.{IsLinked, IsFault, IsLinkable};
 ghost use Rattle.wasm_link.specs.Kept.{IsKept, IsMost, link_of, link_view};
 ghost use Rattle.wasm_link.specs.Made.{AreBusy, IsCounted};
+ghost use Rattle.wasm_link.specs.inner.Beginnings.{IsReady};
 
 use crate::beginning::{Beginning, beginning_of};
 use crate::classes::classes_of;
@@ -48,6 +49,13 @@ struct Parts {
     classes: Vec<u32>,
     most: usize,
     main: u32,
+}
+
+/// The parts of a module, with what an instance begins with.
+#[derive(Drop)]
+struct Made {
+    parts: Parts,
+    beginning: Beginning,
 }
 
 /// A module that links against the calls of a host. Contracts see the module, its functions and its function
@@ -121,6 +129,27 @@ fn parts_of(alloc: Global, whole: &Module, sigs: &[HostSig]) -> Result<Parts, Li
     })
 }
 
+/// The parts of a module, and what an instance of it begins with.
+fn made_of(alloc: Global, whole: &Module, sigs: &[HostSig]) -> Result<Made, LinkFault>
+    requires valid { IsValid (module_view whole.now) }
+    requires within { IsWithin (module_view whole.now) }
+    requires counted { IsCounted (module_view whole.now) }
+    requires few { length sigs.now < 2 ^ 32 }
+    requires busy { AreBusy sigs.now }
+    ensures ready { IfOk result
+        (λ made. IsReady
+        (module_view whole.now) made.parts.functions.items made.parts.classes.items made.parts.most
+        made.parts.main made.beginning) }
+    ensures linked { IfOk result
+        (λ made. IsLinked sigs.now (module_view whole.now)
+        (link_of (module_view whole.now) made.parts.functions.items made.parts.main)) }
+    ensures fault { IfErr result (IsFault sigs.now (module_view whole.now)) }
+{
+    let parts = parts_of(alloc, whole, sigs)?;
+    let beginning = beginning_of(alloc, whole)?;
+    Ok(Made { parts, beginning })
+}
+
 /// Links a module against the calls that a host offers: WebAssembly Core 1.0, chapter 4.5.4, where imports
 /// are the host's alone.
 ///
@@ -137,15 +166,15 @@ pub fn link(alloc: Global, valid: Valid, sigs: &[HostSig]) -> Result<Linked, Lin
     ensures complete { IsLinkable sigs.now (module_view valid) → IfErr result (λ e. e ≡ LinkFault.Memory) }
 {
     let whole = valid.module();
-    let parts = parts_of(alloc, whole, sigs)?;
-    let beginning = beginning_of(alloc, whole)?;
+    let made = made_of(alloc, whole, sigs)?;
+    let parts = made.parts;
     Ok(Linked {
         valid,
         functions: parts.functions,
         classes: parts.classes,
         most: parts.most,
         main: parts.main,
-        beginning,
+        beginning: made.beginning,
     })
 }
 

@@ -1,5 +1,5 @@
 -- The same for the instructions of the code, by what they stand for.
-use Rattle.std.proofs.Common.{◌≡◌, ℕ, suc, zero, ◌+◌, ◌≤◌, ◌<◌, List, [], ◌∷◌, length, get_or, drop, ap, sym, ◌∙◌, subst, arith, add-one, drop-cons, Bool, false, Option, None, Result, IfOk}
+use Rattle.std.proofs.Common.{◌≡◌, ℕ, suc, zero, ◌+◌, ◌≤◌, ◌<◌, List, [], ◌∷◌, length, get_or, drop, ap, sym, ◌∙◌, subst, arith, add-one, drop-cons, Bool, false, Option, None, Result, Ok, Err, IfOk}
 use Rattle.std.proofs.lemmas.Result.{IfOk-weaker}
 use Rattle.std.proofs.Math.ListN.{drop_of_length-le}
 use Rattle.wasm_module.specs.values.Syntax.{Op, Ops, next, block, loop, if_else, nesting, ops_nesting}
@@ -28,6 +28,11 @@ none_seen {cx} {labels} {s = s} e h = subst (λ (z : Op). NoImage cx labels z s)
 pub applied : {E : Type 0} (r : Result Bool E) (cx : Context) (labels : List (Option ValType)) (seen op : Op) (ins outs : List ValType) (s n : State) → seen ≡ op → TypedOp cx labels op ins outs → Only cx labels op ins outs
     → IfOk r (λ b. Applies ins outs s n b) → IfOk r (λ b. Checks cx labels seen s n b)
 applied r cx labels seen op ins outs s n e typed only h = IfOk-weaker r (λ b. Applies ins outs s n b) (λ b. Checks cx labels seen s n b) (λ b a. checks_seen cx labels seen op s n b e (only_checks s n typed only b a)) h
+
+-- what holds of each value holds of that of a call
+pub whatever : {X E : Type 0} {P : X → Type 0} (r : Result X E) → ((x : X) → P x) → IfOk r P
+whatever (Ok x) all = all x
+whatever (Err e) all = tt
 
 pub block_image : {cx : Context} {labels : List (Option ValType)} {kind : Option ValType} {body : Ops} {s m n : State} → Typed cx (kind ∷ labels) body [] (types_of kind) → m ≡ s → n ≡ pushed (types_of kind) m → Image cx labels (block kind body) s n
 block_image {kind = kind} {s = s} t e f = only_image (block_typed t) only_block s (popped_none s) (f ∙ ap (λ z. pushed (types_of kind) z) e)

@@ -1,12 +1,12 @@
 -- From groups of rules to a valid module, and back.
-use Rattle.std.proofs.Common.{◌≡◌, ℕ, suc, zero, ◌+◌, ◌-◌, ◌≤◌, List, [], ◌∷◌, ◌++◌, length, take, map, refl, ap, sym, ◌∙◌, subst, arith, length-append, Bool, true, false, Option, Some, None, slice_get, option_map, Result, IfOk}
+use Rattle.std.proofs.Common.{◌≡◌, ℕ, suc, zero, ◌-◌, List, [], ◌∷◌, ◌++◌, length, take, map, refl, ap, sym, ◌∙◌, subst, arith, length-append, Bool, true, false, Option, Some, slice_get, option_map, Result, IfOk}
 use Rattle.std.proofs.lemmas.List.{length-map}
 use Rattle.std.proofs.lemmas.Option.{slice_get-map, slice_get_within}
 use Rattle.std.proofs.lemmas.Result.{IfOk-weaker}
 use Rattle.std.proofs.Math.Seq.{take-append_seam}
 use Rattle.wasm_module.specs.sections.Entries.{Function, code_view, global_view}
 use Rattle.wasm_module.specs.values.Syntax.{Ops}
-use Rattle.wasm_module.specs.sections.Sections.{Syntax, module_view}
+use Rattle.wasm_module.specs.sections.Sections.{module_view}
 use Rattle.wasm_module.specs.declared.sections.codes.Code.{Code}
 use Rattle.wasm_module.specs.declared.sections.exports.Export.{Export}
 use Rattle.wasm_module.specs.declared.sections.module.Module.{Module}
@@ -65,6 +65,31 @@ valid_from m d s names functions = record {
   one_table = d.one_table;
   one_memory = d.one_memory;
 }
+
+-- where a group fails, the module is not valid
+pub not_declared : (m : Module) (cx : Context) → cx ≡ module_context (module_view m) → (AreDeclared cx (module_view m) → ⊥) → IsValid (module_view m) → ⊥
+not_declared m cx is bad h = bad (subst (λ (z : Context). AreDeclared z (module_view m)) (sym is) (record {
+  funcs = h.funcs;
+  counts = h.counts;
+  tables = h.tables;
+  memories = h.memories;
+  one_table = h.one_table;
+  one_memory = h.one_memory;
+}))
+
+pub not_made : (m : Module) (cx : Context) → cx ≡ module_context (module_view m) → (imported : List GlobalType) → imported ≡ imported_globals (module_view m) → (AreMade cx imported (module_view m) → ⊥) → IsValid (module_view m) → ⊥
+not_made m cx is imported same bad h =
+    let made : AreMade (module_context (module_view m)) (imported_globals (module_view m)) (module_view m) = record {
+      globals = h.globals;
+      elements = h.elements;
+      segments = h.segments;
+      start = h.start;
+      exports = h.exports;
+    } in
+    bad (subst (λ (z : List GlobalType). AreMade cx z (module_view m)) (sym same) (subst (λ (z : Context). AreMade z (imported_globals (module_view m)) (module_view m)) (sym is) made))
+
+pub not_named : (m : Module) (exports : List Export) → exports ≡ m.exports → (NamesDiffer exports → ⊥) → IsValid (module_view m) → ⊥
+not_named m exports same bad h = bad (subst NamesDiffer (sym same) h.names)
 
 -- by what the code has at hand
 module _ (m : Module) (cx : Context) (is : cx ≡ module_context (module_view m)) where

@@ -7,6 +7,7 @@ ghost use Rattle.wasm_module.specs.inner.Skimmed.{SpellsSome};
 ghost use Rattle.wasm_module.specs.sections.Sections.{AreOf, AreSections, Section as SectionView, Spells};
 ghost use Rattle.wasm_module.specs.sections.Sections.{Syntax, module_view, opening};
 ghost use Rattle.wasm_module.specs.sections.Limits.{IsTooLarge, IsWithin, PassesFirst, WithinBytes};
+ghost use Rattle.wasm_module.specs.sections.Limits.{WithinNesting};
 ghost use Rattle.wasm_module.specs.inner.Parts.{section_view};
 ghost use Rattle.wasm_module.specs.declared.sections.module.Limit.{Limit};
 
@@ -14,7 +15,7 @@ use crate::sections::expressions::{Limited, Skimmed};
 use crate::sections::limits::passed_limit;
 use crate::sections::module::{DecodeFault, Limit, Module};
 use crate::sections::outline::{Section, are_ordered, split};
-use crate::sections::parts::parts_of;
+use crate::sections::parts::{DefinedOf, parts_of};
 use crate::values::read::ReadFault;
 use std::alloc::Global;
 
@@ -61,12 +62,23 @@ pub fn decode(alloc: Global, bytes: &[u8]) -> Result<Module, DecodeFault>
     let list = sections_of(alloc, bytes)?;
     let sections = list.as_slice();
     match module_of(alloc, sections) {
-        Ok(module) => match passed_limit(&module) {
-            Some(limit) => Err(DecodeFault::TooLarge(limit)),
-            None => Ok(module),
-        },
+        Ok(module) => within_limits(module),
         Err(ReadFault::Malformed) => Err(refusal(alloc, sections)),
         Err(ReadFault::Memory) => Err(DecodeFault::Memory),
+    }
+}
+
+// The module, where it passes no limit.
+fn within_limits(whole: Module) -> Result<Module, DecodeFault>
+    requires { WithinNesting (module_view whole) }
+    ensures same { IfOk result (λ found. found ≡ whole) }
+    ensures within { IfOk result (λ found. IsWithin (module_view found)) }
+    ensures too_large { IfErr result (λ e. (limit : Limit) × (e ≡ DecodeFault.TooLarge limit)
+        × PassesFirst limit (module_view whole)) }
+{
+    match passed_limit(&whole) {
+        Some(limit) => Err(DecodeFault::TooLarge(limit)),
+        None => Ok(whole),
     }
 }
 
@@ -110,17 +122,17 @@ fn module_of(alloc: Global, sections: &[Section]) -> Result<Module, ReadFault>
 {
     let parts = parts_of::<Limited>(alloc, sections)?;
     Ok(Module {
-        types: parts.types,
-        imports: parts.imports,
-        funcs: parts.funcs,
-        tables: parts.tables,
-        memories: parts.memories,
-        globals: parts.globals,
-        exports: parts.exports,
-        start: parts.start,
-        elements: parts.elements,
-        codes: parts.codes,
-        segments: parts.segments,
+        types: parts.declared.types,
+        imports: parts.declared.imports,
+        funcs: parts.declared.funcs,
+        tables: parts.declared.tables,
+        memories: parts.declared.memories,
+        globals: parts.defined.globals,
+        exports: parts.defined.exports,
+        start: parts.defined.start,
+        elements: parts.defined.elements,
+        codes: parts.defined.codes,
+        segments: parts.defined.segments,
     })
 }
 
@@ -133,7 +145,14 @@ fn skim_module(alloc: Global, sections: &[Section]) -> Result<u64, ReadFault>
         → AreOf SpellsSome (map section_view sections.now) m → ⊥) }
 {
     let parts = parts_of::<Skimmed>(alloc, sections)?;
-    Ok(parts.codes.len())
+    Ok(code_count(parts.defined))
+}
+
+// The number of codes, of which nothing else is needed.
+fn code_count(defined: DefinedOf<Skimmed>) -> u64
+    ensures { result ≡ length defined.codes }
+{
+    defined.codes.len()
 }
 
 // Why sections are refused that hold no module within the limit of nesting.

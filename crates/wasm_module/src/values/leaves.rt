@@ -26,27 +26,13 @@ pub(crate) fn variable(cursor: &mut Cursor, code: u8) -> Result<Instr, ReadFault
         → BeginsNone SpellsOp (code ∷ cursor.old.0)) }
     ensures cause { IfErr result (λ e. e ≡ ReadFault.Malformed) }
 {
+    let index = cursor.leb_u32()?;
     match code {
-        0x20 => {
-            let index = cursor.leb_u32()?;
-            Ok(Instr::LocalGet(index))
-        }
-        0x21 => {
-            let index = cursor.leb_u32()?;
-            Ok(Instr::LocalSet(index))
-        }
-        0x22 => {
-            let index = cursor.leb_u32()?;
-            Ok(Instr::LocalTee(index))
-        }
-        0x23 => {
-            let index = cursor.leb_u32()?;
-            Ok(Instr::GlobalGet(index))
-        }
-        _ => {
-            let index = cursor.leb_u32()?;
-            Ok(Instr::GlobalSet(index))
-        }
+        0x20 => Ok(Instr::LocalGet(index)),
+        0x21 => Ok(Instr::LocalSet(index)),
+        0x22 => Ok(Instr::LocalTee(index)),
+        0x23 => Ok(Instr::GlobalGet(index)),
+        _ => Ok(Instr::GlobalSet(index)),
     }
 }
 

@@ -10,6 +10,27 @@ use crate::typing::workspace::Workspace;
 use std::alloc::{AllocError, Global};
 use wasm_module::Code;
 
+// Whether each code is that of a function of the type beside it, in this room.
+fn are_functions_in(
+    work: &mut Workspace,
+    context: &Context,
+    kinds: &[u32],
+    codes: &[Code],
+) -> Result<bool, AllocError>
+    ensures { IfOk result
+        (λ b. Exactly (AreFunctions (context_view context.now) kinds.now codes.now (length kinds.now)) b) }
+{
+    let mut at = 0usize;
+    let count = kinds.len().min(codes.len());
+    while at < count {
+        if !is_function(work, context, kinds[at], &codes[at])? {
+            return Ok(false);
+        }
+        at += 1;
+    }
+    Ok(true)
+}
+
 /// Whether each code is that of a function of the type beside it.
 pub(crate) fn are_functions(
     alloc: Global,
@@ -21,13 +42,5 @@ pub(crate) fn are_functions(
         (λ b. Exactly (AreFunctions (context_view context.now) kinds.now codes.now (length kinds.now)) b) }
 {
     let mut work = Workspace::new(alloc);
-    let mut at = 0usize;
-    let count = kinds.len().min(codes.len());
-    while at < count {
-        if !is_function(&mut work, context, kinds[at], &codes[at])? {
-            return Ok(false);
-        }
-        at += 1;
-    }
-    Ok(true)
+    are_functions_in(&mut work, context, kinds, codes)
 }

@@ -3,6 +3,8 @@ ghost use Rattle.std.specs.Prelude.{◌≡◌, IfOk, IfErr, MatchResult};
 ghost use Rattle.wasm_module.specs.sections.Sections.{module_view};
 ghost use Rattle.wasm_validate.specs.modules.Floats.{HasNoFloat};
 ghost use Rattle.wasm_validate.specs.modules.Modules.{IsValid};
+ghost use Rattle.wasm_validate.specs.typing.Context.{module_context};
+ghost use Rattle.wasm_validate.specs.typing.Views.{context_view};
 ghost use Rattle.wasm_validate.specs.inner.Stands.{Exactly};
 ghost use Rattle.wasm_validate.specs.declared.modules.valid.ValidFault.{ValidFault};
 
@@ -59,16 +61,17 @@ pub enum ValidFault {
     Memory(Module),
 }
 
-fn is_valid(alloc: Global, whole: &Module) -> Result<bool, AllocError>
+// Whether the module of this context is valid.
+fn is_valid_in(alloc: Global, context: &Context, whole: &Module) -> Result<bool, AllocError>
+    requires { context_view context.now ≡ module_context (module_view whole.now) }
     ensures { IfOk result (λ b. Exactly (IsValid (module_view whole.now)) b) }
 {
-    let context = Context::of(alloc, whole)?;
-    if !are_declared(&context, whole) {
+    if !are_declared(context, whole) {
         return Ok(false);
     }
     let own = whole.globals.as_slice().len();
     let imported = context.imported(own);
-    if !are_made(&context, imported, whole) {
+    if !are_made(context, imported, whole) {
         return Ok(false);
     }
     if !names_differ(alloc, whole.exports.as_slice())? {
@@ -76,10 +79,17 @@ fn is_valid(alloc: Global, whole: &Module) -> Result<bool, AllocError>
     }
     are_functions(
         alloc,
-        &context,
+        context,
         whole.funcs.as_slice(),
         whole.codes.as_slice(),
     )
+}
+
+fn is_valid(alloc: Global, whole: &Module) -> Result<bool, AllocError>
+    ensures { IfOk result (λ b. Exactly (IsValid (module_view whole.now)) b) }
+{
+    let context = Context::of(alloc, whole)?;
+    is_valid_in(alloc, &context, whole)
 }
 
 /// Whether a module is without floats and valid: WebAssembly Core 1.0, chapter 3. Floats are looked for

@@ -3,41 +3,31 @@ use Rattle.std.proofs.lemmas.List.{length-map}
 use Rattle.std.proofs.lemmas.Result.{err_from_is_err_and}
 use Rattle.wasm_module.proofs.sections.parts.parts_of.Goals as goal
 
-pub returns-in_err-types-clause-malformed : goal.returns-in_err-types-clause-malformed
-returns-in_err-types-clause-malformed g c = let p = err_from_is_err_and c.from_residual.result c.from_residual.ensures.1 in rw (p.1, p.2) (λ is m a. c.in_err-types.ensures.malformed is m.types a.types)
+pub returns-in_err-declared-clause-malformed : goal.returns-in_err-declared-clause-malformed
+returns-in_err-declared-clause-malformed g c = let p = err_from_is_err_and c.from_residual.result c.from_residual.ensures.1 in rw (p.1, p.2) (λ is m a. c.in_err-declared.ensures.malformed is
+    (record { types = m.types; imports = m.imports; funcs = m.funcs; tables = m.tables; memories = m.memories })
+    (record { types = a.types; imports = a.imports; funcs = a.funcs; tables = a.tables; memories = a.memories }))
 
-pub returns-in_err-imports-clause-malformed : goal.returns-in_err-imports-clause-malformed
-returns-in_err-imports-clause-malformed g c = let p = err_from_is_err_and c.from_residual-in_err-imports.result c.from_residual-in_err-imports.ensures.1 in rw (p.1, p.2) (λ is m a. c.in_err-imports.ensures.malformed is m.imports a.imports)
+pub returns-in_err-defined-clause-malformed : goal.returns-in_err-defined-clause-malformed
+returns-in_err-defined-clause-malformed g c = let p = err_from_is_err_and c.from_residual-in_err-defined.result c.from_residual-in_err-defined.ensures.1 in rw (p.1, p.2) (λ is m a.
+    let funcs = ap length (c.in_ok-declared.ensures.only m.funcs a.funcs) in
+    c.in_err-defined.ensures.malformed is m a (sym a.functions ∙ funcs ∙ sym c.len.ensures))
 
-pub returns-in_err-funcs-clause-malformed : goal.returns-in_err-funcs-clause-malformed
-returns-in_err-funcs-clause-malformed g c = let p = err_from_is_err_and c.from_residual-in_err-funcs.result c.from_residual-in_err-funcs.ensures.1 in rw (p.1, p.2) (λ is m a. c.in_err-funcs.ensures.malformed is m.funcs a.funcs)
-
-pub returns-in_err-tables-clause-malformed : goal.returns-in_err-tables-clause-malformed
-returns-in_err-tables-clause-malformed g c = let p = err_from_is_err_and c.from_residual-in_err-tables.result c.from_residual-in_err-tables.ensures.1 in rw (p.1, p.2) (λ is m a. c.in_err-tables.ensures.malformed is m.tables a.tables)
-
-pub returns-in_err-memories-clause-malformed : goal.returns-in_err-memories-clause-malformed
-returns-in_err-memories-clause-malformed g c = let p = err_from_is_err_and c.from_residual-in_err-memories.result c.from_residual-in_err-memories.ensures.1 in rw (p.1, p.2) (λ is m a. c.in_err-memories.ensures.malformed is m.memories a.memories)
-
-pub returns-in_err-globals-clause-malformed : goal.returns-in_err-globals-clause-malformed
-returns-in_err-globals-clause-malformed g c = let p = err_from_is_err_and c.from_residual-in_err-globals.result c.from_residual-in_err-globals.ensures.1 in rw (p.1, p.2) (λ is m a. c.in_err-globals.ensures.malformed is m.globals a.globals)
-
-pub returns-in_err-exports-clause-malformed : goal.returns-in_err-exports-clause-malformed
-returns-in_err-exports-clause-malformed g c = let p = err_from_is_err_and c.from_residual-in_err-exports.result c.from_residual-in_err-exports.ensures.1 in rw (p.1, p.2) (λ is m a. c.in_err-exports.ensures.malformed is m.exports a.exports)
-
-pub returns-in_err-start-clause-malformed : goal.returns-in_err-start-clause-malformed
-returns-in_err-start-clause-malformed g c = let p = err_from_is_err_and c.from_residual-in_err-start.result c.from_residual-in_err-start.ensures.1 in rw (p.1, p.2) (λ is m a. c.in_err-start.ensures.malformed is m.start a.start)
-
-pub returns-in_err-elements-clause-malformed : goal.returns-in_err-elements-clause-malformed
-returns-in_err-elements-clause-malformed g c = let p = err_from_is_err_and c.from_residual-in_err-elements.result c.from_residual-in_err-elements.ensures.1 in rw (p.1, p.2) (λ is m a. c.in_err-elements.ensures.malformed is m.elements a.elements)
-
-pub returns-in_err-codes-clause-malformed : goal.returns-in_err-codes-clause-malformed
-returns-in_err-codes-clause-malformed g c = let p = err_from_is_err_and c.from_residual-in_err-codes.result c.from_residual-in_err-codes.ensures.1 in rw (p.1, p.2) (λ is m a. c.in_err-codes.ensures.malformed is m.codes a.codes)
-
-pub returns-in_err-segments-clause-malformed : goal.returns-in_err-segments-clause-malformed
-returns-in_err-segments-clause-malformed g c = let p = err_from_is_err_and c.from_residual-in_err-segments.result c.from_residual-in_err-segments.ensures.1 in rw (p.1, p.2) (λ is m a. c.in_err-segments.ensures.malformed is m.segments a.segments)
-
-pub returns-then-len-clause-malformed : goal.returns-then-len-clause-malformed
-returns-then-len-clause-malformed g c = λ is m a.
-    let funcs = ap length (c.in_ok-funcs.ensures.only m.funcs a.funcs) ∙ length-map c.in_ok-funcs.funcs _ in
-    let codes = ap length (c.in_ok-codes.ensures.only m.codes a.codes) ∙ length-map c.in_ok-codes.codes _ in
-    c.if-len.true (c.len.ensures ∙ sym funcs ∙ a.functions ∙ codes ∙ sym c.len-2.ensures)
+pub returns-clause-found : goal.returns-clause-found
+returns-clause-found g c =
+    let d = c.in_ok-declared.ensures.found in
+    let e = c.in_ok-defined.ensures.found in
+    record {
+      types = d.types;
+      imports = d.imports;
+      funcs = d.funcs;
+      tables = d.tables;
+      memories = d.memories;
+      globals = e.globals_held;
+      exports = e.exports_held;
+      start = e.start_held;
+      elements = e.elements_held;
+      codes = e.codes_held;
+      segments = e.segments_held;
+      functions = sym c.len.ensures ∙ sym c.in_ok-defined.ensures.counted ∙ sym (length-map c.in_ok-defined.defined.codes _);
+    }

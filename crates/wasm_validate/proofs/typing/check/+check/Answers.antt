@@ -1,12 +1,13 @@
-use Rattle.std.proofs.Common.{rules, arith, ◌≡◌, [], ◌∷◌, ap, sym, ◌∙◌, ◌≤◌, drop}
+use Rattle.std.proofs.Common.{rules, arith, ◌≡◌, refl, [], ◌∷◌, ap, sym, ◌∙◌, ◌≤◌, drop}
+use Rattle.std.proofs.lemmas.Result.{IfOk-weaker}
 use Rattle.wasm_module.specs.values.Syntax.{nesting, ops_nesting, i32_const, i64_const}
 use Rattle.wasm_module.specs.values.View.{instr_view, items_view, instrs_view}
 use Rattle.wasm_module.specs.declared.values.types.ValType.TheVariants.{I32, I64}
-use Rattle.wasm_module.proofs.Views.{view_instrs, view_unreachable, view_nop, view_i32_const, view_i64_const, view_drop_value, view_return, view_block, view_loop, view_if, view_br, view_br_table, view_float_memory, view_float_const, view_float_plain}
+use Rattle.wasm_module.proofs.Views.{view_br_if, view_call, view_call_indirect, view_global_get, view_global_set, view_load, view_local_get, view_local_set, view_local_tee, view_memory_grow, view_memory_size, view_numeric, view_select, view_store, view_instrs, view_unreachable, view_nop, view_i32_const, view_i64_const, view_drop_value, view_return, view_block, view_loop, view_if, view_br, view_br_table, view_float_memory, view_float_const, view_float_plain}
 use Rattle.wasm_validate.specs.typing.Typing.{i32_const_typed, i64_const_typed}
 use Rattle.wasm_validate.proofs.Images.{only_none, never}
 use Rattle.wasm_validate.proofs.Instructions.{only_i32_const, only_i64_const, only_if, nop_image, unreachable_image, no_float_memory, no_float_const, no_float_plain}
-use Rattle.wasm_validate.proofs.Seen.{checks_seen, image_seen, none_seen, applied, block_image, loop_image, block_none, loop_none, if_image, if_none_1, if_none_2, list_more, list_stop, list_end, nesting_at, body_yes, body_no, body_stops, left_as_before}
+use Rattle.wasm_validate.proofs.Seen.{checks_seen, image_seen, none_seen, applied, block_image, loop_image, block_none, loop_none, if_image, if_none_1, if_none_2, list_more, list_stop, list_end, nesting_at, body_yes, body_no, body_stops, left_as_before, whatever}
 use Rattle.wasm_validate.proofs.typing.check.+check.Goals as goal
 
 pub list-loop-at-preserved : goal.list-loop-at-preserved
@@ -115,3 +116,93 @@ instr-returns-in-FloatConst-clause-typed t c = none_seen (ap instr_view c.in-Flo
 
 pub instr-returns-in-FloatPlain-clause-typed : goal.instr-returns-in-FloatPlain-clause-typed
 instr-returns-in-FloatPlain-clause-typed t c = none_seen (ap instr_view c.in-FloatPlain.is ∙ view_float_plain _) (never _ no_float_plain)
+
+pub instr-returns-in-BrIf-clause-typed : goal.instr-returns-in-BrIf-clause-typed
+instr-returns-in-BrIf-clause-typed t c = IfOk-weaker c.br_if.result _ _ (λ b h. checks_seen _ _ _ _ _ _ b (ap instr_view c.in-BrIf.is ∙ view_br_if _) (h _)) c.br_if.ensures
+
+pub instr-returns-in-BrIf-clause-labels : goal.instr-returns-in-BrIf-clause-labels
+instr-returns-in-BrIf-clause-labels t c = whatever c.br_if.result (λ b yes. refl)
+
+pub instr-returns-in-Call-clause-typed : goal.instr-returns-in-Call-clause-typed
+instr-returns-in-Call-clause-typed t c = IfOk-weaker c.call.result _ _ (λ b h. checks_seen _ _ _ _ _ _ b (ap instr_view c.in-Call.is ∙ view_call _) (h _)) c.call.ensures
+
+pub instr-returns-in-Call-clause-labels : goal.instr-returns-in-Call-clause-labels
+instr-returns-in-Call-clause-labels t c = whatever c.call.result (λ b yes. refl)
+
+pub instr-returns-in-CallIndirect-clause-typed : goal.instr-returns-in-CallIndirect-clause-typed
+instr-returns-in-CallIndirect-clause-typed t c = IfOk-weaker c.call_indirect.result _ _ (λ b h. checks_seen _ _ _ _ _ _ b (ap instr_view c.in-CallIndirect.is ∙ view_call_indirect _) (h _)) c.call_indirect.ensures
+
+pub instr-returns-in-CallIndirect-clause-labels : goal.instr-returns-in-CallIndirect-clause-labels
+instr-returns-in-CallIndirect-clause-labels t c = whatever c.call_indirect.result (λ b yes. refl)
+
+pub instr-returns-in-Select-clause-typed : goal.instr-returns-in-Select-clause-typed
+instr-returns-in-Select-clause-typed t c = IfOk-weaker c.select.result _ _ (λ b h. checks_seen _ _ _ _ _ _ b (ap instr_view c.in-Select.is ∙ view_select) (h _ _)) c.select.ensures
+
+pub instr-returns-in-Select-clause-labels : goal.instr-returns-in-Select-clause-labels
+instr-returns-in-Select-clause-labels t c = whatever c.select.result (λ b yes. refl)
+
+pub instr-returns-in-LocalGet-clause-typed : goal.instr-returns-in-LocalGet-clause-typed
+instr-returns-in-LocalGet-clause-typed t c = IfOk-weaker c.local_get.result _ _ (λ b h. checks_seen _ _ _ _ _ _ b (ap instr_view c.in-LocalGet.is ∙ view_local_get _) (h _)) c.local_get.ensures
+
+pub instr-returns-in-LocalGet-clause-labels : goal.instr-returns-in-LocalGet-clause-labels
+instr-returns-in-LocalGet-clause-labels t c = whatever c.local_get.result (λ b yes. refl)
+
+pub instr-returns-in-LocalSet-clause-typed : goal.instr-returns-in-LocalSet-clause-typed
+instr-returns-in-LocalSet-clause-typed t c = IfOk-weaker c.local_set.result _ _ (λ b h. checks_seen _ _ _ _ _ _ b (ap instr_view c.in-LocalSet.is ∙ view_local_set _) (h _)) c.local_set.ensures
+
+pub instr-returns-in-LocalSet-clause-labels : goal.instr-returns-in-LocalSet-clause-labels
+instr-returns-in-LocalSet-clause-labels t c = whatever c.local_set.result (λ b yes. refl)
+
+pub instr-returns-in-LocalTee-clause-typed : goal.instr-returns-in-LocalTee-clause-typed
+instr-returns-in-LocalTee-clause-typed t c = IfOk-weaker c.local_tee.result _ _ (λ b h. checks_seen _ _ _ _ _ _ b (ap instr_view c.in-LocalTee.is ∙ view_local_tee _) (h _)) c.local_tee.ensures
+
+pub instr-returns-in-LocalTee-clause-labels : goal.instr-returns-in-LocalTee-clause-labels
+instr-returns-in-LocalTee-clause-labels t c = whatever c.local_tee.result (λ b yes. refl)
+
+pub instr-returns-in-GlobalGet-clause-typed : goal.instr-returns-in-GlobalGet-clause-typed
+instr-returns-in-GlobalGet-clause-typed t c = IfOk-weaker c.global_get.result _ _ (λ b h. checks_seen _ _ _ _ _ _ b (ap instr_view c.in-GlobalGet.is ∙ view_global_get _) (h _)) c.global_get.ensures
+
+pub instr-returns-in-GlobalGet-clause-labels : goal.instr-returns-in-GlobalGet-clause-labels
+instr-returns-in-GlobalGet-clause-labels t c = whatever c.global_get.result (λ b yes. refl)
+
+pub instr-returns-in-GlobalSet-clause-typed : goal.instr-returns-in-GlobalSet-clause-typed
+instr-returns-in-GlobalSet-clause-typed t c = IfOk-weaker c.global_set.result _ _ (λ b h. checks_seen _ _ _ _ _ _ b (ap instr_view c.in-GlobalSet.is ∙ view_global_set _) (h _)) c.global_set.ensures
+
+pub instr-returns-in-GlobalSet-clause-labels : goal.instr-returns-in-GlobalSet-clause-labels
+instr-returns-in-GlobalSet-clause-labels t c = whatever c.global_set.result (λ b yes. refl)
+
+pub instr-returns-in-Load-clause-typed : goal.instr-returns-in-Load-clause-typed
+instr-returns-in-Load-clause-typed t c = IfOk-weaker c.load.result _ _ (λ b h. checks_seen _ _ _ _ _ _ b (ap instr_view c.in-Load.is ∙ view_load _ _ _) (h _ _)) c.load.ensures
+
+pub instr-returns-in-Load-clause-labels : goal.instr-returns-in-Load-clause-labels
+instr-returns-in-Load-clause-labels t c = whatever c.load.result (λ b yes. refl)
+
+pub instr-returns-in-Store-clause-typed : goal.instr-returns-in-Store-clause-typed
+instr-returns-in-Store-clause-typed t c = IfOk-weaker c.store.result _ _ (λ b h. checks_seen _ _ _ _ _ _ b (ap instr_view c.in-Store.is ∙ view_store _ _ _) (h _ _)) c.store.ensures
+
+pub instr-returns-in-Store-clause-labels : goal.instr-returns-in-Store-clause-labels
+instr-returns-in-Store-clause-labels t c = whatever c.store.result (λ b yes. refl)
+
+pub instr-returns-in-MemorySize-clause-typed : goal.instr-returns-in-MemorySize-clause-typed
+instr-returns-in-MemorySize-clause-typed t c = IfOk-weaker c.memory_size.result _ _ (λ b h. checks_seen _ _ _ _ _ _ b (ap instr_view c.in-MemorySize.is ∙ view_memory_size) (h _)) c.memory_size.ensures
+
+pub instr-returns-in-MemorySize-clause-labels : goal.instr-returns-in-MemorySize-clause-labels
+instr-returns-in-MemorySize-clause-labels t c = whatever c.memory_size.result (λ b yes. refl)
+
+pub instr-returns-in-MemoryGrow-clause-typed : goal.instr-returns-in-MemoryGrow-clause-typed
+instr-returns-in-MemoryGrow-clause-typed t c = IfOk-weaker c.memory_grow.result _ _ (λ b h. checks_seen _ _ _ _ _ _ b (ap instr_view c.in-MemoryGrow.is ∙ view_memory_grow) (h _)) c.memory_grow.ensures
+
+pub instr-returns-in-MemoryGrow-clause-labels : goal.instr-returns-in-MemoryGrow-clause-labels
+instr-returns-in-MemoryGrow-clause-labels t c = whatever c.memory_grow.result (λ b yes. refl)
+
+pub instr-returns-in-Numeric-clause-typed : goal.instr-returns-in-Numeric-clause-typed
+instr-returns-in-Numeric-clause-typed t c = IfOk-weaker c.numeric.result _ _ (λ b h. checks_seen _ _ _ _ _ _ b (ap instr_view c.in-Numeric.is ∙ view_numeric _) (h _ _)) c.numeric.ensures
+
+pub instr-returns-in-Numeric-clause-labels : goal.instr-returns-in-Numeric-clause-labels
+instr-returns-in-Numeric-clause-labels t c = whatever c.numeric.result (λ b yes. refl)
+
+pub instr-returns-in-I32Const-clause-labels : goal.instr-returns-in-I32Const-clause-labels
+instr-returns-in-I32Const-clause-labels t c = whatever c.apply.result (λ b yes. refl)
+
+pub instr-returns-in-I64Const-clause-labels : goal.instr-returns-in-I64Const-clause-labels
+instr-returns-in-I64Const-clause-labels t c = whatever c.apply-in-I64Const.result (λ b yes. refl)

@@ -1,7 +1,7 @@
-use Rattle.std.proofs.Common.{◌≡◌, ℕ, List, length, ap, ◌∙◌, subst}
+use Rattle.std.proofs.Common.{◌≡◌, ℕ, List, length, ap, sym, ◌∙◌, subst}
 use Rattle.std.proofs.lemmas.Result.{err_from_is_err_and}
-use Rattle.byte_fields.specs.Front.{BeginsNone, BeginsOnly}
-use Rattle.wasm_module.proofs.Sizes.{sized_short, sized_none, sized_only, sized_left}
+use Rattle.byte_fields.specs.Front.{Begins, BeginsNone, BeginsOnly}
+use Rattle.wasm_module.proofs.Sizes.{sized_found, sized_short, sized_none, sized_only, sized_left, none_left}
 use Rattle.wasm_module.proofs.values.combined.MeasuredForm.read.Goals as goal
 
 pub returns-in_err-content-clause-malformed : goal.returns-in_err-content-clause-malformed
@@ -15,3 +15,6 @@ returns-then-left-eq0-clause-only g c = let start : c.over-inside.result.0 ≡ c
 
 pub returns-else-left-eq0-clause-malformed : goal.returns-else-left-eq0-clause-malformed
 returns-else-left-eq0-clause-malformed g c = let start : c.over-inside.result.0 ≡ c.in_ok-content.content.now = ap (λ (z : List ℕ × ℕ). z.0) c.over-inside.ensures in let P : List ℕ → Type 0 = λ z. BeginsOnly g.F.Form.spells z (g.F.Form.seen c.in_ok-value.value) c.read.new.cursor.0 in λ _. sized_left g.F.Form.spells c.args.cursor.now.0 c.in_ok-content.content.now c.counted.new.cursor.0 c.read.new.cursor.0 (g.F.Form.seen c.in_ok-value.value) c.in_ok-content.ensures.only (subst P start c.in_ok-value.ensures.only) (λ none. c.if-left-eq0.false (c.left.ensures ∙ ap length none))
+
+pub returns-then-left-eq0-clause-found : goal.returns-then-left-eq0-clause-found
+returns-then-left-eq0-clause-found g c = let start : c.over-inside.result.0 ≡ c.in_ok-content.content.now = ap (λ (z : List ℕ × ℕ). z.0) c.over-inside.ensures in let P : List ℕ → Type 0 = λ z. Begins g.F.Form.spells z (g.F.Form.seen c.in_ok-value.value) c.read.new.cursor.0 in sized_found g.F.Form.spells c.args.cursor.now.0 c.in_ok-content.content.now c.counted.new.cursor.0 c.read.new.cursor.0 (g.F.Form.seen c.in_ok-value.value) c.in_ok-content.ensures.found (subst P start c.in_ok-value.ensures.found) (none_left c.read.new.cursor.0 (sym c.left.ensures ∙ c.if-left-eq0.true))

@@ -1,7 +1,7 @@
-use Rattle.std.proofs.Common.{length, ◌-◌, ◌≤◌}
+use Rattle.std.proofs.Common.{◌-◌, ◌≤◌}
 use Rattle.wasm_validate.specs.inner.Groups.{AreFunctions}
 use Rattle.wasm_validate.specs.typing.Views.{context_view}
-use Rattle.wasm_validate.proofs.modules.codes.are_functions.Given as goal
+use Rattle.wasm_validate.proofs.modules.codes.are_functions_in.Given as goal
 
 abbrev pub invariant-loop-at : goal.invariant-loop-at
 invariant-loop-at l = record {
