@@ -1,6 +1,8 @@
 -- What was written of a content, piece by piece.
-use Rattle.std.proofs.Common.{◌≡◌, ℕ, List, [], ◌∷◌, ◌++◌, map, length, sym, ap, ◌∙◌, append_assoc}
-use Rattle.std.specs.List.{flat_map}
+use Rattle.std.proofs.Common.{◌≡◌, ℕ, ◌+◌, ◌<◌, ◌≤◌, List, [], ◌∷◌, ◌++◌, map, take, length, get_or, sym, ap, subst, ◌∙◌, append_assoc, append-nil}
+use Rattle.std.specs.List.{AllByRecursion, flat_map}
+use Rattle.std.proofs.lemmas.List.{flat_map_more, take_all, take_more}
+use Rattle.object_store.proofs.Accounts.{all_push}
 use Rattle.byteorder.specs.Endian.{little_bytes}
 use Rattle.room_terrain.specs.Tiles.{ground_number}
 use Rattle.object_store.specs.declared.world.Room.{Room}
@@ -53,3 +55,25 @@ tick_written entry tag tick a b c whole e f g h i j =
     let three = list_written run_bytes entry.runs [] a b _ two h in
     let four = list_written account_bytes entry.accounts [] b c _ three i in
     list_written room_bytes entry.rooms [] c whole _ four j
+
+-- ---- a list while its values are written
+
+pub list_next : {V : Type 0} (bytes : V → List ℕ) (values : List V) (i : ℕ) (x d : V) (start now more : List ℕ) → i < length values → x ≡ get_or values i d → now ≡ start ++ (little_bytes 4 (length values) ++ flat_map bytes (take i values)) → more ≡ now ++ bytes x → more ≡ start ++ (little_bytes 4 (length values) ++ flat_map bytes (take (i + 1) values))
+list_next bytes values i x d start now more lt is e h =
+    let number : List ℕ = little_bytes 4 (length values) in
+    let front : List ℕ = flat_map bytes (take i values) in
+    h ∙ ap (λ v. v ++ bytes x) e
+    ∙ append_assoc start (number ++ front) (bytes x)
+    ∙ ap (λ v. start ++ v) (append_assoc number front (bytes x))
+    ∙ ap (λ v. start ++ (number ++ v)) (flat_map_more bytes [] (take i values) x ∙ ap (λ v. flat_map bytes (take i values ++ v ∷ [])) is ∙ ap (flat_map bytes) (sym (take_more values i d lt)))
+
+pub fits_next : {V : Type 0} (Fits : V → Type 0) (values : List V) (i : ℕ) (x d : V) → i < length values → x ≡ get_or values i d → AllByRecursion Fits (take i values) → Fits x → AllByRecursion Fits (take (i + 1) values)
+fits_next {V} Fits values i x d lt is all here =
+    subst (λ (v : List V). AllByRecursion Fits v) (ap (λ v. take i values ++ v ∷ []) is ∙ sym (take_more values i d lt)) (all_push Fits (take i values) x all here)
+
+pub list_none : (start now number : List ℕ) → now ≡ start ++ number → now ≡ start ++ (number ++ [])
+list_none start now number e = e ∙ ap (λ v. start ++ v) (sym (append-nil number))
+
+pub list_whole : {V : Type 0} (bytes : V → List ℕ) (values : List V) (i : ℕ) (start now : List ℕ) → length values ≤ i → now ≡ start ++ (little_bytes 4 (length values) ++ flat_map bytes (take i values)) → now ≡ start ++ listed bytes values
+list_whole bytes values i start now le e =
+    e ∙ ap (λ v. start ++ (little_bytes 4 (length values) ++ flat_map bytes v)) (take_all i values le)

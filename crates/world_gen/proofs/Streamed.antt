@@ -94,23 +94,32 @@ same_uploads text lent bytes count players lends same found =
     subst (λ (n : ℕ). UploadList bytes (uploads_to text n)) same
     (subst (λ (v : List ℕ). UploadList bytes (uploads_to v count)) lends found)
 
-pub uploads_found : (m : Syntax Ops) (text lent bytes : List ℕ) (count players : ℕ)
-    → m ≡ player_module → SpellsShortest Spells text m → lent ≡ text → count ≡ players
+-- the shortest text of a module, whatever module it is that the players have
+pub shortest_of : (m : Syntax Ops) (text : List ℕ)
+    → m ≡ player_module → SpellsShortest Spells text m → SpellsShortest Spells text player_module
+shortest_of m text e shortest = subst (λ (n : Syntax Ops). SpellsShortest Spells text n) e shortest
+
+pub shortest_once : (m : Syntax Ops) (text : List ℕ)
+    → m ≡ player_module → ((any : List ℕ) → SpellsShortest Spells any m → any ≡ text)
+    → (other : List ℕ) → SpellsShortest Spells other player_module → other ≡ text
+shortest_once m text e once other spelled =
+    once other (subst (λ (n : Syntax Ops). SpellsShortest Spells other n) (sym e) spelled)
+
+pub uploads_found : (text lent bytes : List ℕ) (count players : ℕ)
+    → SpellsShortest Spells text player_module → lent ≡ text → count ≡ players
     → UploadList bytes (uploads_to lent count)
     → (any : List ℕ) × SpellsShortest Spells any player_module × UploadList bytes (uploads_to any players)
-uploads_found m text lent bytes count players e shortest lends same found = (
+uploads_found text lent bytes count players shortest lends same found = (
   text,
-  subst (λ (n : Syntax Ops). SpellsShortest Spells text n) e shortest,
+  shortest,
   same_uploads text lent bytes count players lends same found,
 )
 
 -- whatever is the shortest text of the module
-pub uploads_are : (m : Syntax Ops) (text lent bytes : List ℕ) (count players : ℕ)
-    → m ≡ player_module → ((any : List ℕ) → SpellsShortest Spells any m → any ≡ text)
+pub uploads_are : (text lent bytes : List ℕ) (count players : ℕ)
+    → ((any : List ℕ) → SpellsShortest Spells any player_module → any ≡ text)
     → lent ≡ text → count ≡ players → UploadList bytes (uploads_to lent count)
     → (other : List ℕ) → SpellsShortest Spells other player_module
     → UploadList bytes (uploads_to other players)
-uploads_are m text lent bytes count players e once lends same found other spelled =
-    let here : SpellsShortest Spells other m =
-    subst (λ (n : Syntax Ops). SpellsShortest Spells other n) (sym e) spelled in
-    same_uploads other lent bytes count players (lends ∙ sym (once other here)) same found
+uploads_are text lent bytes count players once lends same found other spelled =
+    same_uploads other lent bytes count players (lends ∙ sym (once other spelled)) same found

@@ -20,7 +20,7 @@ pub(crate) fn drawn_terrain(alloc: Global, state: &mut u64) -> Result<Terrain, N
     put_border_row(&mut tiles)?;
     put_inner_rows(state, &mut tiles)?;
     put_border_row(&mut tiles)?;
-    Ok(Terrain::of(alloc, &tiles)?)
+    Terrain::of(alloc, &tiles)
 }
 
 // Adds the first row or the last.

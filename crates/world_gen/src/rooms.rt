@@ -40,7 +40,7 @@ pub(crate) fn drawn_table(
 {
     let u = draw(state);
     let v = draw(state);
-    Ok(table(alloc, room, players, u, v)?)
+    table(alloc, room, players, u, v)
 }
 
 // The table of a room's objects, with these draws for its source.
@@ -49,17 +49,17 @@ fn table(alloc: Global, room: u32, players: u32, u: u32, v: u32) -> Result<RoomT
     requires { room < 400 }
     ensures { IfOk result (λ table. table ≡ made_table players room u v) }
 {
-    let mut objects = Vec::new(alloc);
-    if room < players {
+    let source = source(room, u, v);
+    let objects = if room < players {
         let player = room + 1;
-        objects.push(owned_controller(room, player))?;
-        objects.push(source(room, u, v))?;
-        objects.push(spawn(room, player))?;
-        objects.push(creep(room, player))?;
+        let controller = owned_controller(room, player);
+        Vec::from_array(
+            alloc,
+            [controller, source, spawn(room, player), creep(room, player)],
+        )?
     } else {
-        objects.push(free_controller(room))?;
-        objects.push(source(room, u, v))?;
-    }
+        Vec::from_array(alloc, [free_controller(room), source])?
+    };
     RoomTable::of(alloc, room, 5, objects)
 }
 

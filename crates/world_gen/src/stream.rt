@@ -17,7 +17,6 @@ use wasm_encode::encode;
 /// the players' module in its shortest form.
 ///
 /// The seed changes nothing.
-#[tactic(auto, using(crate::proofs::Streamed::spelled_as))]
 pub fn generate_uploads(alloc: Global, _seed: u64, rooms: u32) -> Result<Vec<u8>, NoMemory>
     requires some { 1 ≤ rooms }
     requires most { rooms ≤ 400 }
@@ -26,10 +25,21 @@ pub fn generate_uploads(alloc: Global, _seed: u64, rooms: u32) -> Result<Vec<u8>
     ensures only { IfOk result (λ bytes. (text : List ℕ) → SpellsShortest Spells text player_module
         → UploadList bytes.items (uploads text rooms)) }
 {
-    let whole = player_module(alloc)?;
-    let text = encode(alloc, &whole)?;
+    let text = module_text(alloc)?;
     let bytes = entries(alloc, &text, players_of(rooms))?;
     Ok(bytes)
+}
+
+// The players' module in its shortest form.
+#[tactic(auto, using(crate::proofs::Streamed::spelled_as))]
+fn module_text(alloc: Global) -> Result<Vec<u8>, NoMemory>
+    ensures shortest { IfOk result (λ text. SpellsShortest Spells text.items player_module) }
+    ensures once { IfOk result (λ text. (other : List ℕ) → SpellsShortest Spells other player_module
+        → other ≡ text.items) }
+{
+    let whole = player_module(alloc)?;
+    let text = encode(alloc, &whole)?;
+    Ok(text)
 }
 
 // The entries of the first players, who upload the same text.

@@ -1,5 +1,5 @@
 // The module of each player of a generated world.
-ghost use Rattle.std.specs.Prelude.{◌≡◌, map, IfOk};
+ghost use Rattle.std.specs.Prelude.{◌≡◌, ◌∷◌, [], ◌++◌, map, IfOk, OnOk};
 ghost use Rattle.wasm_module.specs.sections.Entries.{code_view};
 ghost use Rattle.wasm_module.specs.sections.Sections.{module_view};
 ghost use Rattle.world_gen.specs.PlayerModule.{host_calls, host_types, imported, loop_codes, loop_exports};
@@ -50,15 +50,27 @@ fn host_types(alloc: Global) -> Result<FuncTypes, NoMemory>
 {
     const I: ValType = ValType::I32;
     const L: ValType = ValType::I64;
-    let number = takes(alloc, &[], Some(I))?;
-    let field = takes(alloc, &[I, I], Some(L))?;
-    let at_target = takes(alloc, &[L, L], Some(I))?;
-    let to_target = takes(alloc, &[L, L, I], Some(I))?;
-    let alone = takes(alloc, &[L, I], Some(I))?;
-    let nothing = takes(alloc, &[], None)?;
-    let list = Vec::from_array(alloc, [number, field, at_target, to_target, alone, nothing])?;
-    let types = Entries::of(list)?;
-    Ok(types)
+    let mut list = Vec::new(alloc);
+    add_type(alloc, &mut list, &[], Some(I))?;
+    add_type(alloc, &mut list, &[I, I], Some(L))?;
+    add_type(alloc, &mut list, &[L, L], Some(I))?;
+    add_type(alloc, &mut list, &[L, L, I], Some(I))?;
+    add_type(alloc, &mut list, &[L, I], Some(I))?;
+    add_type(alloc, &mut list, &[], None)?;
+    Entries::of(list)
+}
+
+// Adds a function's type at the end of a list.
+fn add_type(
+    alloc: Global,
+    list: &mut Vec<FuncType>,
+    params: &[ValType],
+    gives: Option<ValType>,
+) -> Result<(), NoMemory>
+    ensures { OnOk result (list.new.items ≡ list.old.items ++ takes params.now gives ∷ []) }
+{
+    list.push(takes(alloc, params, gives)?)?;
+    Ok(())
 }
 
 // A function's type.
@@ -78,16 +90,23 @@ fn takes(alloc: Global, params: &[ValType], gives: Option<ValType>) -> Result<Fu
 fn host_calls(alloc: Global) -> Result<Imports, NoMemory>
     ensures { IfOk result (λ imports. imports ≡ host_calls) }
 {
-    let count = imported(alloc, "count", 0)?;
-    let me = imported(alloc, "me", 0)?;
-    let get = imported(alloc, "get", 1)?;
-    let harvest = imported(alloc, "harvest", 2)?;
-    let transfer = imported(alloc, "transfer", 3)?;
-    let drop = imported(alloc, "drop", 4)?;
-    let step = imported(alloc, "move", 4)?;
-    let list = Vec::from_array(alloc, [count, me, get, harvest, transfer, drop, step])?;
-    let imports = Entries::of(list)?;
-    Ok(imports)
+    let mut list = Vec::new(alloc);
+    add_call(alloc, &mut list, "count", 0)?;
+    add_call(alloc, &mut list, "me", 0)?;
+    add_call(alloc, &mut list, "get", 1)?;
+    add_call(alloc, &mut list, "harvest", 2)?;
+    add_call(alloc, &mut list, "transfer", 3)?;
+    add_call(alloc, &mut list, "drop", 4)?;
+    add_call(alloc, &mut list, "move", 4)?;
+    Entries::of(list)
+}
+
+// Adds a host call at the end of a list.
+fn add_call(alloc: Global, list: &mut Vec<Import>, name: &str, kind: u32) -> Result<(), NoMemory>
+    ensures { OnOk result (list.new.items ≡ list.old.items ++ imported name.now kind ∷ []) }
+{
+    list.push(imported(alloc, name, kind)?)?;
+    Ok(())
 }
 
 // A host call of a name and a type.

@@ -8,3 +8,4 @@ pub mod Rising
 pub mod Fits
 pub mod Accepted
 pub mod WrittenPlain
+pub mod Members

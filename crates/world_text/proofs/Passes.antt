@@ -1,7 +1,8 @@
 -- Lists that are read in one pass, an element after the other.
-use Rattle.std.proofs.Common.{◌≡◌, ℕ, zero, suc, ◌+◌, ◌*◌, ◌/◌, ◌%◌, ◌^◌, ◌<◌, List, [], ◌∷◌, map, length, get_or, refl, sym, ap, subst, ◌∙◌, Option, Some, None, Result, Ok, Err, arith}
+use Rattle.std.proofs.Common.{◌≡◌, ℕ, zero, suc, ◌+◌, ◌*◌, ◌/◌, ◌%◌, ◌^◌, ◌<◌, List, [], ◌∷◌, ◌++◌, map, take, length, get_or, refl, sym, ap, ap₂, subst, append_assoc, ◌∙◌, Option, Some, None, Result, Ok, Err, arith}
 use Rattle.std.specs.List.{AllByRecursion}
-use Rattle.std.proofs.lemmas.List.{get_or-map, get_or_default, length-map}
+use Rattle.std.proofs.lemmas.Bool.Decides.{nat_tests}
+use Rattle.std.proofs.lemmas.List.{flat_map_more, get_or-map, get_or_default, length-map, map-append, take_more}
 use Rattle.std.specs.Prelude.{IfOk}
 use Rattle.serde_json.specs.Data.{Data, null, boolean, number, string, array, object, Items}
 use Rattle.serde_json.specs.Find.{as_str, as_array}
@@ -78,11 +79,51 @@ pub reads_ok : {A E : Type 0} (P Q : A → Type 0) → ((a : A) → P a → Q a)
 reads_ok P Q there back (Ok found) h = reads_same P Q there back found h
 reads_ok P Q there back (Err e) h = tt
 
+-- ---- one element more
+
+-- the values of the first elements of a list
+pub values_next : {A : Type 0} (data_of : A → Data) (xs : List A) (i : ℕ) (x d : A) (values more : List Value) (value : Value)
+    → i < length xs → x ≡ get_or xs i d → map view values ≡ map data_of (take i xs)
+    → view value ≡ data_of x → more ≡ values ++ value ∷ [] → map view more ≡ map data_of (take (i + 1) xs)
+values_next data_of xs i x d values more value lt is e f h =
+    ap (map view) h ∙ map-append view values (value ∷ [])
+    ∙ ap₂ (λ a b. a ++ b ∷ []) e f
+    ∙ sym (map-append data_of (take i xs) (x ∷ []))
+    ∙ ap (λ v. map data_of (take i xs ++ v ∷ [])) is
+    ∙ ap (map data_of) (sym (take_more xs i d lt))
+
+all_last : {A : Type 0} (P : A → Type 0) (xs : List A) (x : A)
+    → AllByRecursion P xs → P x → AllByRecursion P (xs ++ x ∷ [])
+all_last P [] x all here = (here, tt)
+all_last P (y ∷ xs) x all here = (all.0, all_last P xs x all.1 here)
+
+-- what each of them is
+pub all_next : {A : Type 0} (P : A → Type 0) (xs : List A) (i : ℕ) (x d : A)
+    → i < length xs → x ≡ get_or xs i d → AllByRecursion P (take i xs) → P x → AllByRecursion P (take (i + 1) xs)
+all_next {A} P xs i x d lt is all here =
+    subst (λ (v : List A). AllByRecursion P v)
+    (ap (λ v. take i xs ++ v ∷ []) is ∙ sym (take_more xs i d lt)) (all_last P (take i xs) x all here)
+
 -- ---- hexadecimal
 
 pub hex_length : (bytes : List ℕ) → length (hex bytes) ≡ 2 * length bytes
 hex_length [] = refl
 hex_length (b ∷ bytes) = let rest : length (hex bytes) ≡ 2 * length bytes = hex_length bytes in omega arith
+
+-- one byte more
+pub hex_next : (bytes before between after : List ℕ) (i high low : ℕ)
+    → i < length bytes → before ≡ hex (take i bytes)
+    → high ≡ hex_digit (get_or bytes i 0 / 16) → low ≡ hex_digit (get_or bytes i 0 % 16)
+    → between ≡ before ++ high ∷ [] → after ≡ between ++ low ∷ [] → after ≡ hex (take (i + 1) bytes)
+hex_next bytes before between after i high low lt e h l a b =
+    b ∙ ap (λ v. v ++ low ∷ []) (a ∙ ap (λ v. v ++ high ∷ []) e)
+    ∙ append_assoc (hex (take i bytes)) (high ∷ []) (low ∷ [])
+    ∙ ap₂ (λ u v. hex (take i bytes) ++ u ∷ v ∷ []) h l
+    ∙ flat_map_more (λ byte. hex_digit (byte / 16) ∷ hex_digit (byte % 16) ∷ []) [] (take i bytes) (get_or bytes i 0)
+    ∙ ap hex (sym (take_more bytes i 0 lt))
+
+pub hex_digit_small : (n : ℕ) → n < 16 → hex_digit n < 128
+hex_digit_small n low = grind (arith, nat_tests)
 
 hex_high : (bytes : List ℕ) (k : ℕ) → k < length bytes → get_or (hex bytes) (2 * k) 0 ≡ hex_digit (get_or bytes k 0 / 16)
 hex_high [] k lt = absurd (omega arith)

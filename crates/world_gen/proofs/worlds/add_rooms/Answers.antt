@@ -1,4 +1,5 @@
-use Rattle.std.proofs.Common.{sym}
+use Rattle.std.proofs.Common.{◌≡◌, ap, sym, ◌∙◌, arith}
+use Rattle.world_gen.specs.Generator.{rooms_from}
 use Rattle.world_gen.proofs.Drawn.{state_none}
 use Rattle.world_gen.proofs.Listed.{no_rooms_yet, room_next, room_state}
 use Rattle.world_gen.proofs.worlds.add_rooms.Goals as goal
@@ -21,3 +22,9 @@ loop-index-preserved c = record {
       c.in_ok-terrain.ensures.made c.in_ok-terrain.ensures.state c.in_ok-table.ensures.made
       c.in_ok-push_room.ensures.ok;
 }
+
+pub returns : goal.returns
+returns c =
+    let at_end : c.loop-index.index ≡ c.args.rooms = omega arith in
+    c.loop-index.invariant.world
+    ∙ ap (λ k. record c.args.world.now { rooms = rooms_from c.args.seed c.args.players k }) at_end
