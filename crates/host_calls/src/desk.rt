@@ -3,12 +3,10 @@ ghost use Rattle.std.specs.Prelude.{◌≡◌, ◌≤◌, [], length, IfOk};
 ghost use Rattle.world_rules.specs.Checks.{first_failing as failing};
 ghost use Rattle.game_tables.specs.Codes.{code_number};
 ghost use Rattle.game_tables.specs.Limits.{most_memory};
-ghost use Rattle.std.specs.Prelude.{pos, option_map};
+ghost use Rattle.std.specs.Prelude.{pos};
 ghost use Rattle.game_tables.specs.declared.action.Action.TheVariants.{ClaimController};
-ghost use Rattle.world_rules.specs.World.{shown};
-ghost use Rattle.action_checks.specs.Plans.{held_for};
 ghost use Rattle.host_calls.specs.Replies.{act_code, answers, body_in as body_read, claim_code};
-ghost use Rattle.host_calls.specs.Replies.{objects_around, or_code as or_else, read_reply, record_checks};
+ghost use Rattle.host_calls.specs.Replies.{or_code as or_else, read_reply, record_checks};
 ghost use Rattle.host_calls.specs.Replies.{removal_code as code_of_removal, removal_wish as wanted_removal};
 ghost use Rattle.host_calls.specs.Replies.{reply, reply_of, site_code as code_of_site};
 ghost use Rattle.host_calls.specs.Replies.{site_wish as wanted_site, spawn_code as code_of_creep};
@@ -16,7 +14,7 @@ ghost use Rattle.host_calls.specs.Replies.{spawn_wish as wanted_creep, wish_of a
 ghost use Rattle.host_calls.specs.inner.Wishes.{named, recorded};
 
 use crate::call::Call;
-use crate::making::{body_in, plan_seen, removal_wish, site_wish, spawn_wish};
+use crate::making::{body_in, held_around, plan_seen, removal_wish, site_wish, spawn_wish};
 use crate::number::{answer_of, argument, id_of, level_of, name_number, unsigned_32};
 use crate::room::DeskRoom;
 use crate::seen::{allowance, field, ground, place, room_index, room_name, standing};
@@ -26,7 +24,7 @@ use action_checks::{Scene, first_failing, removal_code, site_code, spawning_code
 use counted_record::CountedRecord;
 use game_tables::{Action, Body, Code, most_memory};
 use intent_book::{Intent, Recorded};
-use object_store::{Bytes, RoomName, Standing};
+use object_store::{Bytes, RoomName};
 use sight_census::Census;
 pub use std::alloc::AllocError as NoMemory;
 use std::alloc::Global;
@@ -40,14 +38,15 @@ use wasm_store::Pages;
 /// All memory is taken when it is made. A call that copies the memory text takes time by its length.
 /// One by an id or by a room's index, and one of a field that hangs on the room's controller, takes
 /// time by the logarithm of what is seen. One that wants something also looks through what is
-/// recorded, by a hash: where actors were chosen to collide, through all of it at most. All other
-/// calls take bounded time, whatever is seen and recorded.
+/// recorded, by a hash: where actors were chosen to collide, through all of it at most. The first one
+/// for a site or a creep in a room counts what stands there, by one look at each of its objects. All
+/// other calls take bounded time, whatever is seen and recorded.
 #[derive(Drop)]
 pub struct Desk<'a, 'v> {
     view: &'a View<'v>,
     level: u32,
     book: CountedRecord,
-    census: Census,
+    census: Census<'a, 'v>,
     memory: Vec<u8>,
 }
 
@@ -311,7 +310,8 @@ impl<'a, 'v> Desk<'a, 'v> {
             (wanted_site self.old.sight.account.player room x y kind) result }
     {
         let wish = site_wish(self.view.account().player, room, x, y, kind);
-        let Some(plan) = plan_seen(self.view, &self.census, &self.book, &wish, room, x, y) else {
+        let Some(plan) = plan_seen(self.view, &mut self.census, &self.book, &wish, room, x, y)
+        else {
             return Code::NotFound;
         };
         match site_code(&plan) {
@@ -341,29 +341,10 @@ impl<'a, 'v> Desk<'a, 'v> {
         let player = self.view.account().player;
         let body = body_in(pages, at, len);
         let spawn = standing(self.view, id);
-        let held = self.held_around(spawn);
+        let held = held_around(self.view, &mut self.census, spawn);
         match spawning_code(player, spawn, held, body.as_ref()) {
             Code::Done => self.record(spawn_wish(player, id, body)),
             code => code,
-        }
-    }
-
-    // What the player's spawns and extensions hold in the room of an object that is seen.
-    fn held_around(&self, placed: Option<Standing>) -> u32
-        ensures { result ≡ held_for self.now.sight.account.player
-            (objects_around self.now.sight (option_map shown placed.entry)) }
-    {
-        let Some(standing) = placed else {
-            return 0;
-        };
-        let Some(place) = self.view.place(standing.room) else {
-            // Nothing stands in a room that is not seen.
-            let _table = self.view.table(standing.room);
-            return 0;
-        };
-        match self.census.room(place) {
-            Some(told) => told.held,
-            None => 0,
         }
     }
 }

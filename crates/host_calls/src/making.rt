@@ -1,10 +1,12 @@
 // What the calls for sites and for creeps want, and what their checks read.
 ghost use Rattle.std.specs.Prelude.{◌≡◌, ◌≤◌, option_map, option_and_then, length};
 ghost use Rattle.sight_census.specs.Censuses.{census_of};
+ghost use Rattle.action_checks.specs.Plans.{held_for};
 ghost use Rattle.visible_view.specs.Fields.{room_at};
+ghost use Rattle.world_rules.specs.World.{shown};
 ghost use Rattle.host_calls.specs.Desks.{Desk, as_index, signed_32};
 ghost use Rattle.host_calls.specs.Replies.{body_in, coordinate_of as coordinate, number_of as number};
-ghost use Rattle.host_calls.specs.Replies.{parts_of, removal_wish, site_wish, spawn_wish};
+ghost use Rattle.host_calls.specs.Replies.{objects_around, parts_of, removal_wish, site_wish, spawn_wish};
 ghost use Rattle.host_calls.specs.inner.Wishes.{IsPlanIn};
 
 use crate::number::{id_of, index_32};
@@ -12,6 +14,7 @@ use action_checks::Plan;
 use counted_record::CountedRecord;
 use game_tables::{Action, Body, Part, most_parts};
 use intent_book::Intent;
+use object_store::Standing;
 use sight_census::Census;
 use visible_view::View;
 use wasm_store::Pages;
@@ -34,16 +37,17 @@ pub fn site_wish(player: u32, room: i64, x: i64, y: i64, kind: i64) -> Intent
 /// What the checks of a site read, where its room is seen.
 pub fn plan_seen<'v>(
     view: &'v View,
-    census: &Census,
+    census: &mut Census,
     book: &CountedRecord,
     wish: &Intent,
     room: i64,
     x: i64,
     y: i64,
 ) -> Option<Plan<'v>>
-    requires census { census.now ≡ census_of view.now }
-    ensures { (desk : Desk) → desk.sight ≡ view.now → desk.book ≡ book.now
+    requires census { census.old ≡ census_of view.now }
+    ensures plan { (desk : Desk) → desk.sight ≡ view.now → desk.book ≡ book.now
         → IsPlanIn desk wish.now x y (option_and_then (room_at view.now) (as_index (signed_32 room))) result }
+    ensures census { census.new ≡ census.old }
 {
     let place = view.place(index_32(room)?)?;
     let told = census.room(place)?;
@@ -59,6 +63,27 @@ pub fn plan_seen<'v>(
         recorded: elsewhere.in_room,
         sites: u64::from(view.sites()) + u64::from(elsewhere.in_all),
     })
+}
+
+/// What the player's spawns and extensions hold in the room of an object that is seen.
+pub fn held_around(view: &View, census: &mut Census, placed: Option<Standing>) -> u32
+    requires census { census.old ≡ census_of view.now }
+    ensures held { result ≡ held_for view.now.account.player
+        (objects_around view.now (option_map shown placed.entry)) }
+    ensures census { census.new ≡ census.old }
+{
+    let Some(standing) = placed else {
+        return 0;
+    };
+    let Some(place) = view.place(standing.room) else {
+        // Nothing stands in a room that is not seen.
+        let _table = view.table(standing.room);
+        return 0;
+    };
+    match census.room(place) {
+        Some(told) => told.held,
+        None => 0,
+    }
 }
 
 /// A site that is to be removed.

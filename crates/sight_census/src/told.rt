@@ -1,9 +1,11 @@
 // What is counted of one room.
-ghost use Rattle.std.specs.Prelude.{◌≡◌, ◌+◌, ◌-◌, ◌≤◌, ◌<◌, ◌^◌, length};
+ghost use Rattle.std.specs.Prelude.{◌≡◌, ◌+◌, ◌-◌, ◌≤◌, ◌<◌, ◌^◌, [], ◌∷◌, length, min};
+ghost use Rattle.world_rules.specs.Spawns.{held_by};
 ghost use Rattle.sight_census.specs.Censuses.{built, told_of};
 ghost use Rattle.sight_census.specs.inner.Counting.{none, one_more, total, AreCounted};
 
-use action_checks::{counted_number, held_by};
+use action_checks::counted_number;
+use game_tables::Kind;
 use object_store::{Object, Objects, RoomTable};
 
 /// What is counted of a room for a player: what his spawns and extensions hold there together, or 2^32 - 1
@@ -19,14 +21,11 @@ pub struct Told {
 }
 
 impl Told {
-    /// What is counted of a room. It looks at each of its objects twice.
+    /// What is counted of a room. It looks at each of its objects once.
     pub fn of(room: &RoomTable, player: u32) -> Told
         ensures { result ≡ told_of player room.now.objects }
     {
-        Told {
-            held: held_by(room.objects(), player, u64::from(u32::MAX)) as u32,
-            ..count(room.objects())
-        }
+        count(room.objects(), player)
     }
 
     /// How many buildings and sites there are of the kind of a number, and 0 of one that is not built from
@@ -45,16 +44,34 @@ impl Told {
     }
 }
 
-// How many buildings and sites there are of each kind, with nothing held.
-fn count(objects: Objects<'_>) -> Told
+// What the player's spawns and extensions hold, and how many buildings and sites there are of each kind.
+fn count(objects: Objects<'_>, player: u32) -> Told
     requires { length objects < 2 ^ 32 }
-    ensures { AreCounted objects.entry result }
+    ensures { AreCounted player objects.entry result }
 {
     let mut told = none();
     for object in objects {
-        told = one_more(told, counted_number(object));
+        told = Told {
+            held: held_with(told.held, object, player),
+            ..one_more(told, counted_number(object))
+        };
     }
     told
+}
+
+// What is held with one more object, or 2^32 - 1 where that is less.
+fn held_with(held: u32, object: &Object, player: u32) -> u32
+    ensures { result ≡ min (2 ^ 32 - 1) (held + held_by player (object.now ∷ [])) }
+{
+    match object.kind {
+        Kind::Spawn | Kind::Extension if object.owner == player => {
+            object
+                .energy
+                .saturating_add(u64::from(held))
+                .min(u64::from(u32::MAX)) as u32
+        }
+        _ => held,
+    }
 }
 
 // Nothing is counted yet.

@@ -1,7 +1,8 @@
--- The course of the counting, object by object.
-use Rattle.std.specs.Prelude.{◌≡◌, ℕ, ◌+◌, ◌==◌, if◌then◌else◌, List}
+-- The course of the counting, room by room and object by object.
+use Rattle.std.specs.Prelude.{◌≡◌, ℕ, ◌+◌, ◌-◌, ◌^◌, ◌==◌, min, if◌then◌else◌, List, length, slice_get, Option, Some}
 use Rattle.object_store.specs.declared.object.Object.{Object}
 use Rattle.world_rules.specs.Sites.{count_of}
+use Rattle.world_rules.specs.Spawns.{held_by}
 use Rattle.sight_census.specs.declared.told.Told.{Told}
 
 abbrev pub none : Told
@@ -24,10 +25,16 @@ one_more number told = record told {
 abbrev pub total : Told → ℕ
 total told = told.spawns + told.extensions + told.storages + told.containers + told.roads
 
--- These are the buildings and sites among the objects.
-pub record AreCounted (objects : List Object) (told : Told) : Type 0 where
+-- This is what the player's spawns and extensions among the objects hold, and these are the buildings and sites.
+pub record AreCounted (player : ℕ) (objects : List Object) (told : Told) : Type 0 where
+  pub held : told.held ≡ min (2 ^ 32 - 1) (held_by player objects)
   pub spawns : told.spawns ≡ count_of 4 objects
   pub extensions : told.extensions ≡ count_of 5 objects
   pub storages : told.storages ≡ count_of 6 objects
   pub containers : told.containers ≡ count_of 7 objects
   pub roads : told.roads ≡ count_of 8 objects
+
+-- Of each room this is what is counted there, where it is known yet.
+pub record AreKnown (rooms : List Told) (known : List (Option Told)) : Type 0 where
+  pub same : length known ≡ length rooms
+  pub told : (place : ℕ) (told : Told) → slice_get known place ≡ Some (Some told) → slice_get rooms place ≡ Some told

@@ -22,8 +22,8 @@ use Rattle.host_calls.specs.inner.Wishes.{IsPlanIn}
 use Rattle.host_calls.proofs.Planned.{built_counts, no_room, the_room, told_there}
 use Rattle.host_calls.proofs.making.plan_seen.Goals as goal
 
-pub returns-in_err-place : goal.returns-in_err-place
-returns-in_err-place c = λ desk sees books.
+pub returns-in_err-place-clause-plan : goal.returns-in_err-place-clause-plan
+returns-in_err-place-clause-plan c = λ desk sees books.
     let view = c.args.view.now in
     let room : FitsSigned w64 c.args.room = c.ranges.room in
     let n = c.in_ok-index_32.field-0 in
@@ -32,8 +32,8 @@ returns-in_err-place c = λ desk sees books.
     let none = here ∙ no_room view n (sym c.place.ensures ∙ c.in_err-place.was) in
     subst (λ (seen : Option SeenRoom). IsPlanIn desk c.args.wish.now c.args.x c.args.y seen c.from_residual-in_err-place.result) (sym none) c.from_residual-in_err-place.ensures
 
-pub returns-in_err-told : goal.returns-in_err-told
-returns-in_err-told c = λ desk sees books.
+pub returns-in_err-told-clause-plan : goal.returns-in_err-told-clause-plan
+returns-in_err-told-clause-plan c = λ desk sees books.
     let view = c.args.view.now in
     let room : FitsSigned w64 c.args.room = c.ranges.room in
     let n = c.in_ok-index_32.field-0 in
@@ -42,11 +42,11 @@ returns-in_err-told c = λ desk sees books.
     let place = c.in_ok-place.place in
     let there = the_room view n place (sym c.place.ensures ∙ c.in_ok-place.was) in
     let counted = ap (λ (k : Census). slice_get k.rooms place) c.requires.census ∙ told_there view n place there.0 there.1 in
-    let gone : None ≡ Some (told_in view there.0) = sym (ap (option_map (λ (t : Bor Told). t.now)) c.in_err-told.was) ∙ c.room.ensures ∙ counted in
+    let gone : None ≡ Some (told_in view there.0) = sym c.in_err-told.was ∙ c.room.ensures.told ∙ counted in
     absurd (cc)
 
-pub returns-in_err-terrain_at : goal.returns-in_err-terrain_at
-returns-in_err-terrain_at c = λ desk sees books.
+pub returns-in_err-terrain_at-clause-plan : goal.returns-in_err-terrain_at-clause-plan
+returns-in_err-terrain_at-clause-plan c = λ desk sees books.
     let view = c.args.view.now in
     let room : FitsSigned w64 c.args.room = c.ranges.room in
     let n = c.in_ok-index_32.field-0 in
@@ -58,8 +58,8 @@ returns-in_err-terrain_at c = λ desk sees books.
     let gone = sym (ap (option_map (λ (t : Bor Terrain). t.now)) c.in_err-terrain_at.was) ∙ c.terrain_at.ensures ∙ ap (option_map (λ (seen : SeenRoom). seen.grounds)) there.1 in
     absurd (cc)
 
-pub returns : goal.returns
-returns c = λ desk sees books.
+pub returns-clause-plan : goal.returns-clause-plan
+returns-clause-plan c = λ desk sees books.
     let view = c.args.view.now in
     let room : FitsSigned w64 c.args.room = c.ranges.room in
     let n = c.in_ok-index_32.field-0 in
@@ -68,8 +68,8 @@ returns c = λ desk sees books.
     let place = c.in_ok-place.place in
     let there = the_room view n place (sym c.place.ensures ∙ c.in_ok-place.was) in
     let counted = ap (λ (k : Census). slice_get k.rooms place) c.requires.census ∙ told_there view n place there.0 there.1 in
-    let both : Some c.in_ok-told.told.now ≡ Some (told_in view there.0) = sym (ap (option_map (λ (t : Bor Told). t.now)) c.in_ok-told.was) ∙ c.room.ensures ∙ counted in
-    let told : c.in_ok-told.told.now ≡ told_in view there.0 = cc in
+    let both : Some c.in_ok-told.told ≡ Some (told_in view there.0) = sym c.in_ok-told.was ∙ c.room.ensures.told ∙ counted in
+    let told : c.in_ok-told.told ≡ told_in view there.0 = cc in
     let lent = sym (ap (option_map (λ (t : Bor Terrain). t.now)) c.in_ok-terrain_at.was) ∙ c.terrain_at.ensures ∙ ap (option_map (λ (seen : SeenRoom). seen.grounds)) there.1 in
     let grounds : c.in_ok-terrain_at.field-0.now ≡ there.0.grounds = cc in
     let listed = sym (ap (option_map (λ (t : Bor RoomTable). t.now.objects)) c.in_ok-table_at.was) ∙ c.table_at.ensures ∙ ap (option_map (λ (seen : SeenRoom). objects_at view seen.index)) there.1 in

@@ -20,7 +20,7 @@ returns-in_default-clause-code c =
     let kind : FitsSigned w64 c.args.kind = c.ranges.kind in
     let wish = simp to_z-of_z at c.site_wish-wish.ensures in
     let own = wish ∙ ap (λ (a : Account). site_wish a.player c.args.room c.args.x c.args.y c.args.kind) c.account.ensures in
-    let read = simp to_z-of_z at c.plan_seen.ensures in
+    let read = simp to_z-of_z at c.plan_seen.ensures.plan in
     let seen = seen_room inside c.args.room in
     let is = subst (λ (w : Intent). IsPlanIn inside w c.args.x c.args.y seen c.plan_seen.result) own (read inside refl refl) in
     let wants = site_wish inside.sight.account.player c.args.room c.args.x c.args.y c.args.kind in
@@ -37,7 +37,7 @@ site_code-requires c =
     let kind : FitsSigned w64 c.args.kind = c.ranges.kind in
     let wish = simp to_z-of_z at c.site_wish-wish.ensures in
     let own = wish ∙ ap (λ (a : Account). site_wish a.player c.args.room c.args.x c.args.y c.args.kind) c.account.ensures in
-    let read = simp to_z-of_z at c.plan_seen.ensures in
+    let read = simp to_z-of_z at c.plan_seen.ensures.plan in
     let seen = seen_room inside c.args.room in
     let is = subst (λ (w : Intent). IsPlanIn inside w c.args.x c.args.y seen c.plan_seen.result) own (read inside refl refl) in
     let wants = site_wish inside.sight.account.player c.args.room c.args.x c.args.y c.args.kind in
@@ -53,7 +53,7 @@ returns-in-Done-clause-code c =
     let kind : FitsSigned w64 c.args.kind = c.ranges.kind in
     let wish = simp to_z-of_z at c.site_wish-wish.ensures in
     let own = wish ∙ ap (λ (a : Account). site_wish a.player c.args.room c.args.x c.args.y c.args.kind) c.account.ensures in
-    let read = simp to_z-of_z at c.plan_seen.ensures in
+    let read = simp to_z-of_z at c.plan_seen.ensures.plan in
     let seen = seen_room inside c.args.room in
     let is = subst (λ (w : Intent). IsPlanIn inside w c.args.x c.args.y seen c.plan_seen.result) own (read inside refl refl) in
     let wants = site_wish inside.sight.account.player c.args.room c.args.x c.args.y c.args.kind in
@@ -61,8 +61,7 @@ returns-in-Done-clause-code c =
     let plan = plan_seen inside wants c.args.x c.args.y found.0 in
     let done = sym (c.site_code.ensures ∙ ap (λ (p : Plan). first_failing (site_checks p)) found.2) ∙ c.in-Done.is in
     c.record.ensures.code
-    ∙ ap (λ (i : Intent). first_failing (record_checks c.args.self.now i)) own
-    ∙ ap (λ (d : Desk). first_failing (record_checks d wants)) (sym c.self.view_is)
+    ∙ ap (λ (i : Intent). first_failing (record_checks inside i)) own
     ∙ sym (checks_late (site_checks plan) (record_checks inside wants) (site_codes plan) done)
     ∙ sym (ap (site_code_in inside wants c.args.x c.args.y) found.1)
     ∙ ap (λ (d : Desk). site_code d c.args.room c.args.x c.args.y c.args.kind) c.self.view_is
@@ -76,7 +75,7 @@ returns-in_default-site_code c =
     let kind : FitsSigned w64 c.args.kind = c.ranges.kind in
     let wish = simp to_z-of_z at c.site_wish-wish.ensures in
     let own = wish ∙ ap (λ (a : Account). site_wish a.player c.args.room c.args.x c.args.y c.args.kind) c.account.ensures in
-    let read = simp to_z-of_z at c.plan_seen.ensures in
+    let read = simp to_z-of_z at c.plan_seen.ensures.plan in
     let seen = seen_room inside c.args.room in
     let is = subst (λ (w : Intent). IsPlanIn inside w c.args.x c.args.y seen c.plan_seen.result) own (read inside refl refl) in
     let wants = site_wish inside.sight.account.player c.args.room c.args.x c.args.y c.args.kind in
@@ -88,5 +87,5 @@ returns-in_default-site_code c =
       code = sym (code_early (site_checks plan) (record_checks inside wants) c.site_code.result fails (λ done. c.in_default-site_code.not-Done done))
           ∙ sym (ap (site_code_in inside wants c.args.x c.args.y) found.1)
           ∙ ap (λ (d : Desk). site_code d c.args.room c.args.x c.args.y c.args.kind) c.self.view_is;
-      desk = unrecorded desk (site_wish desk.sight.account.player c.args.room c.args.x c.args.y c.args.kind) c.site_code.result (λ done. c.in_default-site_code.not-Done done);
+      desk = c.self.view_is ∙ unrecorded desk (site_wish desk.sight.account.player c.args.room c.args.x c.args.y c.args.kind) c.site_code.result (λ done. c.in_default-site_code.not-Done done);
     }
