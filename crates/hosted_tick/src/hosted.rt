@@ -27,10 +27,18 @@ use upload_stream::Uploads;
 use world_roster::Roster;
 
 /// A world with the modules of its players, each decoded, validated and linked once.
-#[derive(Drop)]
 pub struct Hosted {
     world: World,
     modules: Modules,
+}
+
+impl Drop for Hosted {
+    fn drop(self) {
+        let Hosted {
+            world: _,
+            modules: _,
+        } = self;
+    }
 }
 
 impl Model for Hosted {

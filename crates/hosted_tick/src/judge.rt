@@ -11,7 +11,7 @@ ghost use Rattle.hosted_tick.specs.Hosting.{AreLinked, modules_of};
 ghost use Rattle.hosted_tick.specs.Next.{AreJudged, IsResult, modules_after, result_number};
 
 use crate::hosted::NoMemory;
-use crate::modules::{HostedModule, Modules};
+use crate::modules::{Modules, put};
 use judged_uploads::JudgedUploads;
 use object_store::{Bytes, World};
 use player_run::{Linked, Refusal, admit};
@@ -76,8 +76,7 @@ fn keep(
     ensures linked { OnOk result (AreLinked modules.new.entries) }
 {
     let bytes = Bytes::of(alloc, upload.bytes)?;
-    modules.insert(upload.player, HostedModule { bytes, linked })?;
-    Ok(())
+    put(modules, upload.player, bytes, linked)
 }
 
 // What becomes of an upload.

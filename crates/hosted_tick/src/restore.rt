@@ -7,7 +7,7 @@ ghost use Rattle.hosted_tick.specs.Hosting.{AreLinked, modules_of};
 ghost use Rattle.std.specs.FinMap.{from_entries};
 
 use crate::hosted::NoMemory;
-use crate::modules::{HostedModule, Modules};
+use crate::modules::{Modules, put};
 use object_store::Bytes;
 use player_run::{Linked, admit};
 use std::alloc::Global;
@@ -34,14 +34,7 @@ fn add(alloc: Global, player: u32, bytes: Bytes, linked: &mut Modules) -> Result
     ensures linked { OnOk result (AreLinked linked.new.entries) }
 {
     let module = link(alloc, &bytes)?;
-    linked.insert(
-        player,
-        HostedModule {
-            bytes,
-            linked: module,
-        },
-    )?;
-    Ok(())
+    put(linked, player, bytes, module)
 }
 
 // Links a module that was accepted before.

@@ -18,9 +18,14 @@ use tick_journal::{TickRecord, UploadEntry};
 
 /// The world that the records so far lead to. It is led on by each record, so that the world before a tick
 /// need not be copied to tell what the tick changed.
-#[derive(Drop)]
 pub struct Recorder {
     last: World,
+}
+
+impl Drop for Recorder {
+    fn drop(self) {
+        let Recorder { last: _ } = self;
+    }
 }
 
 impl Recorder {

@@ -26,7 +26,6 @@ use world_io::Disk;
 /// Where the reading of a journal stands that doesn't test whether the world after a record keeps the rules
 /// of objects: for a reader who knows it in another way. The journal is one only if they are kept, so who
 /// doesn't know it has to ask (`tested`).
-#[derive(Drop)]
 pub struct UntestedWalk {
     pub(crate) world: World,
     // The gate before the last record.
@@ -35,6 +34,17 @@ pub struct UntestedWalk {
     pub(crate) len: u64,
     ghost place: { gate < len },
     ghost limit: { len < 2 ^ 62 },
+}
+
+impl Drop for UntestedWalk {
+    fn drop(self) {
+        let UntestedWalk {
+            world: _,
+            from: _,
+            gate: _,
+            len: _,
+        } = self;
+    }
 }
 
 // The record that a content spells, where it spells one that fits behind the world, which is then led on by
