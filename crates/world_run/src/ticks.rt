@@ -235,21 +235,17 @@ fn one_tick<O: Sink, D: Disk>(
 {
     let Kept {
         hosted,
-        recorder,
+        mut recorder,
         mut journal,
     } = kept;
     if let Some(index) = exhausted_room(hosted.world()) {
         return Err(Status::IdsExhausted(index));
     }
     let uploads = stream.take_tick(hosted.world().tick());
-    let Ok(made) = make_tick(alloc, hosted, recorder, uploads) else {
+    let Ok(made) = make_tick(alloc, hosted, &mut recorder, uploads) else {
         return Err(Status::Memory);
     };
-    let Made {
-        hosted,
-        recorder,
-        told,
-    } = made;
+    let Made { hosted, told } = made;
     match record(alloc, &mut journal, told, out, disk) {
         Ok(()) => Ok(Kept {
             hosted,
@@ -270,11 +266,10 @@ struct Told<'a> {
     room: Vec<u8>,
 }
 
-// The world after a tick with the recorder that stands at it, and what is told of the tick.
+// The world after a tick, and what is told of the tick.
 #[derive(Drop)]
 struct Made<'a> {
     hosted: Hosted,
-    recorder: Recorder,
     told: Told<'a>,
 }
 
@@ -285,16 +280,17 @@ fn room_for(alloc: Global, uploads: usize) -> Result<Vec<u8>, NoMemory>
     Vec::with_capacity(alloc, uploads.min(MOST_PIECE / MOST_LINE) * MOST_LINE)
 }
 
-// Makes the tick after a world with its uploads.
+// Makes the tick after a world with its uploads. The recorder, which stood at the world before, is led to the one
+// after.
 fn make_tick<'a>(
     alloc: Global,
     hosted: Hosted,
-    mut recorder: Recorder,
+    recorder: &mut Recorder,
     uploads: Uploads<'a>,
 ) -> Result<Made<'a>, NoMemory>
     requires hosted { IsHosted hosted.world }
     requires few { HaveFewSites hosted.world }
-    requires recorder { StandsAt recorder hosted.world }
+    requires recorder { StandsAt recorder.old hosted.world }
     requires tick { hosted.world.tick < 2 ^ 64 - 1 }
     requires serials { HaveSerials hosted.world.rooms }
     ensures step { IfOk result (λ made. (step : Step) × (step.after ≡ made.hosted)
@@ -304,7 +300,7 @@ fn make_tick<'a>(
         × (step_lines step ≡ flat_map upload_line made.told.uploads ++ made.told.lines.items)) }
     ensures hosted { IfOk result (λ made. IsHosted made.hosted.world) }
     ensures few { IfOk result (λ made. HaveFewSites made.hosted.world) }
-    ensures recorder { IfOk result (λ made. StandsAt made.recorder made.hosted.world) }
+    ensures recorder { IfOk result (λ made. StandsAt recorder.new made.hosted.world) }
     ensures none { IfOk result (λ made. made.told.entry.uploads ≡ []) }
     ensures room { IfOk result (λ made. made.told.room.items ≡ []) }
     ensures follows { IfOk result (λ made. MayFollow (world_as_read hosted.world)
@@ -331,7 +327,6 @@ fn make_tick<'a>(
     recorder.lead(alloc, &entry)?;
     Ok(Made {
         hosted,
-        recorder,
         told: Told {
             uploads,
             entry,
