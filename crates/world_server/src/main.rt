@@ -175,6 +175,3 @@ fn say(rt: &HostRuntime, status: Status) {
         let _ = write_all(&mut StreamSink::over(rt.stderr()), &line);
     }
 }
-
-#[cfg(test)]
-mod tests;
