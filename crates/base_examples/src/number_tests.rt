@@ -800,22 +800,55 @@ static CONVERSIONS: [[u64; 3]; 37] = [
     [0xad, 0xffffffff, 0xffffffff],
 ];
 
+// What the operands come to, of an opcode that takes them.
+fn count(op: u64, a: u64) -> Option<u64> {
+    if (0x67 <= op && op <= 0x69 && a <= 0xffff_ffff) || (0x79 <= op && op <= 0x7b) {
+        Some(unary(op as u8, a))
+    } else {
+        None
+    }
+}
+
+fn value(op: u64, a: u64, b: u64) -> Option<Result<u64, NumFault>> {
+    let small = a <= 0xffff_ffff && b <= 0xffff_ffff;
+    if (0x6a <= op && op <= 0x78 && small) || (0x7c <= op && op <= 0x8a) {
+        Some(binary(op as u8, a, b))
+    } else {
+        None
+    }
+}
+
+fn answer(op: u64, a: u64, b: u64) -> Option<u64> {
+    let small = a <= 0xffff_ffff && b <= 0xffff_ffff;
+    if (0x45 <= op && op <= 0x4f && small) || (0x50 <= op && op <= 0x5a) {
+        Some(u64::from(compare(op as u8, a, b)))
+    } else {
+        None
+    }
+}
+
+fn converted(op: u64, a: u64) -> Option<u64> {
+    let is_extension = 0xac <= op && op <= 0xad && a <= 0xffff_ffff;
+    if op == 0xa7 || is_extension {
+        Some(convert(op as u8, a))
+    } else {
+        None
+    }
+}
+
 #[test]
 fn counts_bits(rt: HostRuntime) {
     for row in &COUNTS {
-        let [op, a, count] = *row;
-        assert!(rt; (0x67 <= op && op <= 0x69 && a <= 0xffff_ffff) || (0x79 <= op && op <= 0x7b));
-        assert_eq!(rt; unary(op as u8, a), count, "{op} of {a}");
+        let [op, a, expected] = *row;
+        assert!(rt; count(op, a) == Some(expected), "{row:?}");
     }
 }
 
 #[test]
 fn calculates(rt: HostRuntime) {
     for row in &VALUES {
-        let [op, a, b, value] = *row;
-        let small = a <= 0xffff_ffff && b <= 0xffff_ffff;
-        assert!(rt; (0x6a <= op && op <= 0x78 && small) || (0x7c <= op && op <= 0x8a));
-        assert_eq!(rt; binary(op as u8, a, b), Ok(value), "{op} of {a} and {b}");
+        let [op, a, b, expected] = *row;
+        assert!(rt; value(op, a, b) == Some(Ok(expected)), "{row:?}");
     }
 }
 
@@ -823,45 +856,30 @@ fn calculates(rt: HostRuntime) {
 fn refuses_division(rt: HostRuntime) {
     for row in &BY_ZERO {
         let [op, a, b] = *row;
-        let small = a <= 0xffff_ffff && b <= 0xffff_ffff;
-        assert!(rt; (0x6a <= op && op <= 0x78 && small) || (0x7c <= op && op <= 0x8a));
         assert!(rt;
-            binary(op as u8, a, b) == Err(NumFault::DivideByZero),
-            "{op} of {a}"
+            value(op, a, b) == Some(Err(NumFault::DivideByZero)),
+            "{row:?}"
         );
     }
     for row in &OVERFLOWS {
         let [op, a, b] = *row;
-        let small = a <= 0xffff_ffff && b <= 0xffff_ffff;
-        assert!(rt; (0x6a <= op && op <= 0x78 && small) || (0x7c <= op && op <= 0x8a));
-        assert!(rt;
-            binary(op as u8, a, b) == Err(NumFault::Overflow),
-            "{op} of {a}"
-        );
+        assert!(rt; value(op, a, b) == Some(Err(NumFault::Overflow)), "{row:?}");
     }
 }
 
 #[test]
 fn compares(rt: HostRuntime) {
     for row in &COMPARISONS {
-        let [op, a, b, answer] = *row;
-        let small = a <= 0xffff_ffff && b <= 0xffff_ffff;
-        assert!(rt; (0x45 <= op && op <= 0x4f && small) || (0x50 <= op && op <= 0x5a));
-        assert_eq!(rt;
-            u64::from(compare(op as u8, a, b)),
-            answer,
-            "{op} of {a} and {b}"
-        );
+        let [op, a, b, expected] = *row;
+        assert!(rt; answer(op, a, b) == Some(expected), "{row:?}");
     }
 }
 
 #[test]
 fn converts(rt: HostRuntime) {
     for row in &CONVERSIONS {
-        let [op, a, result] = *row;
-        let is_extension = 0xac <= op && op <= 0xad && a <= 0xffff_ffff;
-        assert!(rt; op == 0xa7 || is_extension);
-        assert_eq!(rt; convert(op as u8, a), result, "{op} of {a}");
+        let [op, a, expected] = *row;
+        assert!(rt; converted(op, a) == Some(expected), "{row:?}");
     }
 }
 

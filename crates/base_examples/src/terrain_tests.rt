@@ -1,5 +1,6 @@
 // Tiles, the ways between them, and the names of rooms.
 use room_terrain::{Direction, Ground, NotAName, Place, RoomName, Terrain, mirror, range, step};
+use std::alloc::{AllocError, Global};
 use std::test::Fail;
 
 fn place(x: u8, y: u8) -> Place {
@@ -55,6 +56,13 @@ fn borders_lie_across(rt: HostRuntime) {
     assert!(rt; mirror(name(0, 127), 20, 49) == None);
 }
 
+// Whether a text is the name of the room of this column and row, and that room has this name.
+fn is_name(alloc: Global, text: &str, column: i32, row: i32) -> Result<bool, AllocError> {
+    let name = RoomName { column, row };
+    let written = format!(in alloc; "{name}")?;
+    Ok(RoomName::read(text) == Ok(name) && written.as_str() == text)
+}
+
 #[test]
 fn names_are_read(rt: HostRuntime) -> Result<(), Fail> {
     let rooms = [
@@ -70,9 +78,7 @@ fn names_are_read(rt: HostRuntime) -> Result<(), Fail> {
         ("W127N127", -128, -128),
     ];
     for (text, column, row) in rooms {
-        let name = RoomName::read(text)?;
-        assert!(rt; name == RoomName { column, row });
-        assert!(rt; format!(in rt.alloc(); "{name}")?.as_str() == text);
+        assert!(rt; is_name(rt.alloc(), text, column, row)?, "{text}");
     }
     Ok(())
 }
@@ -88,16 +94,19 @@ fn other_texts_are_refused(rt: HostRuntime) {
     }
 }
 
-#[test]
-fn grounds_stand_row_by_row(rt: HostRuntime) -> Result<(), Fail> {
+// A copy of plain ground with a swamp.
+fn swamp(alloc: Global) -> Result<Terrain, AllocError> {
     let mut grounds = [Ground::Plain; 2500];
     grounds[3 * 50 + 7] = Ground::Swamp;
-    let terrain = Terrain::of(rt.alloc(), &grounds)?.copy(rt.alloc())?;
-    assert!(rt; terrain.at(7, 3) == Ground::Swamp);
-    assert!(rt; terrain.at(3, 7) == Ground::Plain);
+    Terrain::of(alloc, &grounds)?.copy(alloc)
+}
+
+#[test]
+fn grounds_stand_row_by_row(rt: HostRuntime) -> Result<(), Fail> {
+    let terrain = swamp(rt.alloc())?;
+    assert!(rt; (terrain.at(7, 3), terrain.at(3, 7)) == (Ground::Swamp, Ground::Plain));
     assert!(rt; terrain.grounds().len() == 2500);
-    assert!(rt; Ground::of_number(2) == Some(Ground::Swamp));
-    assert!(rt; Ground::of_number(3) == None);
+    assert!(rt; (Ground::of_number(2), Ground::of_number(3)) == (Some(Ground::Swamp), None));
     assert!(rt; Ground::Wall.number() == 1);
     Ok(())
 }

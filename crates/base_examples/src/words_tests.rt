@@ -3,114 +3,133 @@ use command_words::{Command, WordsFault, read_words};
 use std::alloc::{AllocError, Global};
 use std::test::Fail;
 
-// The command that words say as one line.
-fn said(alloc: Global, texts: &[&str]) -> Result<String, AllocError> {
+// Words of these texts.
+fn words_of(alloc: Global, texts: &[&str]) -> Result<Vec<String>, AllocError> {
     let mut words = Vec::new(alloc);
     for text in texts {
         words.push(String::from_str(alloc, text)?)?;
     }
-    match read_words(alloc, &words) {
-        Ok(
-            Command::Run {
-                world,
-                uploads,
-                journal,
-                ticks,
-            },
-        ) => format!(in alloc; "run {world} {uploads} {journal} {ticks}"),
-        Ok(Command::Check { module }) => format!(in alloc; "check {module}"),
-        Ok(Command::Replay { journal }) => format!(in alloc; "replay {journal}"),
-        Ok(Command::Show { journal, tick }) => format!(in alloc; "show {journal} {tick}"),
-        Ok(Command::Gen { seed, rooms, part }) => {
-            format!(in alloc; "gen {seed} {rooms} {part:?}")
-        }
-        Ok(Command::Demo { seed, rooms, ticks }) => {
-            format!(in alloc; "demo {seed} {rooms} {ticks}")
-        }
+    Ok(words)
+}
+
+// A command as one line.
+fn line_of(alloc: Global, command: &Command) -> Result<String, AllocError> {
+    match command {
+        Command::Run {
+            world,
+            uploads,
+            journal,
+            ticks,
+        } => format!(in alloc; "run {world} {uploads} {journal} {ticks}"),
+        Command::Check { module } => format!(in alloc; "check {module}"),
+        Command::Replay { journal } => format!(in alloc; "replay {journal}"),
+        Command::Show { journal, tick } => format!(in alloc; "show {journal} {tick}"),
+        Command::Gen { seed, rooms, part } => format!(in alloc; "gen {seed} {rooms} {part:?}"),
+        Command::Demo { seed, rooms, ticks } => format!(in alloc; "demo {seed} {rooms} {ticks}"),
+    }
+}
+
+// The command that words say as one line.
+fn said(alloc: Global, words: &[String]) -> Result<String, AllocError> {
+    match read_words(alloc, words) {
+        Ok(command) => line_of(alloc, &command),
         Err(WordsFault::Usage) => String::from_str(alloc, "usage"),
         Err(WordsFault::Memory) => String::from_str(alloc, "memory"),
     }
 }
 
+// Whether words of these texts say this line.
+fn is_said(alloc: Global, texts: &[&str], line: &str) -> Result<bool, AllocError> {
+    let words = words_of(alloc, texts)?;
+    Ok(said(alloc, &words)?.as_str() == line)
+}
+
+// Words, and what they say.
+static COMMANDS: [(&[&str], &str); 12] = [
+    (&["run", "w", "u", "j", "--ticks", "0007"], "run w u j 7"),
+    (
+        &["run", "--ticks=1000000", "w", "u", "j"],
+        "run w u j 1000000",
+    ),
+    (
+        &["run", "w", "--ticks", "0", "u", "--", "-j"],
+        "run w u -j 0",
+    ),
+    (&["run", "w", "u", "j", "--ticks", "1000001"], "usage"),
+    (&["run", "w", "u", "j", "--ticks=+1"], "usage"),
+    (
+        &["run", "w", "u", "j", "--ticks", "1", "--ticks", "1"],
+        "usage",
+    ),
+    (&["run", "w", "u", "--ticks", "1"], "usage"),
+    (&["check", "m"], "check m"),
+    (&["check", "--", "--help"], "check --help"),
+    (&["check", "--help"], "usage"),
+    (&["serve", "m"], "usage"),
+    (&[], "usage"),
+];
+
 #[test]
 fn words_say_their_command(rt: HostRuntime) -> Result<(), Fail> {
-    let rows: [(&[&str], &str); 12] = [
-        (&["run", "w", "u", "j", "--ticks", "0007"], "run w u j 7"),
-        (
-            &["run", "--ticks=1000000", "w", "u", "j"],
-            "run w u j 1000000",
-        ),
-        (
-            &["run", "w", "--ticks", "0", "u", "--", "-j"],
-            "run w u -j 0",
-        ),
-        (&["run", "w", "u", "j", "--ticks", "1000001"], "usage"),
-        (&["run", "w", "u", "j", "--ticks=+1"], "usage"),
-        (
-            &["run", "w", "u", "j", "--ticks", "1", "--ticks", "1"],
-            "usage",
-        ),
-        (&["run", "w", "u", "--ticks", "1"], "usage"),
-        (&["check", "m"], "check m"),
-        (&["check", "--", "--help"], "check --help"),
-        (&["check", "--help"], "usage"),
-        (&["serve", "m"], "usage"),
-        (&[], "usage"),
-    ];
-    for (words, line) in rows {
-        assert_eq!(rt; said(rt.alloc(), words)?.as_str(), line);
+    for row in &COMMANDS {
+        let (words, line) = *row;
+        assert!(rt; is_said(rt.alloc(), words, line)?, "{line}");
     }
     Ok(())
 }
+
+static JOURNALS: [(&[&str], &str); 10] = [
+    (&["replay", "j"], "replay j"),
+    (&["replay", "--", "-j"], "replay -j"),
+    (&["replay"], "usage"),
+    (&["replay", "j", "k"], "usage"),
+    (&["show", "j", "007"], "show j 7"),
+    (
+        &["show", "j", "18446744073709551615"],
+        "show j 18446744073709551615",
+    ),
+    (&["show", "j", "18446744073709551616"], "usage"),
+    (&["show", "j", "+1"], "usage"),
+    (&["show", "j"], "usage"),
+    (&["show", "1", "j"], "usage"),
+];
 
 #[test]
 fn words_say_a_journal(rt: HostRuntime) -> Result<(), Fail> {
-    let rows: [(&[&str], &str); 10] = [
-        (&["replay", "j"], "replay j"),
-        (&["replay", "--", "-j"], "replay -j"),
-        (&["replay"], "usage"),
-        (&["replay", "j", "k"], "usage"),
-        (&["show", "j", "007"], "show j 7"),
-        (
-            &["show", "j", "18446744073709551615"],
-            "show j 18446744073709551615",
-        ),
-        (&["show", "j", "18446744073709551616"], "usage"),
-        (&["show", "j", "+1"], "usage"),
-        (&["show", "j"], "usage"),
-        (&["show", "1", "j"], "usage"),
-    ];
-    for (words, line) in rows {
-        assert_eq!(rt; said(rt.alloc(), words)?.as_str(), line);
+    for row in &JOURNALS {
+        let (words, line) = *row;
+        assert!(rt; is_said(rt.alloc(), words, line)?, "{line}");
     }
     Ok(())
 }
 
+static WORLDS: [(&[&str], &str); 16] = [
+    (&["gen", "7", "1", "world"], "gen 7 1 World"),
+    (
+        &["gen", "18446744073709551615", "400", "uploads"],
+        "gen 18446744073709551615 400 Uploads",
+    ),
+    (&["gen", "18446744073709551616", "1", "world"], "usage"),
+    (&["gen", "7", "0", "world"], "usage"),
+    (&["gen", "7", "401", "world"], "usage"),
+    (&["gen", "7", "1", "worlds"], "usage"),
+    (&["gen", "7", "1", "World"], "usage"),
+    (&["gen", "7", "1", ""], "usage"),
+    (&["gen", "7", "1"], "usage"),
+    (&["gen", "x", "1", "world"], "usage"),
+    (&["demo", "7", "400", "1000000"], "demo 7 400 1000000"),
+    (&["demo", "0", "1", "0"], "demo 0 1 0"),
+    (&["demo", "7", "1", "1000001"], "usage"),
+    (&["demo", "7", "0", "1"], "usage"),
+    (&["demo", "7", "401", "1"], "usage"),
+    (&["demo", "7", "1"], "usage"),
+];
+
 #[test]
 fn words_say_a_world(rt: HostRuntime) -> Result<(), Fail> {
-    let rows: [(&[&str], &str); 16] = [
-        (&["gen", "7", "1", "world"], "gen 7 1 World"),
-        (
-            &["gen", "18446744073709551615", "400", "uploads"],
-            "gen 18446744073709551615 400 Uploads",
-        ),
-        (&["gen", "18446744073709551616", "1", "world"], "usage"),
-        (&["gen", "7", "0", "world"], "usage"),
-        (&["gen", "7", "401", "world"], "usage"),
-        (&["gen", "7", "1", "worlds"], "usage"),
-        (&["gen", "7", "1", "World"], "usage"),
-        (&["gen", "7", "1", ""], "usage"),
-        (&["gen", "7", "1"], "usage"),
-        (&["gen", "x", "1", "world"], "usage"),
-        (&["demo", "7", "400", "1000000"], "demo 7 400 1000000"),
-        (&["demo", "0", "1", "0"], "demo 0 1 0"),
-        (&["demo", "7", "1", "1000001"], "usage"),
-        (&["demo", "7", "0", "1"], "usage"),
-        (&["demo", "7", "401", "1"], "usage"),
-        (&["demo", "7", "1"], "usage"),
-    ];
-    for (words, line) in rows {
-        assert_eq!(rt; said(rt.alloc(), words)?.as_str(), line);
+    for row in &WORLDS {
+        let (words, line) = *row;
+        assert!(rt; is_said(rt.alloc(), words, line)?, "{line}");
     }
     Ok(())
 }

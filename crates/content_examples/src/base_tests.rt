@@ -37,13 +37,19 @@ const DAMAGES: [(usize, u8); 11] = [
     (2540, 1),
 ];
 
-// The content of that world, of which one byte is another.
-fn small(alloc: Global, damage: Option<(usize, u8)>) -> Result<Vec<u8>, AllocError> {
-    let mut content = Vec::from_slice(alloc, &FRONT)?;
+// Adds the content of that world.
+fn put_small(content: &mut Vec<u8>) -> Result<(), AllocError> {
+    content.extend_from_slice(&FRONT)?;
     for _ in 0..2500 {
         content.push(0)?;
     }
-    content.extend_from_slice(&BACK)?;
+    content.extend_from_slice(&BACK)
+}
+
+// That content, of which one byte is another.
+fn small(alloc: Global, damage: Option<(usize, u8)>) -> Result<Vec<u8>, AllocError> {
+    let mut content = Vec::new(alloc);
+    put_small(&mut content)?;
     if let Some((at, byte)) = damage
         && at < content.len()
     {
@@ -59,59 +65,96 @@ fn is_malformed(alloc: Global, content: &[u8]) -> bool {
     }
 }
 
-// The world that a content spells.
-fn world_in(alloc: Global, content: &[u8]) -> Result<World, Fail> {
-    Ok(read_base_form(alloc, content)?)
+// The content of the world of all kinds.
+fn written(alloc: Global) -> Result<Vec<u8>, Fail> {
+    Ok(write_base(alloc, &all_kinds(alloc)?.world)?)
 }
 
-// The content of a world.
-fn content_of(alloc: Global, world: &World) -> Result<Vec<u8>, Fail> {
-    Ok(write_base(alloc, world)?)
+// Whether a world is written as this content.
+fn is_written(alloc: Global, world: &World, content: &[u8]) -> bool {
+    match write_base(alloc, world) {
+        Ok(again) => again.as_slice() == content,
+        Err(_) => false,
+    }
 }
 
-// Whether the world of a content is written as that content again.
-fn is_written_again(alloc: Global, content: &[u8]) -> Result<bool, Fail> {
-    Ok(content_of(alloc, &world_in(alloc, content)?)?.as_slice() == content)
+// The tick, the number of rooms and that of accounts of a world.
+fn sizes(world: &World) -> (u64, u32, u32) {
+    (world.tick(), world.rooms(), world.accounts())
+}
+
+// How many objects the second room has, and the hits and the number of parts of its creep.
+fn second_room(world: &World) -> Option<(u32, u32, u64)> {
+    let table = &world.room_list().get(1)?.table;
+    let creep = table.get(4_294_967_299)?;
+    Some((table.len(), creep.hits, creep.body.len()))
+}
+
+// Whether the world of a content is that of all kinds, and is written as that content again.
+fn has_all_kinds(alloc: Global, content: &[u8]) -> bool {
+    match read_base_form(alloc, content) {
+        Ok(world) => {
+            sizes(&world) == (3, 2, 2)
+                && second_room(&world) == Some((10, 200, 2))
+                && is_written(alloc, &world, content)
+        }
+        Err(_) => false,
+    }
 }
 
 #[test]
 fn a_world_comes_back(rt: HostRuntime) -> Result<(), Fail> {
-    let alloc = rt.alloc();
-    let written = content_of(alloc, &all_kinds(alloc)?.world)?;
-    let world = world_in(alloc, &written)?;
-    assert!(rt; (world.tick(), world.rooms(), world.accounts()) == (3, 2, 2));
-    let table = &world.room_list().get(1).ok_or("no room")?.table;
-    let creep = table.get(4_294_967_299).ok_or("no creep")?;
-    assert!(rt; (table.len(), creep.hits, creep.body.len()) == (10, 200, 2));
-    assert!(rt; is_written_again(alloc, &written)?);
+    let content = written(rt.alloc())?;
+    assert!(rt; has_all_kinds(rt.alloc(), &content));
     Ok(())
+}
+
+// The name of the first room, the ground of its last tile, and how many objects it has.
+fn first_room(world: &World) -> Option<(RoomName, Ground, u32)> {
+    let room = world.room_list().first()?;
+    Some((room.name, room.terrain.at(49, 49), room.table.len()))
+}
+
+// Whether the world of a content is the small one, and is written as that content again.
+fn is_small(alloc: Global, content: &[u8]) -> bool {
+    let name = RoomName { column: -1, row: 2 };
+    match read_base_form(alloc, content) {
+        Ok(world) => {
+            sizes(&world) == (7, 1, 0)
+                && first_room(&world) == Some((name, Ground::Plain, 0))
+                && is_written(alloc, &world, content)
+        }
+        Err(_) => false,
+    }
 }
 
 #[test]
 fn a_small_world_comes_back(rt: HostRuntime) -> Result<(), Fail> {
-    let alloc = rt.alloc();
-    let content = small(alloc, None)?;
-    let world = world_in(alloc, &content)?;
-    assert!(rt; (world.tick(), world.rooms(), world.accounts()) == (7, 1, 0));
-    let room = world.room_list().first().ok_or("no room")?;
-    assert!(rt; room.name == RoomName { column: -1, row: 2 });
-    assert!(rt; (room.terrain.at(49, 49), room.table.len()) == (Ground::Plain, 0));
-    assert!(rt; is_written_again(alloc, &content)?);
+    let content = small(rt.alloc(), None)?;
+    assert!(rt; is_small(rt.alloc(), &content));
     Ok(())
+}
+
+// The content of the small world with a byte behind it.
+fn longer(alloc: Global) -> Result<Vec<u8>, AllocError> {
+    let mut content = small(alloc, None)?;
+    content.push(0)?;
+    Ok(content)
+}
+
+// Whether the content of the small world is refused with this damage.
+fn is_refused(alloc: Global, damage: (usize, u8)) -> Result<bool, AllocError> {
+    Ok(is_malformed(alloc, &small(alloc, Some(damage))?))
 }
 
 #[test]
 fn a_content_is_read_to_its_end(rt: HostRuntime) -> Result<(), Fail> {
     let alloc = rt.alloc();
-    let mut content = small(alloc, None)?;
-    content.push(0)?;
-    assert!(rt; is_malformed(alloc, &content));
     for damage in DAMAGES {
-        assert!(rt;
-            is_malformed(alloc, &small(alloc, Some(damage))?),
-            "{damage:?}"
-        );
+        assert!(rt; is_refused(alloc, damage)?, "{damage:?}");
     }
+    let content = longer(alloc)?;
+    assert!(rt; is_malformed(alloc, &content));
     Ok(())
 }
 
@@ -125,14 +168,30 @@ fn with_account(alloc: Global, player: u8) -> Result<Vec<u8>, AllocError> {
     Ok(content)
 }
 
+// The limit, the bucket and the points of player 1.
+fn first_player(world: &World) -> Option<(u32, u32, u64)> {
+    let account = world.account(1)?;
+    Some((account.limit, account.bucket, account.points))
+}
+
+// Whether the world of a content has the account of player 1, and is written as that content again.
+fn has_player(alloc: Global, content: &[u8]) -> bool {
+    match read_base_form(alloc, content) {
+        Ok(world) => {
+            first_player(&world) == Some((20, 5, 6)) && is_written(alloc, &world, content)
+        }
+        Err(_) => false,
+    }
+}
+
+// Whether the small world has player 1, and is refused with player 0.
+fn begin_with_one(alloc: Global) -> Result<(bool, bool), AllocError> {
+    let has_one = has_player(alloc, &with_account(alloc, 1)?);
+    Ok((has_one, is_malformed(alloc, &with_account(alloc, 0)?)))
+}
+
 #[test]
 fn players_begin_with_one(rt: HostRuntime) -> Result<(), Fail> {
-    let alloc = rt.alloc();
-    let content = with_account(alloc, 1)?;
-    let world = world_in(alloc, &content)?;
-    let account = world.account(1).ok_or("nobody")?;
-    assert!(rt; (account.limit, account.bucket, account.points) == (20, 5, 6));
-    assert!(rt; is_written_again(alloc, &content)?);
-    assert!(rt; is_malformed(alloc, &with_account(alloc, 0)?));
+    assert!(rt; begin_with_one(rt.alloc())? == (true, true));
     Ok(())
 }

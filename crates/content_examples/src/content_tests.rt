@@ -59,12 +59,18 @@ const DAMAGES: [(usize, u8); 17] = [
     (214, 0),
 ];
 
-// That content, of which one byte is another.
-fn whole(alloc: Global, damage: Option<(usize, u8)>) -> Result<Vec<u8>, AllocError> {
-    let mut content = Vec::from_slice(alloc, &UPLOADS)?;
+// Adds the content of those parts.
+fn put_whole(content: &mut Vec<u8>) -> Result<(), AllocError> {
+    content.extend_from_slice(&UPLOADS)?;
     content.extend_from_slice(&RUNS)?;
     content.extend_from_slice(&ACCOUNTS)?;
-    content.extend_from_slice(&ROOMS)?;
+    content.extend_from_slice(&ROOMS)
+}
+
+// That content, of which one byte is another.
+fn whole(alloc: Global, damage: Option<(usize, u8)>) -> Result<Vec<u8>, AllocError> {
+    let mut content = Vec::new(alloc);
+    put_whole(&mut content)?;
     if let Some((at, byte)) = damage
         && at < content.len()
     {
@@ -73,27 +79,39 @@ fn whole(alloc: Global, damage: Option<(usize, u8)>) -> Result<Vec<u8>, AllocErr
     Ok(content)
 }
 
-// A content with an upload of so many bytes, and with a run of so many intents.
-fn filled(alloc: Global, length: u32, intents: u32) -> Result<Vec<u8>, AllocError> {
-    let mut content = Vec::from_slice(alloc, b"T")?;
-    put_u64(&mut content, 1)?;
-    put_u32(&mut content, 1)?;
-    put_u32(&mut content, 9)?;
+// Adds the tick and an upload of so many bytes.
+fn put_upload(content: &mut Vec<u8>, length: u32) -> Result<(), AllocError> {
+    content.extend_from_slice(b"T")?;
+    put_u64(content, 1)?;
+    put_u32(content, 1)?;
+    put_u32(content, 9)?;
     content.push(0)?;
-    put_u32(&mut content, length)?;
+    put_u32(content, length)?;
     for _ in 0..length {
         content.push(7)?;
     }
-    put_u32(&mut content, 1)?;
+    Ok(())
+}
+
+// Adds a run of so many intents, and no account and no room.
+fn put_run(content: &mut Vec<u8>, intents: u32) -> Result<(), AllocError> {
+    put_u32(content, 1)?;
     content.extend_from_slice(&[1, 0, 0, 0, 0, 0])?;
-    put_u64(&mut content, 5)?;
-    put_u32(&mut content, intents)?;
+    put_u64(content, 5)?;
+    put_u32(content, intents)?;
     for actor in 0..intents {
         content.push(8)?;
-        put_u64(&mut content, u64::from(actor))?;
+        put_u64(content, u64::from(actor))?;
         content.extend_from_slice(&[0; 17])?;
     }
-    put_u64(&mut content, 0)?;
+    put_u64(content, 0)
+}
+
+// A content with an upload of so many bytes, and with a run of so many intents.
+fn filled(alloc: Global, length: u32, intents: u32) -> Result<Vec<u8>, AllocError> {
+    let mut content = Vec::new(alloc);
+    put_upload(&mut content, length)?;
+    put_run(&mut content, intents)?;
     Ok(content)
 }
 
@@ -109,69 +127,123 @@ fn record_in(alloc: Global, content: &[u8]) -> Result<TickRecord, Fail> {
     Ok(read_tick(alloc, content)?)
 }
 
+// The record of that content.
+fn whole_record(alloc: Global) -> Result<TickRecord, Fail> {
+    record_in(alloc, &whole(alloc, None)?)
+}
+
+// Whether a record is written as this content.
+fn is_written(alloc: Global, entry: &TickRecord, content: &[u8]) -> bool {
+    match write_tick(alloc, entry) {
+        Ok(again) => again.as_slice() == content,
+        Err(_) => false,
+    }
+}
+
 // Whether the record of a content is written as that content again.
-fn is_written_again(alloc: Global, content: &[u8]) -> Result<bool, Fail> {
-    let entry = record_in(alloc, content)?;
-    Ok(write_tick(alloc, &entry)?.as_slice() == content)
+fn is_written_again(alloc: Global, content: &[u8]) -> bool {
+    match read_tick(alloc, content) {
+        Ok(entry) => is_written(alloc, &entry, content),
+        Err(_) => false,
+    }
+}
+
+// The player, the result and the number of bytes of the first upload.
+fn first_upload(entry: &TickRecord) -> Option<(u32, u8, u64)> {
+    let upload = entry.uploads.as_slice().first()?;
+    Some((upload.player, upload.result_number, upload.bytes.len()))
 }
 
 #[test]
 fn uploads_come_back(rt: HostRuntime) -> Result<(), Fail> {
-    let entry = record_in(rt.alloc(), &whole(rt.alloc(), None)?)?;
-    let uploads = entry.uploads.as_slice();
-    let upload = uploads.first().ok_or("no upload")?;
-    assert!(rt; (entry.tick, uploads.len()) == (7, 2));
-    assert!(rt; (upload.player, upload.result_number, upload.bytes.len()) == (9, 0, 2));
+    let entry = whole_record(rt.alloc())?;
+    assert!(rt; (entry.tick, entry.uploads.as_slice().len()) == (7, 2));
+    assert!(rt; first_upload(&entry) == Some((9, 0, 2)));
     Ok(())
+}
+
+// The player, the outcome and the ticks of the first run.
+fn first_run(entry: &TickRecord) -> Option<(u32, RunOutcome, u64)> {
+    let run = entry.runs.as_slice().first()?;
+    Some((run.player, run.outcome, run.used))
+}
+
+// The player, the actor, the amount and the number of parts of the last intent of the first run.
+fn last_intent(entry: &TickRecord) -> Option<(u32, u64, u64, u64)> {
+    let run = entry.runs.as_slice().first()?;
+    let intent = run.intents.as_slice().last()?;
+    Some((
+        intent.player,
+        intent.actor,
+        intent.amount,
+        intent.body.len(),
+    ))
+}
+
+// The outcome of a run.
+fn outcome(entry: &TickRecord, place: usize) -> Option<RunOutcome> {
+    let run = entry.runs.as_slice().get(place)?;
+    Some(run.outcome)
 }
 
 #[test]
 fn runs_come_back(rt: HostRuntime) -> Result<(), Fail> {
-    let entry = record_in(rt.alloc(), &whole(rt.alloc(), None)?)?;
-    let runs = entry.runs.as_slice();
-    let run = runs.first().ok_or("no run")?;
-    let intent = run.intents.as_slice().last().ok_or("no intent")?;
-    assert!(rt; (run.player, run.outcome, run.used) == (1, RunOutcome::Finished, 5_000));
-    assert!(rt;
-        (
-            intent.player,
-            intent.actor,
-            intent.amount,
-            intent.body.len()
-        ) == (1, 3, 1, 2)
-    );
-    assert!(rt; runs.get(1).map(|run| run.outcome) == Some(RunOutcome::Trapped(9)));
-    assert!(rt; runs.get(2).map(|run| run.outcome) == Some(RunOutcome::Spent));
+    let entry = whole_record(rt.alloc())?;
+    assert!(rt; first_run(&entry) == Some((1, RunOutcome::Finished, 5_000)));
+    assert!(rt; last_intent(&entry) == Some((1, 3, 1, 2)));
+    assert!(rt; outcome(&entry, 1) == Some(RunOutcome::Trapped(9)));
+    assert!(rt; outcome(&entry, 2) == Some(RunOutcome::Spent));
     Ok(())
+}
+
+// The player and the length of the memory text of the first account.
+fn first_account(entry: &TickRecord) -> Option<(u32, u64)> {
+    let account = entry.accounts.as_slice().first()?;
+    Some((account.player, account.memory.len()))
+}
+
+// The index, the next serial and the number of objects of the last room.
+fn last_room(entry: &TickRecord) -> Option<(u32, u32, u32)> {
+    let table = entry.rooms.as_slice().last()?;
+    Some((table.index(), table.next(), table.len()))
 }
 
 #[test]
 fn accounts_and_rooms_come_back(rt: HostRuntime) -> Result<(), Fail> {
-    let entry = record_in(rt.alloc(), &whole(rt.alloc(), None)?)?;
-    let account = entry.accounts.as_slice().first().ok_or("no account")?;
-    assert!(rt; (account.player, account.memory.len()) == (1, 1));
-    let table = entry.rooms.as_slice().last().ok_or("no room")?;
-    assert!(rt; (table.index(), table.next(), table.len()) == (3, 2, 1));
+    let entry = whole_record(rt.alloc())?;
+    assert!(rt; first_account(&entry) == Some((1, 1)));
+    assert!(rt; last_room(&entry) == Some((3, 2, 1)));
     Ok(())
+}
+
+// Whether that content is refused with this damage.
+fn is_refused(alloc: Global, damage: (usize, u8)) -> Result<bool, AllocError> {
+    Ok(is_malformed(alloc, &whole(alloc, Some(damage))?))
+}
+
+// The first bytes of that content with these behind them.
+fn cut(alloc: Global, len: usize, behind: &[u8]) -> Result<Vec<u8>, AllocError> {
+    let mut content = whole(alloc, None)?;
+    content.truncate(len);
+    content.extend_from_slice(behind)?;
+    Ok(content)
+}
+
+// Whether that is refused.
+fn is_refused_cut(alloc: Global, len: usize, behind: &[u8]) -> Result<bool, AllocError> {
+    Ok(is_malformed(alloc, &cut(alloc, len, behind)?))
 }
 
 #[test]
 fn a_content_is_read_to_its_end(rt: HostRuntime) -> Result<(), Fail> {
     let alloc = rt.alloc();
     for damage in DAMAGES {
-        assert!(rt;
-            is_malformed(alloc, &whole(alloc, Some(damage))?),
-            "{damage:?}"
-        );
+        assert!(rt; is_refused(alloc, damage)?, "{damage:?}");
     }
-    let mut content = whole(alloc, None)?;
-    content.push(0)?;
-    assert!(rt; is_malformed(alloc, &content));
-    content.truncate(277);
-    assert!(rt; is_malformed(alloc, &content));
-    content.truncate(9);
-    put_u32(&mut content, u32::MAX)?;
-    assert!(rt; is_malformed(alloc, &content));
+    // (a byte too many, one too few, and more uploads than there is room for)
+    assert!(rt; is_refused_cut(alloc, 278, &[0])?);
+    assert!(rt; is_refused_cut(alloc, 277, &[])?);
+    assert!(rt; is_refused_cut(alloc, 9, &[0xff; 4])?);
     Ok(())
 }
 
@@ -187,26 +259,39 @@ fn nothing(alloc: Global) -> Result<Vec<u8>, Fail> {
     Ok(write_tick(alloc, &entry)?)
 }
 
+// The tick of a record, and how many runs and rooms it has.
+fn counts(entry: TickRecord) -> (u64, usize, usize) {
+    let rooms = entry.rooms.into_vec();
+    (entry.tick, entry.runs.as_slice().len(), rooms.len())
+}
+
 #[test]
 fn lists_are_empty(rt: HostRuntime) -> Result<(), Fail> {
-    let alloc = rt.alloc();
-    let content = nothing(alloc)?;
+    let content = nothing(rt.alloc())?;
     let mut empty = [0u8; 25];
     empty[0] = b'T';
     empty[1] = 5;
     assert!(rt; content.as_slice() == empty.as_slice());
-    let entry = record_in(alloc, &content)?;
-    assert!(rt; (entry.tick, entry.runs.as_slice().len()) == (5, 0));
-    assert!(rt; entry.rooms.into_vec().len() == 0);
+    assert!(rt; counts(record_in(rt.alloc(), &content)?) == (5, 0, 0));
     Ok(())
+}
+
+// Whether that content, and one with so many bytes and intents, are written again.
+fn are_written_again(alloc: Global, length: u32, intents: u32) -> Result<bool, AllocError> {
+    let is_whole = is_written_again(alloc, &whole(alloc, None)?);
+    Ok(is_whole && is_written_again(alloc, &filled(alloc, length, intents)?))
+}
+
+// Whether a content with so many bytes and intents is refused.
+fn is_too_full(alloc: Global, length: u32, intents: u32) -> Result<bool, AllocError> {
+    Ok(is_malformed(alloc, &filled(alloc, length, intents)?))
 }
 
 #[test]
 fn lists_are_full(rt: HostRuntime) -> Result<(), Fail> {
     let alloc = rt.alloc();
-    assert!(rt; is_written_again(alloc, &whole(alloc, None)?)?);
-    assert!(rt; is_written_again(alloc, &filled(alloc, 1_048_576, 4_096)?)?);
-    assert!(rt; is_malformed(alloc, &filled(alloc, 1_048_577, 0)?));
-    assert!(rt; is_malformed(alloc, &filled(alloc, 0, 4_097)?));
+    assert!(rt; are_written_again(alloc, 1_048_576, 4_096)?);
+    assert!(rt; is_too_full(alloc, 1_048_577, 0)?);
+    assert!(rt; is_too_full(alloc, 0, 4_097)?);
     Ok(())
 }

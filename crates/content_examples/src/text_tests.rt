@@ -20,40 +20,72 @@ fn text_of(alloc: Global, world: &World) -> Result<Vec<u8>, Fail> {
     Ok(write_world(alloc, world)?)
 }
 
+// How many objects the second room has, and the hits and the number of parts of its creep.
+fn second_room(world: &World) -> Option<(u32, u32, u64)> {
+    let table = &world.room_list().get(1)?.table;
+    let creep = table.get(4_294_967_299)?;
+    Some((table.len(), creep.hits, creep.body.len()))
+}
+
 #[test]
 fn all_kinds_are_read(rt: HostRuntime) -> Result<(), Fail> {
     let file = all_kinds(rt.alloc())?;
     let world = &file.world;
     assert!(rt; (world.tick(), world.rooms(), world.accounts()) == (3, 2, 2));
-    let table = &world.room_list().get(1).ok_or("no room")?.table;
-    let creep = table.get(4_294_967_299).ok_or("no creep")?;
-    assert!(rt; (table.len(), creep.hits, creep.body.len()) == (10, 200, 2));
+    assert!(rt; second_room(world) == Some((10, 200, 2)));
     Ok(())
+}
+
+// The number, the bucket, the points and the memory text of the first player.
+fn first_player(world: &World) -> Option<(u32, u32, u64, &[u8])> {
+    let first = world.account_list().first()?;
+    Some((
+        first.player,
+        first.bucket,
+        first.points,
+        first.memory.as_slice(),
+    ))
+}
+
+// The player of a token, and its text.
+fn token(tokens: &Tokens, place: u64) -> Option<(u32, &str)> {
+    let entry = tokens.nth(place)?;
+    Some((entry.0, entry.1.as_str()))
 }
 
 #[test]
 fn players_and_tokens_are_read(rt: HostRuntime) -> Result<(), Fail> {
     let file = all_kinds(rt.alloc())?;
-    let first = file.world.account_list().first().ok_or("nobody")?;
-    assert!(rt; (first.player, first.bucket, first.points) == (7, 5, 6));
-    assert!(rt; first.memory.as_slice() == [0x00, 0xfa, 0x9b].as_slice());
-    for (place, player, token) in [(0, 7, "b!~"), (1, 9, "")] {
-        let entry = file.tokens.nth(place).ok_or("no token")?;
-        assert!(rt; (entry.0, entry.1.as_str()) == (player, token));
-    }
+    let memory = [0x00, 0xfa, 0x9b].as_slice();
+    assert!(rt; first_player(&file.world) == Some((7, 5, 6, memory)));
+    assert!(rt; token(&file.tokens, 0) == Some((7, "b!~")));
+    assert!(rt; token(&file.tokens, 1) == Some((9, "")));
     Ok(())
+}
+
+// The text that is written of the world of all kinds.
+fn all_text(alloc: Global) -> Result<Vec<u8>, Fail> {
+    text_of(alloc, &all_kinds(alloc)?.world)
+}
+
+// The text that is written of the world of a text.
+fn text_again(alloc: Global, text: &[u8]) -> Result<Vec<u8>, Fail> {
+    text_of(alloc, &read_file(alloc, text)?.world)
+}
+
+// Whether a text is written again as it is.
+fn is_written_again(alloc: Global, text: &[u8]) -> Result<bool, Fail> {
+    Ok(text_again(alloc, text)?.as_slice() == text)
 }
 
 #[test]
 fn all_kinds_are_written_again(rt: HostRuntime) -> Result<(), Fail> {
-    let alloc = rt.alloc();
-    let written = text_of(alloc, &all_kinds(alloc)?.world)?;
-    let again = text_of(alloc, &read_file(alloc, &written)?.world)?;
-    assert!(rt; written.as_slice() == again.as_slice());
+    let written = all_text(rt.alloc())?;
+    assert!(rt; is_written_again(rt.alloc(), &written)?);
     Ok(())
 }
 
-// The text that is written of the world of the creep.
+// The text that is to be written of the world of the creep.
 fn expected(alloc: Global) -> Result<String, AllocError> {
     let ground = grounds(alloc)?;
     let front = format!(in alloc;
@@ -64,23 +96,38 @@ fn expected(alloc: Global) -> Result<String, AllocError> {
     )
 }
 
+// The text that is written of the world of the creep.
+fn creep_text(alloc: Global) -> Result<Vec<u8>, Fail> {
+    text_again(alloc, file_of(alloc, CREEP)?.as_bytes())
+}
+
 #[test]
 fn a_world_has_its_text(rt: HostRuntime) -> Result<(), Fail> {
-    let alloc = rt.alloc();
-    let file = read_file(alloc, file_of(alloc, CREEP)?.as_bytes())?;
-    let text = text_of(alloc, &file.world)?;
-    assert!(rt; text.as_slice() == expected(alloc)?.as_bytes());
+    let text = creep_text(rt.alloc())?;
+    assert!(rt; text.as_slice() == expected(rt.alloc())?.as_bytes());
     Ok(())
+}
+
+// A text of two characters.
+fn two_characters(alloc: Global) -> Result<Text, AllocError> {
+    let mut text = Text::new(alloc);
+    text.push('a')?;
+    text.push('é')?;
+    Ok(text)
+}
+
+// The token of player 4 alone.
+fn one_token(alloc: Global) -> Result<Tokens, AllocError> {
+    let mut tokens = Tokens::new(alloc);
+    tokens.push((4, two_characters(alloc)?))?;
+    Ok(tokens)
 }
 
 #[test]
 fn texts_and_tokens_are_lists(rt: HostRuntime) -> Result<(), Fail> {
-    let mut text = Text::new(rt.alloc());
-    text.push('a')?;
-    text.push('é')?;
+    let text = two_characters(rt.alloc())?;
     assert!(rt; (text.len(), text.nth(1), text.nth(2)) == (2, Some('é'), None));
-    let mut tokens = Tokens::new(rt.alloc());
-    tokens.push((4, text))?;
+    let tokens = one_token(rt.alloc())?;
     assert!(rt; tokens.len() == 1);
     assert!(rt; tokens.nth(1).is_none());
     Ok(())

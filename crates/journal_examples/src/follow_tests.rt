@@ -1,12 +1,12 @@
 // Records that follow a world, and records that don't, each for one cause.
+use crate::followed::all_seen;
 use crate::worlds::{IDLE, PARTS, account, pile, world_of};
-use changed_rules::Census;
 use intent_book::{Intents, RunOutcome};
-use object_store::{Account, Bytes, RoomTable, World};
-use record_follows::{advance, after, follows};
+use object_store::{Account, Bytes, RoomTable};
+use record_follows::follows;
 use std::alloc::{AllocError, Global};
 use std::test::Fail;
-use tick_journal::{Entries, RunEntry, TickRecord, UploadEntry, read_base_form, write_base};
+use tick_journal::{Entries, RunEntry, TickRecord, UploadEntry};
 
 // What is changed of a record that follows.
 #[derive(Clone, Copy)]
@@ -76,14 +76,31 @@ fn tables(alloc: Global, changed: Changed) -> Result<Vec<RoomTable>, AllocError>
     Ok(vec![in alloc; first, second]?)
 }
 
+// Its upload and its run.
+fn inputs(
+    alloc: Global,
+    changed: Changed,
+) -> Result<(Vec<UploadEntry>, Vec<RunEntry>), AllocError> {
+    let uploads = uploads(alloc, changed)?;
+    Ok((uploads, runs(alloc, changed)?))
+}
+
+// Its accounts and its tables.
+fn results(alloc: Global, changed: Changed) -> Result<(Vec<Account>, Vec<RoomTable>), AllocError> {
+    let accounts = accounts(alloc, changed)?;
+    Ok((accounts, tables(alloc, changed)?))
+}
+
 // The record with these changes.
 fn record(alloc: Global, changed: Changed) -> Result<TickRecord, AllocError> {
+    let (uploads, runs) = inputs(alloc, changed)?;
+    let (accounts, rooms) = results(alloc, changed)?;
     Ok(TickRecord {
         tick: changed.tick,
-        uploads: Entries::from_vec(uploads(alloc, changed)?),
-        runs: Entries::from_vec(runs(alloc, changed)?),
-        accounts: Entries::from_vec(accounts(alloc, changed)?),
-        rooms: Entries::from_vec(tables(alloc, changed)?),
+        uploads: Entries::from_vec(uploads),
+        runs: Entries::from_vec(runs),
+        accounts: Entries::from_vec(accounts),
+        rooms: Entries::from_vec(rooms),
     })
 }
 
@@ -93,30 +110,6 @@ fn fits(alloc: Global, changed: Changed) -> Result<bool, AllocError> {
         alloc,
         &world_of(alloc, 41, PARTS)?,
         &record(alloc, changed)?,
-    )
-}
-
-// The energy of the first object of a room.
-fn energy_in(world: &World, index: usize) -> Option<u64> {
-    let room = world.room_list().get(index)?;
-    let object = room.table.nth(0)?;
-    Some(object.energy)
-}
-
-// The bucket of a player.
-fn bucket_of(world: &World, player: u32) -> Option<u32> {
-    let account = world.account(player)?;
-    Some(account.bucket)
-}
-
-// What the record changed: the tick, the pile of the second room and the bucket of player 7.
-fn seen(world: &World) -> (u64, Option<u64>, Option<u64>, Option<u32>, Option<u32>) {
-    (
-        world.tick(),
-        energy_in(world, 0),
-        energy_in(world, 1),
-        bucket_of(world, 7),
-        bucket_of(world, 9),
     )
 }
 
@@ -168,22 +161,9 @@ fn each_field_of_a_record_is_tested(rt: HostRuntime) -> Result<(), Fail> {
 
 #[test]
 fn a_record_that_follows_leads_to_the_world_after_it(rt: HostRuntime) -> Result<(), Fail> {
-    let alloc = rt.alloc();
-    let base = write_base(alloc, &world_of(alloc, 41, PARTS)?)?;
-    let Ok(mut world) = read_base_form(alloc, &base) else {
-        return Err("not read".into());
-    };
-    let Some(mut census) = Census::of(alloc, &world)? else {
-        return Err("no census".into());
-    };
-    let entry = record(alloc, RIGHT)?;
-    assert!(rt; seen(&world) == (41, Some(5), Some(5), Some(5), Some(5)));
-    if follows(alloc, &world, &entry)? {
-        let next = after(alloc, &world, &entry)?;
-        assert!(rt; seen(&next) == (42, Some(5), Some(1), Some(6), Some(5)));
-    }
-    assert!(rt; advance(alloc, &mut census, &mut world, &entry)?);
-    assert!(rt; seen(&world) == (42, Some(5), Some(1), Some(6), Some(5)));
-    assert!(rt; !advance(alloc, &mut census, &mut world, &entry)?);
+    let entry = record(rt.alloc(), RIGHT)?;
+    let before = (41, Some(5), Some(5), Some(5), Some(5));
+    let after = (42, Some(5), Some(1), Some(6), Some(5));
+    assert!(rt; all_seen(rt.alloc(), &entry)? == (before, Some(after), after, false));
     Ok(())
 }

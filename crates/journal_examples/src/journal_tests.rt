@@ -2,10 +2,13 @@
 // memory.
 use crate::journals::{FIRST, added, disk_of, journal_of, record_of};
 use crate::worlds::{PARTS, TRAPPED, world_of};
-use std::alloc::Global;
+use object_store::World;
+use std::alloc::{AllocError, Global};
 use std::test::Fail;
+use tick_journal::TickRecord;
 use world_journal::{
-    AppendFault, AtFault, Journal, RecoverFault, Recovered, Walk, records, span, tick_at, world_at,
+    AppendFault, AtFault, Journal, Modules, RecoverFault, Recovered, UploadCounts, Walk, records,
+    span, tick_at, world_at,
 };
 
 // What is found on a disk of these bytes.
@@ -26,28 +29,56 @@ fn span_of(alloc: Global, bytes: &[u8]) -> Result<(u64, u64), Fail> {
     }
 }
 
+// What is found of a journal of two records.
+fn two_recovered(alloc: Global) -> Result<Recovered, Fail> {
+    recovered(alloc, &journal_of(alloc, &[4, 5])?)
+}
+
+// Whether there are two modules, that of player 7 his latest.
+fn has_latest(modules: &Modules) -> bool {
+    match modules.get(&7) {
+        Some(latest) => modules.len() == 2 && latest.as_slice() == TRAPPED.as_slice(),
+        None => false,
+    }
+}
+
 #[test]
 fn a_journal_is_recovered(rt: HostRuntime) -> Result<(), Fail> {
-    let alloc = rt.alloc();
-    let found = recovered(alloc, &journal_of(alloc, &[4, 5])?)?;
+    let found = two_recovered(rt.alloc())?;
     assert!(rt; (found.base.tick(), found.world.tick()) == (FIRST, 5));
-    let latest = found.modules.get(&7).ok_or("no module")?;
-    assert!(rt; (found.modules.len(), latest.as_slice()) == (2, TRAPPED.as_slice()));
+    assert!(rt; has_latest(&found.modules));
     Ok(())
+}
+
+// The player, the number of uploads and the last result of each count.
+fn counts_of(alloc: Global, uploads: &UploadCounts) -> Result<Vec<(u32, u64, u8)>, AllocError> {
+    uploads
+        .as_slice()
+        .iter()
+        .map(|count| (count.player, count.uploads, count.last))
+        .collect(alloc)
+}
+
+// Those of the journal of two records.
+fn two_counts(alloc: Global) -> Result<Vec<(u32, u64, u8)>, Fail> {
+    Ok(counts_of(alloc, &two_recovered(alloc)?.uploads)?)
 }
 
 #[test]
 fn uploads_of_a_journal_are_counted(rt: HostRuntime) -> Result<(), Fail> {
-    let alloc = rt.alloc();
-    let found = recovered(alloc, &journal_of(alloc, &[4, 5])?)?;
-    let counts = found
-        .uploads
-        .as_slice()
-        .iter()
-        .map(|count| (count.player, count.uploads, count.last));
-    let counts: Vec<(u32, u64, u8)> = counts.collect(alloc)?;
+    let counts = two_counts(rt.alloc())?;
     assert!(rt; counts.as_slice() == [(7, 3, 0), (9, 2, 4)].as_slice());
     Ok(())
+}
+
+// The bytes of this journal with an empty record of the tick.
+fn longer(alloc: Global, bytes: &[u8], tick: u64) -> Result<Vec<u8>, Fail> {
+    added(alloc, bytes, &record_of(alloc, tick, &[])?)
+}
+
+// The span of that.
+fn span_of_longer(alloc: Global, bytes: &[u8], tick: u64) -> Result<(u64, u64), Fail> {
+    span_of(alloc, &longer(alloc, bytes, tick)?)
 }
 
 #[test]
@@ -55,8 +86,7 @@ fn a_journal_goes_on(rt: HostRuntime) -> Result<(), Fail> {
     let alloc = rt.alloc();
     let bytes = journal_of(alloc, &[4, 5])?;
     assert!(rt; span_of(alloc, &bytes)? == (FIRST, 5));
-    let longer = added(alloc, &bytes, &record_of(alloc, 6, &[])?)?;
-    assert!(rt; span_of(alloc, &longer)? == (FIRST, 6));
+    assert!(rt; span_of_longer(alloc, &bytes, 6)? == (FIRST, 6));
     Ok(())
 }
 
@@ -106,16 +136,28 @@ fn record_found(alloc: Global, bytes: &[u8], tick: u64) -> Result<(u64, usize), 
     }
 }
 
+// The ticks of the worlds that are found of ticks 3 to 5.
+fn worlds_found(alloc: Global, bytes: &[u8]) -> Result<[u64; 3], Fail> {
+    Ok([
+        world_found(alloc, bytes, 3)?,
+        world_found(alloc, bytes, 4)?,
+        world_found(alloc, bytes, 5)?,
+    ])
+}
+
 #[test]
 fn worlds_and_records_are_found(rt: HostRuntime) -> Result<(), Fail> {
     let alloc = rt.alloc();
     let bytes = journal_of(alloc, &[4, 5])?;
     assert!(rt; first_and_records(alloc, &bytes)? == (FIRST, 2));
-    for tick in FIRST..6 {
-        assert!(rt; world_found(alloc, &bytes, tick)? == tick);
-    }
+    assert!(rt; worlds_found(alloc, &bytes)? == [FIRST, 4, 5]);
     assert!(rt; record_found(alloc, &bytes, 4)? == (4, 6));
     Ok(())
+}
+
+// The tick of a record.
+fn tick_of(entry: TickRecord) -> u64 {
+    entry.tick
 }
 
 // The ticks of the worlds that a walk comes to over one record, that of the record, and whether it then
@@ -129,9 +171,10 @@ fn walked(alloc: Global, bytes: &[u8]) -> Result<(u64, u64, u64, bool), Fail> {
     let Ok(Some(entry)) = walk.next(alloc, &mut disk) else {
         return Err("no record".into());
     };
+    let tick = tick_of(entry);
     let last = walk.world().tick();
     let ends = matches!(walk.next(alloc, &mut disk), Ok(None));
-    Ok((first, entry.tick, last, ends))
+    Ok((first, tick, last, ends))
 }
 
 // The same of a walk that tests no rules.
@@ -145,9 +188,10 @@ fn walked_untested(alloc: Global, bytes: &[u8]) -> Result<(u64, u64, u64, bool),
     let Ok(Some(entry)) = walk.next(alloc, &mut disk) else {
         return Err("no record".into());
     };
+    let tick = tick_of(entry);
     let last = walk.world().tick();
     let ends = matches!(walk.next(alloc, &mut disk), Ok(None));
-    Ok((first, entry.tick, last, ends))
+    Ok((first, tick, last, ends))
 }
 
 #[test]
@@ -214,6 +258,18 @@ fn record_fault(
     Ok(tick_at(alloc, &mut disk, tick).err())
 }
 
+// Why no world and no record is found of a tick.
+fn tick_faults(
+    alloc: Global,
+    bytes: &[u8],
+    tick: u64,
+) -> Result<(Option<AtFault>, Option<AtFault>), Fail> {
+    Ok((
+        world_fault(alloc, bytes, None, tick)?,
+        record_fault(alloc, bytes, None, tick)?,
+    ))
+}
+
 #[test]
 fn other_ticks_are_none_of_the_journal(rt: HostRuntime) -> Result<(), Fail> {
     let alloc = rt.alloc();
@@ -227,8 +283,7 @@ fn other_ticks_are_none_of_the_journal(rt: HostRuntime) -> Result<(), Fail> {
         (FIRST, None, outside),
         (6, outside, outside),
     ] {
-        assert!(rt; world_fault(alloc, &bytes, None, tick)? == world);
-        assert!(rt; record_fault(alloc, &bytes, None, tick)? == record);
+        assert!(rt; tick_faults(alloc, &bytes, tick)? == (world, record));
     }
     Ok(())
 }
@@ -282,35 +337,43 @@ fn a_record_that_does_not_follow_is_refused_at_its_gate(rt: HostRuntime) -> Resu
     Ok(())
 }
 
+// Why no journal is made on a disk that stops.
+fn create_fault(alloc: Global, base: &World, stop: u64) -> Result<Option<AppendFault>, Fail> {
+    let mut disk = disk_of(alloc, &[], Some(stop))?;
+    Ok(Journal::create(alloc, &mut disk, base).err())
+}
+
 #[test]
 fn a_disk_that_fails_is_told(rt: HostRuntime) -> Result<(), Fail> {
     let alloc = rt.alloc();
     let bytes = journal_of(alloc, &[4])?;
-    assert_eq!(rt;
-        faults_of(alloc, &bytes, Some(0))?,
-        (Some(RecoverFault::DiskFault), Some(AtFault::DiskFault))
-    );
-    let mut disk = disk_of(alloc, &[], Some(0))?;
-    assert!(rt;
-        matches!(
-            Journal::create(alloc, &mut disk, &world_of(alloc, FIRST, PARTS)?),
-            Err(AppendFault::DiskFault)
-        )
-    );
+    let faults = (Some(RecoverFault::DiskFault), Some(AtFault::DiskFault));
+    assert!(rt; faults_of(alloc, &bytes, Some(0))? == faults);
+    let base = world_of(alloc, FIRST, PARTS)?;
+    assert!(rt; create_fault(alloc, &base, 0)? == Some(AppendFault::DiskFault));
     Ok(())
+}
+
+// Whether a journal is made on a disk that stops, which then fails at a record, so that the next one is told
+// that the journal is closed.
+fn is_closed_by(alloc: Global, base: &World, entry: &TickRecord, stop: u64) -> Result<bool, Fail> {
+    let mut disk = disk_of(alloc, &[], Some(stop))?;
+    let Ok(mut journal) = Journal::create(alloc, &mut disk, base) else {
+        return Ok(false);
+    };
+    Ok(
+        journal.append(alloc, &mut disk, entry) == Err(AppendFault::DiskFault)
+            && journal.append(alloc, &mut disk, entry) == Err(AppendFault::Closed),
+    )
 }
 
 #[test]
 fn a_journal_adds_nothing_after_a_fault(rt: HostRuntime) -> Result<(), Fail> {
     let alloc = rt.alloc();
-    // (a length, and three writes with their syncs, make a journal)
-    let mut disk = disk_of(alloc, &[], Some(6))?;
-    let Ok(mut journal) = Journal::create(alloc, &mut disk, &world_of(alloc, FIRST, PARTS)?) else {
-        return Err("not made".into());
-    };
+    let base = world_of(alloc, FIRST, PARTS)?;
     let entry = record_of(alloc, 4, &[])?;
-    assert!(rt; journal.append(alloc, &mut disk, &entry) == Err(AppendFault::DiskFault));
-    assert!(rt; journal.append(alloc, &mut disk, &entry) == Err(AppendFault::Closed));
+    // (a length, and three writes with their syncs, make a journal)
+    assert!(rt; is_closed_by(alloc, &base, &entry, 6)?);
     Ok(())
 }
 

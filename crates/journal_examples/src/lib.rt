@@ -6,6 +6,8 @@
 #[cfg(test)]
 mod follow_tests;
 #[cfg(test)]
+mod followed;
+#[cfg(test)]
 mod journal_tests;
 #[cfg(test)]
 mod journals;

@@ -1,5 +1,7 @@
-// What the tests see of an instruction.
-use wasm_module::{FloatBytes, Instr, Instrs, ValType};
+// What the tests see of an instruction, and of a module that is written.
+use std::alloc::Global;
+use wasm_encode::encode;
+use wasm_module::{FloatBytes, Instr, Instrs, ValType, decode};
 
 /// A variant, and its numbers: opcode, alignment and offset, an index, a constant or its bits. A block's
 /// are its type and how many instructions it holds.
@@ -83,4 +85,15 @@ pub(crate) fn are_seen(instrs: &Instrs, rows: &'static [Seen]) -> bool {
         }
     }
     instrs.len() == rows.len() as u64
+}
+
+/// Whether these bytes spell a module that is written as them.
+pub(crate) fn is_written(alloc: Global, bytes: &[u8]) -> bool {
+    let Ok(found) = decode(alloc, bytes) else {
+        return false;
+    };
+    match encode(alloc, &found) {
+        Ok(written) => written.as_slice() == bytes,
+        Err(_) => false,
+    }
 }

@@ -52,10 +52,9 @@
 // "o")
 //   (data (i32.const 182) "p") (data (i32.const 183) "q") (data (i32.const 184) "r") (data (i32.const 185)
 // "s") (data (i32.const 186) "tt"))
-use crate::seen::{Seen, are_seen, is_seen};
+use crate::seen::{Seen, are_seen, is_seen, is_written};
 use crate::written_and_read;
-use std::test::Fail;
-use wasm_encode::encode;
+use std::alloc::Global;
 use wasm_module::{
     Bounds, ExportDesc, GlobalType, ImportDesc, Instr, LocalRun, Module, ValType, decode,
 };
@@ -486,36 +485,65 @@ fn has_blocks(found: &Module) -> bool {
         && are_seen(second, &SECOND)
 }
 
-#[test]
-fn each_field_is_that_of_the_text(rt: HostRuntime) -> Result<(), Fail> {
-    let Ok(found) = decode(rt.alloc(), &WHOLE) else {
-        return Err(Fail::from("refused"));
-    };
-    assert!(rt; has_types(&found), "types");
-    assert!(rt; has_imports(&found), "imports");
-    let funcs = [1, 4, 2, 3, 0, 0, 0, 0, 0, 0, 0, 0, 0, 0, 0, 0, 0];
-    assert!(rt; found.funcs.as_slice() == funcs.as_slice(), "functions");
+static FUNCS: [u32; 17] = [1, 4, 2, 3, 0, 0, 0, 0, 0, 0, 0, 0, 0, 0, 0, 0, 0];
+
+fn has_tables(found: &Module) -> bool {
     let tables = [bounds(40, Some(55)), bounds(41, None)];
-    assert!(rt; found.tables.as_slice() == tables.as_slice(), "tables");
+    found.tables.as_slice() == tables.as_slice()
+}
+
+fn has_memories(found: &Module) -> bool {
     let memories = [bounds(6, Some(9)), bounds(7, None)];
-    assert!(rt;
-        found.memories.as_slice() == memories.as_slice(),
-        "memories"
-    );
-    assert!(rt; has_globals(&found), "globals");
-    assert!(rt; has_exports(&found), "exports");
-    assert!(rt; found.start == Some(18), "start");
-    assert!(rt; has_elements(&found), "elements");
-    assert!(rt; has_codes(&found), "codes");
-    assert!(rt; has_blocks(&found), "blocks");
-    assert!(rt; has_segments(&found), "data");
-    let Ok(written) = encode(rt.alloc(), &found) else {
-        return Err(Fail::from("not written"));
+    found.memories.as_slice() == memories.as_slice()
+}
+
+// The first part of the module that is not that of the text.
+fn other_part(found: &Module) -> Option<&'static str> {
+    let parts = [
+        ("types", has_types(found)),
+        ("imports", has_imports(found)),
+        ("functions", found.funcs.as_slice() == FUNCS.as_slice()),
+        ("tables", has_tables(found)),
+        ("memories", has_memories(found)),
+        ("globals", has_globals(found)),
+        ("exports", has_exports(found)),
+        ("start", found.start == Some(18)),
+        ("elements", has_elements(found)),
+        ("codes", has_codes(found)),
+        ("blocks", has_blocks(found)),
+        ("data", has_segments(found)),
+    ];
+    for (name, is_same) in parts {
+        if !is_same {
+            return Some(name);
+        }
+    }
+    None
+}
+
+// The same of the module that the bytes spell.
+fn other_part_read(alloc: Global) -> Option<&'static str> {
+    match decode(alloc, &WHOLE) {
+        Ok(found) => other_part(&found),
+        Err(_) => Some("all"),
+    }
+}
+
+// The same once it was written and read back.
+fn other_part_again(alloc: Global) -> Option<&'static str> {
+    let Ok(found) = decode(alloc, &WHOLE) else {
+        return Some("all");
     };
-    assert!(rt; written.as_slice() == WHOLE.as_slice(), "written");
-    let Ok(again) = written_and_read(rt.alloc(), &found) else {
-        return Err(Fail::from("not read again"));
-    };
-    assert!(rt; has_imports(&again), "imports again");
-    Ok(())
+    match written_and_read(alloc, &found) {
+        Ok(again) => other_part(&again),
+        Err(_) => Some("all again"),
+    }
+}
+
+#[test]
+fn each_field_is_that_of_the_text(rt: HostRuntime) {
+    let alloc = rt.alloc();
+    assert_eq!(rt; other_part_read(alloc), None);
+    assert_eq!(rt; other_part_again(alloc), None);
+    assert!(rt; is_written(alloc, &WHOLE), "written");
 }

@@ -58,26 +58,70 @@ fn words(alloc: Global, ticks: &str) -> Result<Vec<String>, AllocError> {
     Ok(words)
 }
 
-// A run on the small world, without uploads and on an empty disk.
-fn run(alloc: Global, failing: Failing, ticks: &str) -> Result<Ended, AllocError> {
-    let mut world = MemorySource::new(small_world(alloc)?, Vec::from_slice(alloc, failing.reads)?);
-    let mut uploads = MemorySource::new(
-        Vec::new(alloc),
-        Vec::from_slice(alloc, failing.upload_reads)?,
-    );
-    let mut out = MemorySink::new(alloc, Vec::from_slice(alloc, failing.writes)?);
-    let mut disk = MemoryDisk::new(
-        Vec::new(alloc),
-        Vec::from_slice(alloc, failing.calls)?,
-        None,
-    );
-    let words = words(alloc, ticks)?;
-    let status = run_alone(alloc, &words, &mut world, &mut uploads, &mut out, &mut disk);
+// The file of the small world, of which these reads fail.
+fn world_source(alloc: Global, reads: &[u64]) -> Result<MemorySource, AllocError> {
+    let text = small_world(alloc)?;
+    Ok(MemorySource::new(text, Vec::from_slice(alloc, reads)?))
+}
+
+// A file of no uploads, of which these reads fail.
+fn upload_source(alloc: Global, reads: &[u64]) -> Result<MemorySource, AllocError> {
+    let reads = Vec::from_slice(alloc, reads)?;
+    Ok(MemorySource::new(Vec::new(alloc), reads))
+}
+
+// Lines, of which these writes fail.
+fn sink(alloc: Global, writes: &[u64]) -> Result<MemorySink, AllocError> {
+    Ok(MemorySink::new(alloc, Vec::from_slice(alloc, writes)?))
+}
+
+// The end of a run, with copies of these bytes.
+fn copied_end(
+    alloc: Global,
+    status: Status,
+    printed: &[u8],
+    journal: &[u8],
+) -> Result<Ended, AllocError> {
+    let printed = Vec::from_slice(alloc, printed)?;
     Ok(Ended {
         status,
-        printed: Vec::from_slice(alloc, out.written())?,
-        journal: Vec::from_slice(alloc, disk.bytes())?,
+        printed,
+        journal: Vec::from_slice(alloc, journal)?,
     })
+}
+
+// A run on these files and on an empty disk, of which these calls fail.
+fn run_over(
+    alloc: Global,
+    words: &[String],
+    world: &mut MemorySource,
+    uploads: &mut MemorySource,
+    out: &mut MemorySink,
+    calls: Vec<u64>,
+) -> Result<Ended, AllocError> {
+    let mut disk = MemoryDisk::new(Vec::new(alloc), calls, None);
+    let status = run_alone(alloc, words, world, uploads, out, &mut disk);
+    copied_end(alloc, status, out.written(), disk.bytes())
+}
+
+// A run of these words on this world.
+fn run_on(
+    alloc: Global,
+    words: &[String],
+    world: &mut MemorySource,
+    failing: Failing,
+) -> Result<Ended, AllocError> {
+    let mut uploads = upload_source(alloc, failing.upload_reads)?;
+    let mut out = sink(alloc, failing.writes)?;
+    let calls = Vec::from_slice(alloc, failing.calls)?;
+    run_over(alloc, words, world, &mut uploads, &mut out, calls)
+}
+
+// A run on the small world, without uploads and on an empty disk.
+fn run(alloc: Global, failing: Failing, ticks: &str) -> Result<Ended, AllocError> {
+    let words = words(alloc, ticks)?;
+    let mut world = world_source(alloc, failing.reads)?;
+    run_on(alloc, &words, &mut world, failing)
 }
 
 // How a run of one tick ends, and how much it prints and leaves on the disk.
@@ -128,10 +172,19 @@ fn a_failing_later_write_leaves_the_ticks_before(rt: HostRuntime) -> Result<(), 
         ..NOTHING
     };
     let ended = run(alloc, writes, "2")?;
-    assert!(rt; ended.status == Status::WriteFault);
-    assert!(rt; ended.printed.as_slice() == START);
+    assert!(rt; (ended.status, ended.printed.as_slice()) == (Status::WriteFault, START));
     assert!(rt; ended.journal.as_slice() == whole.journal.as_slice());
     Ok(())
+}
+
+// How a run of two ticks ends on a disk of which a call fails, and how much it prints.
+fn end_at(alloc: Global, call: u64) -> Result<(Status, usize), AllocError> {
+    let calls = Failing {
+        calls: &[call],
+        ..NOTHING
+    };
+    let ended = run(alloc, calls, "2")?;
+    Ok((ended.status, ended.printed.len()))
 }
 
 // The calls of the disk are its length twice; a write and a sync of the closed gate, of the world's frame
@@ -148,28 +201,44 @@ fn a_failing_later_call_of_the_disk_ends_the_lines(rt: HostRuntime) -> Result<()
         (12, TICK_1.len()),
         (15, TICK_1.len()),
     ] {
-        let calls = Failing {
-            calls: &[call],
-            ..NOTHING
-        };
-        let ended = run(rt.alloc(), calls, "2")?;
-        assert!(rt; (ended.status, ended.printed.len()) == (Status::DiskFault, printed));
+        assert!(rt; end_at(rt.alloc(), call)? == (Status::DiskFault, printed));
     }
     Ok(())
 }
 
-// Checks a module of 8 bytes. The reads and writes of these numbers fail. Answers whether anything was
-// printed, too.
-fn check(alloc: Global, reads: Vec<u64>, writes: Vec<u64>) -> Result<(Status, bool), AllocError> {
+// The words of a check.
+fn check_words(alloc: Global) -> Result<Vec<String>, AllocError> {
     let mut words = Vec::new(alloc);
     for word in ["check", "m.wasm"] {
         words.push(String::from_str(alloc, word)?)?;
     }
-    let mut input = MemorySource::new(OPENING.to_vec(alloc)?, reads);
-    let mut out = MemorySink::new(alloc, writes);
+    Ok(words)
+}
+
+// A module of 8 bytes, of which these reads fail.
+fn module_source(alloc: Global, reads: &[u64]) -> Result<MemorySource, AllocError> {
+    let opening = OPENING.to_vec(alloc)?;
+    Ok(MemorySource::new(opening, Vec::from_slice(alloc, reads)?))
+}
+
+// A check of this module. Answers whether anything was printed, too.
+fn check_of(
+    alloc: Global,
+    words: &[String],
+    input: &mut MemorySource,
+    out: &mut MemorySink,
+) -> (Status, bool) {
     let mut disk = MemoryDisk::new(Vec::new(alloc), Vec::new(alloc), None);
-    let status = tool_main(alloc, &words, &mut input, &mut out, &mut disk);
-    Ok((status, !out.written().is_empty()))
+    let status = tool_main(alloc, words, input, out, &mut disk);
+    (status, !out.written().is_empty())
+}
+
+// The same of the module of 8 bytes. The reads and writes of these numbers fail.
+fn check(alloc: Global, reads: &[u64], writes: &[u64]) -> Result<(Status, bool), AllocError> {
+    let words = check_words(alloc)?;
+    let mut input = module_source(alloc, reads)?;
+    let mut out = sink(alloc, writes)?;
+    Ok(check_of(alloc, &words, &mut input, &mut out))
 }
 
 #[test]
@@ -177,13 +246,10 @@ fn a_failing_call_of_a_check_is_named(rt: HostRuntime) -> Result<(), Fail> {
     let alloc = rt.alloc();
     // The second read finds the end.
     for call in [0_u64, 1] {
-        let ended = check(alloc, vec![in alloc; call]?, Vec::new(alloc))?;
-        assert!(rt; ended == (Status::ReadFault, false));
+        assert!(rt; check(alloc, &[call], &[])? == (Status::ReadFault, false));
     }
-    let ended = check(alloc, Vec::new(alloc), vec![in alloc; 0u64]?)?;
-    assert!(rt; ended == (Status::WriteFault, false));
-    let ended = check(alloc, Vec::new(alloc), Vec::new(alloc))?;
-    assert!(rt; ended == (Status::Refused(Refusal::NoLoop), true));
+    assert!(rt; check(alloc, &[], &[0])? == (Status::WriteFault, false));
+    assert!(rt; check(alloc, &[], &[])? == (Status::Refused(Refusal::NoLoop), true));
     Ok(())
 }
 
@@ -230,10 +296,12 @@ impl<D: Disk> Disk for Watched<D> {
     }
 }
 
-#[test]
-fn each_frame_is_synced(rt: HostRuntime) -> Result<(), Fail> {
-    let alloc = rt.alloc();
-    let mut world = MemorySource::new(small_world(alloc)?, Vec::new(alloc));
+// How a run on this world ends, how many syncs its disk sees, and whether one came late or never.
+fn syncs_on(
+    alloc: Global,
+    words: &[String],
+    world: &mut MemorySource,
+) -> (Status, u64, bool, bool) {
     let mut uploads = MemorySource::new(Vec::new(alloc), Vec::new(alloc));
     let mut out = MemorySink::new(alloc, Vec::new(alloc));
     let mut disk = Watched {
@@ -242,12 +310,20 @@ fn each_frame_is_synced(rt: HostRuntime) -> Result<(), Fail> {
         late: false,
         syncs: 0,
     };
+    let status = run_alone(alloc, words, world, &mut uploads, &mut out, &mut disk);
+    (status, disk.syncs, disk.late, disk.waits)
+}
+
+// The same of a run of two ticks on the small world.
+fn syncs(alloc: Global) -> Result<(Status, u64, bool, bool), AllocError> {
     let words = words(alloc, "2")?;
-    let status = run_alone(alloc, &words, &mut world, &mut uploads, &mut out, &mut disk);
-    assert!(rt; status == Status::Done);
-    // Three for the world, the closed gate among them, and two for each tick.
-    assert!(rt; disk.syncs == 7);
-    assert!(rt; !disk.late);
-    assert!(rt; !disk.waits);
+    let mut world = world_source(alloc, &[])?;
+    Ok(syncs_on(alloc, &words, &mut world))
+}
+
+// The syncs are three for the world, the closed gate among them, and two for each tick.
+#[test]
+fn each_frame_is_synced(rt: HostRuntime) -> Result<(), Fail> {
+    assert!(rt; syncs(rt.alloc())? == (Status::Done, 7, false, false));
     Ok(())
 }

@@ -1,8 +1,12 @@
 // Runs of a player's module on a world that was read from a file.
+ghost use Rattle.std.specs.Prelude.{IfOk};
+ghost use Rattle.world_rules.specs.Sound.{IsSound};
+
 use crate::worlds::{room, world_in};
 use game_tables::Action;
 use intent_book::{PlayerRun, RunOutcome};
-use player_run::{admit, run_player};
+use object_store::World;
+use player_run::{Linked, admit, run_player};
 use std::alloc::{AllocError, Global};
 use std::test::Fail;
 
@@ -30,19 +34,40 @@ fn one_creep(alloc: Global) -> Result<String, AllocError> {
     )
 }
 
-// The run of the module of these bytes.
-fn run_of(alloc: Global, bytes: &[u8]) -> Result<PlayerRun, Fail> {
-    let world = world_in(alloc, one_creep(alloc)?.as_str())?;
+// The world of that creep.
+fn creep_world(alloc: Global) -> Result<World, Fail>
+    ensures { IfOk result (λ world. IsSound world) }
+{
+    world_in(alloc, one_creep(alloc)?.as_str())
+}
+
+// The run of a module on a world.
+fn run_on_world(alloc: Global, world: &World, linked: &Linked) -> Result<PlayerRun, Fail>
+    requires { IsSound world.now }
+{
     let Some(account) = world.account(1) else {
         return Err("no account".into());
     };
     if world.rooms() > 400 || account.memory.len() > 65_536 {
         return Err("not the world of the file".into());
     }
+    Ok(run_player(alloc, linked, world, 1)?)
+}
+
+// The run of the module of these bytes.
+fn run_of(alloc: Global, bytes: &[u8]) -> Result<PlayerRun, Fail> {
     let Ok(linked) = admit(alloc, bytes) else {
         return Err("no module".into());
     };
-    Ok(run_player(alloc, &linked, &world, 1)?)
+    let world = creep_world(alloc)?;
+    run_on_world(alloc, &world, &linked)
+}
+
+// The player, the actor and the amount of the only entry, where it drops energy.
+fn only_drop(run: &PlayerRun) -> Option<(u32, u64, u64)> {
+    let entry = run.intents.nth(0)?;
+    let is_drop = run.intents.len() == 1 && entry.action == Action::DropLoad;
+    is_drop.then_some((entry.player, entry.actor, entry.amount))
 }
 
 #[test]
@@ -50,16 +75,7 @@ fn a_creep_drops_what_its_module_says(rt: HostRuntime) -> Result<(), Fail> {
     let run = run_of(rt.alloc(), DROPS)?;
     assert!(rt; (run.player, run.outcome, run.used) == (1, RunOutcome::Finished, 4));
     assert!(rt; run.memory.as_slice() == b"one".as_slice());
-    assert!(rt; run.intents.len() == 1);
-    let entry = run.intents.nth(0).ok_or("no entry")?;
-    assert!(rt;
-        (
-            entry.player,
-            entry.action == Action::DropLoad,
-            entry.actor,
-            entry.amount
-        ) == (1, true, 3, 5)
-    );
+    assert!(rt; only_drop(&run) == Some((1, 3, 5)));
     Ok(())
 }
 

@@ -1,8 +1,10 @@
 // Players who run one after the other in one room.
-ghost use Rattle.std.specs.Prelude.{◌≤◌, length};
-ghost use Rattle.game_tables.specs.Limits.{most_rooms};
-ghost use Rattle.object_store.specs.Stored.{HasAccount};
+ghost use Rattle.std.specs.Prelude.{◌≡◌, ◌≤◌, length, Some, IfOk, IsTrue};
+ghost use Rattle.game_tables.specs.Limits.{most_memory, most_rooms};
+ghost use Rattle.object_store.specs.declared.account.Account.{Account};
+ghost use Rattle.object_store.specs.Stored.{HasAccount, find_account};
 ghost use Rattle.world_rules.specs.Sound.{IsSound};
+ghost use Rattle.world_rules.specs.World.{world_of};
 
 use crate::worlds::{room, world_in};
 use host_calls::Desk;
@@ -86,7 +88,7 @@ fn two_creeps(alloc: Global) -> Result<String, AllocError> {
     format!(in alloc; "{one},{other}")
 }
 
-// The world of both players.
+// The text of the world of both players.
 fn two_players(alloc: Global) -> Result<String, AllocError> {
     let mut objects = many_creeps(alloc)?;
     objects.push_str(two_creeps(alloc)?.as_str())?;
@@ -139,6 +141,19 @@ fn run_by_itself(alloc: Global, linked: &Linked, view: &View, fuel: u64) -> Resu
     })
 }
 
+// Whether a player of the world can be run.
+fn can_run(world: &World, player: u32) -> bool
+    ensures account { IsTrue result → HasAccount player world.now.accounts }
+    ensures memory { IsTrue result → (account : Account)
+        → find_account player world.now.accounts ≡ Some account → length account.memory ≤ most_memory }
+    ensures rooms { IsTrue result → length world.now.rooms ≤ most_rooms }
+{
+    match world.account(player) {
+        Some(account) => world.rooms() <= 400 && account.memory.len() <= 65_536,
+        None => false,
+    }
+}
+
 // The same on what a player of the world sees.
 fn run_in_world(
     alloc: Global,
@@ -147,10 +162,11 @@ fn run_in_world(
     player: u32,
     fuel: u64,
 ) -> Result<Alone, Fail>
-    requires account { HasAccount player world.now.accounts }
-    requires sound { IsSound world.now }
-    requires rooms { length world.now.rooms ≤ most_rooms }
+    requires { IsSound world.now }
 {
+    if !can_run(world, player) {
+        return Err("not the world of the file".into());
+    }
     let view = View::of(alloc, world, player)?;
     run_by_itself(alloc, linked, &view, fuel)
 }
@@ -194,8 +210,83 @@ fn assert_clean(rt: &impl Abort, run: &PlayerRun, alone: &Alone) {
     assert_alike(rt, run, alone);
 }
 
-// Runs the modules by themselves, and then one behind the other in one room, twice.
+// The run of a player among the players of the world.
+fn run_among(
+    alloc: Global,
+    linked: &Linked,
+    world: &World,
+    roster: &Roster,
+    player: u32,
+) -> Result<PlayerRun, Fail>
+    requires sound { IsSound world.now }
+    requires roster { roster.now ≡ (world_of world.now).objects }
+{
+    if !can_run(world, player) {
+        return Err("not the world of the file".into());
+    }
+    Ok(run_player_among(alloc, linked, world, roster, player)?)
+}
+
+// The same in room that was taken for many.
+fn run_in<'a>(
+    alloc: Global,
+    shared: &mut RunRoom<'a>,
+    linked: &'a Linked,
+    world: &World,
+    roster: &Roster,
+    player: u32,
+) -> Result<PlayerRun, Fail>
+    requires sound { IsSound world.now }
+    requires roster { roster.now ≡ (world_of world.now).objects }
+{
+    if !can_run(world, player) {
+        return Err("not the world of the file".into());
+    }
+    Ok(run_player_in(alloc, shared, linked, world, roster, player)?)
+}
+
+// The modules of both players, with what their runs by themselves leave.
+#[derive(Clone, Copy)]
+struct Modules<'a> {
+    many: &'a Linked,
+    few: &'a Linked,
+    first: &'a Alone,
+    second: &'a Alone,
+}
+
+// Runs the first module among the players, and then both, one behind the other, in one room, twice.
 fn assert_room_is_shared(
+    rt: &impl Abort,
+    alloc: Global,
+    world: &World,
+    modules: Modules,
+) -> Result<(), Fail>
+    requires { IsSound world.now }
+{
+    let roster = Roster::of(alloc, world)?;
+    assert_fills(
+        rt,
+        &run_among(alloc, modules.many, world, &roster, 1)?,
+        modules.first,
+    );
+    let mut shared = RunRoom::new(alloc)?;
+    for _again in 0..2 {
+        assert_fills(
+            rt,
+            &run_in(alloc, &mut shared, modules.many, world, &roster, 1)?,
+            modules.first,
+        );
+        assert_clean(
+            rt,
+            &run_in(alloc, &mut shared, modules.few, world, &roster, 2)?,
+            modules.second,
+        );
+    }
+    Ok(())
+}
+
+// Runs the modules by themselves, and then so.
+fn assert_runs_are_alike(
     rt: &impl Abort,
     alloc: Global,
     world: &World,
@@ -204,42 +295,35 @@ fn assert_room_is_shared(
 ) -> Result<(), Fail>
     requires { IsSound world.now }
 {
-    let Some(one) = world.account(1) else {
-        return Err("no first account".into());
-    };
-    let Some(two) = world.account(2) else {
-        return Err("no second account".into());
-    };
-    if world.rooms() > 400 || one.memory.len() > 65_536 || two.memory.len() > 65_536 {
-        return Err("not the world of the file".into());
-    }
     let first = run_in_world(alloc, many, world, 1, 200_000)?;
     let second = run_in_world(alloc, few, world, 2, 10_000)?;
-    let roster = Roster::of(alloc, world)?;
-    assert_fills(
-        rt,
-        &run_player_among(alloc, many, world, &roster, 1)?,
-        &first,
-    );
-    let mut shared = RunRoom::new(alloc)?;
-    for _again in 0..2 {
-        assert_fills(
-            rt,
-            &run_player_in(alloc, &mut shared, many, world, &roster, 1)?,
-            &first,
-        );
-        assert_clean(
-            rt,
-            &run_player_in(alloc, &mut shared, few, world, &roster, 2)?,
-            &second,
-        );
-    }
-    Ok(())
+    let modules = Modules {
+        many,
+        few,
+        first: &first,
+        second: &second,
+    };
+    assert_room_is_shared(rt, alloc, world, modules)
+}
+
+// Links the modules, and does so with them.
+fn assert_modules_are_alike(rt: &impl Abort, alloc: Global, world: &World) -> Result<(), Fail>
+    requires { IsSound world.now }
+{
+    let many = linked(alloc, MANY)?;
+    let few = linked(alloc, FEW)?;
+    assert_runs_are_alike(rt, alloc, world, &many, &few)
+}
+
+// The world of both players.
+fn two_player_world(alloc: Global) -> Result<World, Fail>
+    ensures { IfOk result (λ world. IsSound world) }
+{
+    world_in(alloc, two_players(alloc)?.as_str())
 }
 
 #[test]
 fn a_run_is_the_same_in_the_room_of_another(rt: HostRuntime) -> Result<(), Fail> {
-    let world = world_in(rt.alloc(), two_players(rt.alloc())?.as_str())?;
-    let (many, few) = (linked(rt.alloc(), MANY)?, linked(rt.alloc(), FEW)?);
-    assert_room_is_shared(&rt, rt.alloc(), &world, &many, &few)
+    let world = two_player_world(rt.alloc())?;
+    assert_modules_are_alike(&rt, rt.alloc(), &world)
 }

@@ -106,9 +106,16 @@ fn memory_of(world: &World, player: u32) -> &[u8] {
     }
 }
 
-#[test]
-fn entries_of_two_rooms_are_ruled(rt: HostRuntime) -> Result<(), Fail> {
-    let world = world_of(rt.alloc(), two_rooms(rt.alloc())?.as_str())?;
+// The world of two rooms.
+fn two_room_world(alloc: Global) -> Result<World, Fail>
+    ensures sound { IfOk result (λ world. IsSound world) }
+    ensures serials { IfOk result (λ world. HaveSerials world.rooms) }
+{
+    world_of(alloc, two_rooms(alloc)?.as_str())
+}
+
+// The tick of that world by entries of creeps of both rooms.
+fn ruled(alloc: Global) -> Result<World, Fail> {
     let intents = [
         entry(2, Action::DropLoad, 3, 10),
         // (another player's creep, and nobody's entry)
@@ -127,7 +134,13 @@ fn entries_of_two_rooms_are_ruled(rt: HostRuntime) -> Result<(), Fail> {
         // (the last of two entries of one creep)
         entry(2, Action::DropLoad, 3, 0),
     ];
-    let next = ticked(rt.alloc(), &world, &intents)?;
+    let world = two_room_world(alloc)?;
+    ticked(alloc, &world, &intents)
+}
+
+#[test]
+fn entries_of_two_rooms_are_ruled(rt: HostRuntime) -> Result<(), Fail> {
+    let next = ruled(rt.alloc())?;
     assert!(rt; (next.tick(), next.rooms(), next.accounts()) == (42, 2, 2));
     assert!(rt; room_of(&next, 0) == Some((6, 9)));
     assert!(rt; room_of(&next, 1) == Some((4, 5)));
@@ -194,11 +207,15 @@ fn drops() -> [Intent; 3] {
     ]
 }
 
+// The step of one of two rooms by these.
+fn dropped(alloc: Global, index: u32) -> Result<StepDone, Fail> {
+    step_in(alloc, two_rooms(alloc)?.as_str(), index, &drops())
+}
+
 // (what another room's creep wants does nothing here)
 #[test]
 fn the_first_room_steps_by_itself(rt: HostRuntime) -> Result<(), Fail> {
-    let text = two_rooms(rt.alloc())?;
-    let done = step_in(rt.alloc(), text.as_str(), 0, &drops())?;
+    let done = dropped(rt.alloc(), 0)?;
     assert!(rt; (done.room.len(), done.room.next()) == (6, 9));
     assert!(rt; done.room.get(4).map(|creep| creep.energy) == Some(15));
     assert!(rt; (done.player, done.points, done.crossers.len()) == (0, 0, 0));
@@ -208,8 +225,7 @@ fn the_first_room_steps_by_itself(rt: HostRuntime) -> Result<(), Fail> {
 
 #[test]
 fn the_second_room_steps_by_itself(rt: HostRuntime) -> Result<(), Fail> {
-    let text = two_rooms(rt.alloc())?;
-    let done = step_in(rt.alloc(), text.as_str(), 1, &drops())?;
+    let done = dropped(rt.alloc(), 1)?;
     assert!(rt; (done.room.len(), done.room.next()) == (4, 5));
     assert!(rt; done.room.get(4_294_967_297).map(|creep| creep.energy) == Some(43));
     assert!(rt; done.room.get(4_294_967_299).map(|source| source.energy) == Some(1_500));
@@ -230,9 +246,8 @@ fn colony(alloc: Global) -> Result<String, AllocError> {
     )
 }
 
-#[test]
-fn a_room_tells_who_leaves_and_who_gains(rt: HostRuntime) -> Result<(), Fail> {
-    let text = colony(rt.alloc())?;
+// The step of one of its rooms, by a creep that upgrades and two that leave.
+fn left(alloc: Global, index: u32) -> Result<StepDone, Fail> {
     let upgrade = Intent {
         target: 4_294_967_297,
         ..entry(2, Action::Upgrade, 4_294_967_298, 0)
@@ -243,32 +258,51 @@ fn a_room_tells_who_leaves_and_who_gains(rt: HostRuntime) -> Result<(), Fail> {
         upgrade,
         entry(1, Action::Move, 4_294_967_299, 7),
     ];
-    let done = step_in(rt.alloc(), text.as_str(), 1, &intents)?;
+    step_in(alloc, colony(alloc)?.as_str(), index, &intents)
+}
+
+// The id and the room of a creep that leaves.
+fn leaving(done: &StepDone, place: u64) -> Option<(u64, u32)> {
+    let crosser = done.crossers.nth(place)?;
+    Some((crosser.id, crosser.room))
+}
+
+// The column of the creep at the left, and whether it moved.
+fn left_creep(done: &StepDone) -> Option<(u8, u32)> {
+    let creep = done.room.get(4_294_967_299)?;
+    Some((creep.x, creep.other_ticks))
+}
+
+// How many objects a room has, and who gains how many points.
+fn gained(alloc: Global, index: u32) -> Result<(u32, u32, u32), Fail> {
+    let done = left(alloc, index)?;
+    Ok((done.room.len(), done.player, done.points))
+}
+
+#[test]
+fn a_room_tells_who_leaves_and_who_gains(rt: HostRuntime) -> Result<(), Fail> {
+    assert!(rt; gained(rt.alloc(), 0)? == (0, 0, 0));
+    let done = left(rt.alloc(), 1)?;
     assert!(rt; (done.player, done.points) == (2, 2));
-    let leaving = |place: u64| done
-        .crossers
-        .nth(place)
-        .map(|crosser| (crosser.id, crosser.room));
-    assert!(rt; leaving(0) == Some((4_294_967_299, 1)));
-    assert!(rt; leaving(1) == Some((4_294_967_300, 1)));
-    assert!(rt; leaving(2) == None);
-    assert!(rt;
-        done.room
-            .get(4_294_967_299)
-            .map(|creep| (creep.x, creep.other_ticks))
-            == Some((0, 0))
-    );
-    let nothing = step_in(rt.alloc(), text.as_str(), 0, &intents)?;
-    assert!(rt; (nothing.room.len(), nothing.player, nothing.points) == (0, 0, 0));
+    assert!(rt; leaving(&done, 0) == Some((4_294_967_299, 1)));
+    assert!(rt; leaving(&done, 1) == Some((4_294_967_300, 1)));
+    assert!(rt; leaving(&done, 2) == None);
+    assert!(rt; left_creep(&done) == Some((0, 0)));
     Ok(())
+}
+
+// Two creeps that cross.
+fn two_crossers(alloc: Global) -> Result<Crossers, AllocError> {
+    let mut list = Crossers::new(alloc);
+    list.push(Crosser { id: 7, room: 3 })?;
+    list.push(Crosser { id: 8, room: 2 })?;
+    Ok(list)
 }
 
 #[test]
 fn crossers_are_a_list(rt: HostRuntime) -> Result<(), Fail> {
-    let mut list = Crossers::new(rt.alloc());
-    assert!(rt; list.is_empty());
-    list.push(Crosser { id: 7, room: 3 })?;
-    list.push(Crosser { id: 8, room: 2 })?;
+    assert!(rt; Crossers::new(rt.alloc()).is_empty());
+    let list = two_crossers(rt.alloc())?;
     assert!(rt; (list.len(), list.is_empty()) == (2, false));
     assert!(rt; list.nth(1).map(|crosser| (crosser.id, crosser.room)) == Some((8, 2)));
     assert!(rt; list.as_slice().len() == 2);

@@ -1,4 +1,5 @@
 // What players see of a world that was read from a file.
+ghost use Rattle.std.specs.Prelude.{IfOk};
 ghost use Rattle.world_rules.specs.Sound.{IsSound};
 
 use crate::worlds::{room, world_in};
@@ -35,6 +36,13 @@ fn three_rooms(alloc: Global) -> Result<String, AllocError> {
     )
 }
 
+// The world of those rooms.
+fn three_room_world(alloc: Global) -> Result<World, Fail>
+    ensures { IfOk result (λ world. IsSound world) }
+{
+    world_in(alloc, three_rooms(alloc)?.as_str())
+}
+
 // What player 1 sees of the world.
 fn seen(alloc: Global, world: &World) -> Result<View<'_>, Fail>
     requires { IsSound world.now }
@@ -47,7 +55,7 @@ fn seen(alloc: Global, world: &World) -> Result<View<'_>, Fail>
 
 #[test]
 fn players_see_their_rooms(rt: HostRuntime) -> Result<(), Fail> {
-    let world = world_in(rt.alloc(), three_rooms(rt.alloc())?.as_str())?;
+    let world = three_room_world(rt.alloc())?;
     let one = seen(rt.alloc(), &world)?;
     assert!(rt; (one.tick(), one.account().bucket, one.sites()) == (6, 30, 2));
     assert!(rt;
@@ -64,7 +72,7 @@ fn players_see_their_rooms(rt: HostRuntime) -> Result<(), Fail> {
 // (ids rise over both rooms: the creep of the second stands between objects of the first)
 #[test]
 fn objects_stand_in_rising_id(rt: HostRuntime) -> Result<(), Fail> {
-    let world = world_in(rt.alloc(), three_rooms(rt.alloc())?.as_str())?;
+    let world = three_room_world(rt.alloc())?;
     let one = seen(rt.alloc(), &world)?;
     assert!(rt; one.count() == 5);
     for (place, id, room) in [
@@ -85,7 +93,7 @@ fn objects_stand_in_rising_id(rt: HostRuntime) -> Result<(), Fail> {
 
 #[test]
 fn fields_are_told(rt: HostRuntime) -> Result<(), Fail> {
-    let world = world_in(rt.alloc(), three_rooms(rt.alloc())?.as_str())?;
+    let world = three_room_world(rt.alloc())?;
     let one = seen(rt.alloc(), &world)?;
     assert!(rt; one.object(2).map_or(0, |creep| creep.energy) == 40);
     for (field, told) in [
