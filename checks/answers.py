@@ -3,7 +3,8 @@
 
 Want of memory is the free answer of a call that allocates, so a body that answers it in place of another one is let through by the clauses: only a run
 or a test in which the other answer comes refuses it. Without --write the list of the document is held against the sources, as the gate does; it needs
-no program. An answer is met by a test where the test, or a function that its file has for it, makes the call, and names the refusal where it is one.
+no program. An answer is met by a test where the test, or a function that its file has for it, makes the call, and names the refusal where it is one;
+where crates have calls of one name, the test's crate is the call's own or lists it in crates.txt.
 What the program meets in the runs of the scripts stands in RUNS below, by the call, and what another call meets that makes it in THROUGH: each script
 has to be one of checks/ and to name the refusal, and the crate of that other call has to make this one.
 """
@@ -269,26 +270,35 @@ def makes(call, text):
     return re.search(rf"\b{owner}::{name}\(" if owner else rf"(?<![\w.:]){name}\(", text) is not None
 
 
-def met_by(call, answer, tests):
-    """What meets an answer: scripts and modules of tests."""
+def listed():
+    """The crates that each crate's line of crates.txt names, and itself."""
+    with open(os.path.join(TOP, "crates.txt"), encoding="utf-8") as it:
+        lines = [line.split(":") for line in it if ":" in line]
+    return {words[0].split()[0]: {words[0].split()[0], *words[1].split()} for words in lines}
+
+
+def met_by(call, answer, tests, may_make):
+    """What meets an answer: scripts, and modules of tests of crates that may make the call."""
     script = RUNS.get(f"{call} {answer}") or RUNS.get(call)
     found = [f"`checks/{script}`"] if script else []
     modules = collections.defaultdict(set)
     for (crate, file, _), text in tests.items():
-        if makes(call, text) and (answer == "Ok" or re.search(rf"\b{answer}\b", text)):
+        if may_make(crate, call) and makes(call, text) and (answer == "Ok" or re.search(rf"\b{answer}\b", text)):
             modules[crate].add(file)
     found += [f"`{crate}` ({', '.join(sorted(files))})" if len(files) < 3 else f"`{crate}`" for crate, files in sorted(modules.items())]
     return found or ([f"`{THROUGH[call]}`, which makes it"] if call in THROUGH else [])
 
 
 def table(calls, tests):
+    below, named = listed(), collections.Counter(it.split("::", 1)[1] for it in calls)
+    may_make = lambda crate, call: named[call.split("::", 1)[1]] == 1 or call.split("::")[0] in below[crate]
     rows = [HEADING, ""]
     rows += ["Each public call that may want memory, with each other answer that it may give, and the scripts and tests in which that answer comes. It is"]
     rows += ["written by `checks/answers.py --write`, and the gate sees that it is the list of the sources.", ""]
     rows += ["| Call | Answer | Met by |", "|---|---|---|"]
     for call, answers in calls.items():
         for answer in answers:
-            rows.append(f"| `{call}` | `{answer}` | {', '.join(met_by(call, answer, tests)) or NONE} |")
+            rows.append(f"| `{call}` | `{answer}` | {', '.join(met_by(call, answer, tests, may_make)) or NONE} |")
     return rows
 
 
