@@ -7,7 +7,7 @@ rounds counts. The journals lie in memory where there is /dev/shm, so that no di
 
 The first table has the loops of bench/machine.py as players of 5,000,000 instructions a tick, beside the same in machine_bench, which is
 looked for beside PROGRAM and in crates/machine_bench/out. The second has ticks by how many players there are and what they see, with an
-empty `loop` for each, beside the same without modules. The third has the modules that a player would write to hurt, and the time for an
+empty `loop` for each, beside the same without modules; in its last row each asks for a site in every room. The third has the modules that a player would write to hurt, and the time for an
 instruction that they pay for, beside that of a plain loop; what the tick takes besides is left out, for which it is measured with an empty
 `loop`, or where a record is full with a module that fills it and no more. The fourth has the calls that ask how much there is, the same way. The fifth has those that hardly pay for any, and the time for
 each player; where the module's instance begins with much, beside the time in which as many bytes are cleared by memset and copied by memcpy, from the
@@ -495,16 +495,22 @@ def loops(bench, other):
         print(row, flush=True)
 
 
+# A module that asks once for a site in each of 300 rooms, at a border, which has what stands there counted and is refused.
+EACH_ROOM = f"""(module (import "screeps" "create_site" (func $create_site {IMPORTS["create_site"]})) (func (export "loop") (local $i i32)
+    (loop $l (drop (call $create_site (local.get $i) (i32.const 0) (i32.const 0) (i32.const 8))) {STEP} (br_if $l (i32.lt_u (local.get $i) (i32.const 300))))))"""
+
+
 def crowds(bench):
     """Ticks by how many players there are and what they see."""
-    print(f"{'players, rooms that each sees':38}{'objects':>9}{'empty loops ms':>16}{'no modules ms':>15}{'times':>7}")
-    rows = [(f"{count} of {seen}, with {objects} objects each", count * seen * objects, apart(count, seen, objects), count) for seen, objects in ((1, 1), (5, 50)) for count in (1, 8, 64)]
-    rows += [(f"{count} of the same {seen}", count * seen, together(count, seen), count) for count, seen in ((1, 300), (8, 300), (64, 5), (64, 300))]
-    for name, objects, first, count in rows:
+    print(f"{'players, rooms that each sees':38}{'objects':>9}{'modules ms':>12}{'no modules ms':>15}{'times':>7}")
+    rows = [(f"{count} of {seen}, with {objects} objects each", count * seen * objects, apart(count, seen, objects), count, EMPTY) for seen, objects in ((1, 1), (5, 50)) for count in (1, 8, 64)]
+    rows += [(f"{count} of the same {seen}", count * seen, together(count, seen), count, EMPTY) for count, seen in ((1, 300), (8, 300), (64, 5), (64, 300))]
+    rows.append(("64 of the same 300, asked for each", 64 * 300, together(64, 300), 64, bench.module(EACH_ROOM)))
+    for name, objects, first, count, module in rows:
         more = 200 if objects < 1000 else 60
-        with_modules, _ = bench.tick(first, for_each(count, EMPTY), more)
+        with_modules, _ = bench.tick(first, for_each(count, module), more)
         without, _ = bench.tick(first, b"", more)
-        print(f"{name:38}{objects:9,}{with_modules * 1e3:16.3f}{without * 1e3:15.3f}{with_modules / without:7.2f}", flush=True)
+        print(f"{name:38}{objects:9,}{with_modules * 1e3:12.3f}{without * 1e3:15.3f}{with_modules / without:7.2f}", flush=True)
 
 
 def costly(bench):
