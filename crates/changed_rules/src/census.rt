@@ -20,10 +20,15 @@ use rule_check::list_of;
 use std::alloc::{AllocError as NoMemory, Global};
 
 /// The ids of a world's objects, and how many sites each player has in it.
-#[derive(Drop)]
 pub struct Census {
     ids: Tally,
     owners: Tally,
+}
+
+impl Drop for Census {
+    fn drop(self) {
+        let Census { ids: _, owners: _ } = self;
+    }
 }
 
 impl Census {

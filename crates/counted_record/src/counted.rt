@@ -15,11 +15,20 @@ use std::marker::Model;
 ///
 /// All memory is taken when it is made. The number of claims is told at once but for one look-up by a hash,
 /// and the number of sites by a look at each site that is recorded.
-#[derive(Drop)]
 pub struct CountedRecord {
     book: Recorded,
     planned: Vec<Planned>,
     claims: u32,
+}
+
+impl Drop for CountedRecord {
+    fn drop(self) {
+        let CountedRecord {
+            book: _,
+            planned: _,
+            claims: _,
+        } = self;
+    }
 }
 
 // A site that is recorded: its tile, as rooms and tiles are numbered, and the number of its kind.
@@ -119,7 +128,12 @@ impl CountedRecord {
     pub fn into_recorded(self) -> Recorded
         ensures { result ≡ self }
     {
-        self.book
+        let CountedRecord {
+            book,
+            planned: _,
+            claims: _,
+        } = self;
+        book
     }
 
     // Puts an entry for a site.

@@ -41,13 +41,24 @@ use wasm_store::Pages;
 /// recorded, by a hash: where actors were chosen to collide, through all of it at most. The first one
 /// for a site or a creep in a room counts what stands there, by one look at each of its objects. All
 /// other calls take bounded time, whatever is seen and recorded.
-#[derive(Drop)]
 pub struct Desk<'a, 'v> {
     view: &'a View<'v>,
     level: u32,
     book: CountedRecord,
     census: Census<'a, 'v>,
     memory: Vec<u8>,
+}
+
+impl Drop for Desk<'_, '_> {
+    fn drop(self) {
+        let Desk {
+            view: _,
+            level: _,
+            book: _,
+            census: _,
+            memory: _,
+        } = self;
+    }
 }
 
 impl<'a, 'v> Model for Desk<'a, 'v> {

@@ -24,12 +24,22 @@ pub fn most_entries() -> u32
 ///
 /// All memory is taken when it is made. Each entry has a number that rises with every put, and the
 /// list is the entries by their numbers, so a put moves no entry.
-#[derive(Drop)]
 pub struct Recorded {
     player: u32,
     next: u64,
     entries: Entries,
     canonical: Vec<Intent>,
+}
+
+impl Drop for Recorded {
+    fn drop(self) {
+        let Recorded {
+            player: _,
+            next: _,
+            entries: _,
+            canonical: _,
+        } = self;
+    }
 }
 
 impl Model for Recorded {

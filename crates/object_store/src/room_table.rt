@@ -38,7 +38,6 @@ use std::marker::Model;
 /// stays empty until the table is copied. The objects on a tile are found by its chain, and most
 /// players who own nothing are told without a look at the objects. The slot of the room's controller
 /// is kept. What was done to an object stands beside its slot.
-#[derive(Drop)]
 pub struct RoomTable {
     index: u32,
     next: u32,
@@ -49,6 +48,22 @@ pub struct RoomTable {
     spare: u32,
     owners: Owners,
     controller: Option<u32>,
+}
+
+impl Drop for RoomTable {
+    fn drop(self) {
+        let RoomTable {
+            index: _,
+            next: _,
+            slots: _,
+            order: _,
+            tiles: _,
+            tallies: _,
+            spare: _,
+            owners: _,
+            controller: _,
+        } = self;
+    }
 }
 
 impl Model for RoomTable {

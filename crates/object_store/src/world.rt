@@ -38,12 +38,22 @@ impl Room {
 /// A world: its tick, its rooms, and the accounts in rising player.
 ///
 /// A room is found by its name by halving, in the indices of the rooms in the order of their names.
-#[derive(Drop)]
 pub struct World {
     tick: u64,
     rooms: Vec<Room>,
     by_name: Vec<u32>,
     accounts: Vec<Account>,
+}
+
+impl Drop for World {
+    fn drop(self) {
+        let World {
+            tick: _,
+            rooms: _,
+            by_name: _,
+            accounts: _,
+        } = self;
+    }
 }
 
 impl Model for World {

@@ -23,11 +23,19 @@ use wasm_machine::Machine;
 use world_roster::Roster;
 
 /// The room that runs of players take, one after the other.
-#[derive(Drop)]
 pub struct RunRoom<'a> {
     machine: Machine<'a>,
     /// None where a desk works in it, and where a run ended for want of memory.
     desk: Option<DeskRoom>,
+}
+
+impl Drop for RunRoom<'_> {
+    fn drop(self) {
+        let RunRoom {
+            machine: _,
+            desk: _,
+        } = self;
+    }
 }
 
 impl<'a> RunRoom<'a> {

@@ -36,7 +36,6 @@ use world_roster::Roster;
 /// keeps only the places of those that are seen. Its calls take no memory. One by an id or by a
 /// room's index halves what is seen until it is found; one by a place takes always the same time,
 /// but for a capacity, which asks for the room's controller or counts a creep's live parts.
-#[derive(Drop)]
 pub struct View<'a> {
     tick: u64,
     account: &'a Account,
@@ -45,6 +44,20 @@ pub struct View<'a> {
     rooms: Vec<RoomInView<'a>>,
     listed: Listed<'a>,
     places: Vec<u32>,
+}
+
+impl Drop for View<'_> {
+    fn drop(self) {
+        let View {
+            tick: _,
+            account: _,
+            sites: _,
+            controllers: _,
+            rooms: _,
+            listed: _,
+            places: _,
+        } = self;
+    }
 }
 
 impl<'a> Model for View<'a> {

@@ -60,7 +60,6 @@ struct Made {
 
 /// A module that links against the calls of a host. Contracts see the module, its functions and its function
 /// `loop`.
-#[derive(Drop)]
 pub struct Linked {
     valid: Valid,
     functions: Vec<Entry>,
@@ -68,6 +67,19 @@ pub struct Linked {
     most: usize,
     main: u32,
     beginning: Beginning,
+}
+
+impl Drop for Linked {
+    fn drop(self) {
+        let Linked {
+            valid: _,
+            functions: _,
+            classes: _,
+            most: _,
+            main: _,
+            beginning: _,
+        } = self;
+    }
 }
 
 impl Model for Linked {

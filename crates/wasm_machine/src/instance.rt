@@ -10,12 +10,21 @@ use wasm_link::{Linked, Stored};
 use wasm_steps::{Host, Outcome};
 
 /// An instance of a linked module: its memory, globals and table, and all room that a run of it may need.
-#[derive(Drop)]
 pub struct Instance<'a> {
     linked: &'a Linked,
     machine: Machine<'a>,
     stored: Stored,
     ghost room: { TakesAtMost (program_of linked.now) (vec_capacity machine.arguments) },
+}
+
+impl Drop for Instance<'_> {
+    fn drop(self) {
+        let Instance {
+            linked: _,
+            machine: _,
+            stored: _,
+        } = self;
+    }
 }
 
 impl<'a> Instance<'a> {

@@ -20,10 +20,18 @@ use wasm_steps::{Host, Outcome};
 
 /// The room that runs take, one after the other: for 65,536 locals and operands, for 1,000 frames with their
 /// blocks, and for the arguments of a call of the host.
-#[derive(Drop)]
 pub struct Machine<'a> {
     pub(crate) stack: Stack<'a>,
     pub(crate) arguments: Vec<i64>,
+}
+
+impl Drop for Machine<'_> {
+    fn drop(self) {
+        let Machine {
+            stack: _,
+            arguments: _,
+        } = self;
+    }
 }
 
 impl<'a> Machine<'a> {

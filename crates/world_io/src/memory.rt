@@ -14,10 +14,18 @@ use crate::steady::SteadySource;
 use std::alloc::Global;
 
 /// A source in memory.
-#[derive(Drop)]
 pub struct MemorySource {
     source: SteadySource,
     outages: Outages,
+}
+
+impl Drop for MemorySource {
+    fn drop(self) {
+        let MemorySource {
+            source: _,
+            outages: _,
+        } = self;
+    }
 }
 
 impl MemorySource {
@@ -55,10 +63,18 @@ impl Source for MemorySource {
 }
 
 /// A sink in memory.
-#[derive(Drop)]
 pub struct MemorySink {
     bytes: Vec<u8>,
     outages: Outages,
+}
+
+impl Drop for MemorySink {
+    fn drop(self) {
+        let MemorySink {
+            bytes: _,
+            outages: _,
+        } = self;
+    }
 }
 
 impl MemorySink {

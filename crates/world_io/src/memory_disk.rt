@@ -19,7 +19,6 @@ use crate::steady::fill_front;
 use std::alloc::{AllocError, Global};
 
 /// A disk in memory, with the calls that changed it.
-#[derive(Drop)]
 pub struct MemoryDisk {
     bytes: Vec<u8>,
     calls: Vec<Change>,
@@ -27,6 +26,16 @@ pub struct MemoryDisk {
     ghost in_range: { length bytes.items < 2 ^ 62 },
     ghost left: { IsLeft bytes.items calls.items } by { left_prop bytes.items calls.items },
     ghost bounded: { (latest (moments_of bytes.items calls.items)).greatest < 2 ^ 62 },
+}
+
+impl Drop for MemoryDisk {
+    fn drop(self) {
+        let MemoryDisk {
+            bytes: _,
+            calls: _,
+            outages: _,
+        } = self;
+    }
 }
 
 impl MemoryDisk {

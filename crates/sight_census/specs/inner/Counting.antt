@@ -1,5 +1,6 @@
 -- The course of the counting, room by room and object by object.
-use Rattle.std.specs.Prelude.{◌≡◌, ℕ, ◌+◌, ◌-◌, ◌^◌, ◌==◌, min, if◌then◌else◌, List, length, slice_get, Option, Some}
+use Rattle.std.specs.Prelude.{◌≡◌, ℕ, ◌+◌, ◌-◌, ◌^◌, ◌==◌, min, if◌then◌else◌}
+use Rattle.std.specs.Prelude.{List, length, slice_get, Option, Some}
 use Rattle.object_store.specs.declared.object.Object.{Object}
 use Rattle.world_rules.specs.Sites.{count_of}
 use Rattle.world_rules.specs.Spawns.{held_by}
@@ -25,7 +26,8 @@ one_more number told = record told {
 abbrev pub total : Told → ℕ
 total told = told.spawns + told.extensions + told.storages + told.containers + told.roads
 
--- This is what the player's spawns and extensions among the objects hold, and these are the buildings and sites.
+-- This is what the player's spawns and extensions among the objects hold, and these are the buildings and
+-- sites.
 pub record AreCounted (player : ℕ) (objects : List Object) (told : Told) : Type 0 where
   pub held : told.held ≡ min (2 ^ 32 - 1) (held_by player objects)
   pub spawns : told.spawns ≡ count_of 4 objects
@@ -37,4 +39,5 @@ pub record AreCounted (player : ℕ) (objects : List Object) (told : Told) : Typ
 -- Of each room this is what is counted there, where it is known yet.
 pub record AreKnown (rooms : List Told) (known : List (Option Told)) : Type 0 where
   pub same : length known ≡ length rooms
-  pub told : (place : ℕ) (told : Told) → slice_get known place ≡ Some (Some told) → slice_get rooms place ≡ Some told
+  pub told : (place : ℕ) (told : Told) → slice_get known place ≡ Some (Some told)
+      → slice_get rooms place ≡ Some told

@@ -9,7 +9,6 @@ use crate::values::entry_lists::Indices;
 use crate::values::types::{FuncTypes, MemoryTypes, TableTypes};
 
 /// A module: WebAssembly Core 1.0, chapter 2.5. Custom sections are not kept.
-#[derive(Drop)]
 pub struct Module {
     pub types: FuncTypes,
     pub imports: Imports,
@@ -25,6 +24,24 @@ pub struct Module {
     /// One for each entry of `funcs`, where the module was decoded.
     pub codes: Codes,
     pub segments: Segments,
+}
+
+impl Drop for Module {
+    fn drop(self) {
+        let Module {
+            types: _,
+            imports: _,
+            funcs: _,
+            tables: _,
+            memories: _,
+            globals: _,
+            exports: _,
+            start: _,
+            elements: _,
+            codes: _,
+            segments: _,
+        } = self;
+    }
 }
 
 /// A limit of what is taken as a module.

@@ -18,9 +18,14 @@ use std::marker::Model;
 use wasm_module::Module;
 
 /// A module without floats that has a typing. Contracts see the module.
-#[derive(Drop)]
 pub struct Valid {
     whole: Module,
+}
+
+impl Drop for Valid {
+    fn drop(self) {
+        let Valid { whole: _ } = self;
+    }
 }
 
 impl Model for Valid {
