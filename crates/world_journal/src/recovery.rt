@@ -54,7 +54,7 @@ impl Journal {
         Ok(Recovered {
             journal: Journal { log },
             base,
-            world: walk.world,
+            world: walk.into_world(),
             modules: uploaded.modules,
             uploads: Entries::from_vec(uploaded.counts),
         })

@@ -31,7 +31,6 @@ pub(crate) const HEAD: u64 = 9;
 /// Where the reading of a journal stands: the world so far, and the place of the gate that comes next, on a
 /// disk of so many bytes. It holds no record, and the reading of the next one holds one frame. By a census of
 /// the world the rules are tested over what a record changed.
-#[derive(Drop)]
 pub struct Walk {
     pub(crate) world: World,
     pub(crate) census: Census,
@@ -39,6 +38,17 @@ pub struct Walk {
     pub(crate) len: u64,
     ghost place: { gate < len },
     ghost limit: { len < 2 ^ 62 },
+}
+
+impl Drop for Walk {
+    fn drop(self) {
+        let Walk {
+            world: _,
+            census: _,
+            gate: _,
+            len: _,
+        } = self;
+    }
 }
 
 // The world that a content spells, where it spells one that keeps the rules, with its census.
@@ -159,6 +169,19 @@ impl Walk {
         };
         self.gate += HEAD + content.len() as u64;
         Ok(Some(entry))
+    }
+
+    /// The world alone.
+    pub(crate) fn into_world(self) -> World
+        ensures { result ≡ self.world }
+    {
+        let Walk {
+            world,
+            census: _,
+            gate: _,
+            len: _,
+        } = self;
+        world
     }
 
     /// The reading that goes on without testing the rules of objects.

@@ -72,7 +72,7 @@ returns-clause-found g c =
     let quiet = subst (λ (s : Option (List ℕ)). IsQuiet s (g.D.Disk.moments c.next.new.disk)) (sym seen_is) (subst (λ (m : List Moment). IsQuiet (g.D.Disk.seen c.args.disk.now) m) (sym crash_is) c.requires) in
     let now = quiet_journal ended _ (g.D.Disk.seen c.open.new.disk) (g.D.Disk.moments c.open.new.disk) quiet c.in_ok-log.ensures.done in (
       entries,
-      recovered_from base entries c.next.new.self _ c.each.uploaded _ ended.walked c.each.invariant.2 c.in_ok-base.ensures refl refl c.from_vec.ensures,
+      rw c.into_world.ensures (recovered_from base entries c.next.new.self _ c.each.uploaded _ ended.walked c.each.invariant.2 c.in_ok-base.ensures refl refl c.from_vec.ensures),
       rw c.in_ok-base.ensures whole.journal,
       rw (c.in_ok-base.ensures, c.in_ok-log.ensures.gate, ← seen_is) now,
     )
