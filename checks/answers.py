@@ -101,6 +101,7 @@ RUNS = {
     "wasm_validate::validate": "modules.py",
     "run_lines::later_lines": "program.py",
     "run_lines::start_line": "program.py",
+    "run_status::Status::fault_line": "program.py",
     "world_bytes::put_length": "program.py",
     "world_bytes::read_account": "journals.py",
     "world_bytes::read_intent": "journals.py",
@@ -124,7 +125,6 @@ RUNS = {
     "world_text::Tokens::push": "world_files.py",
     "world_text::read_world": "world_files.py",
     "world_text::read_world TooLong": "program.py",
-    "world_run::Status::fault_line": "program.py",
 }
 
 # What a call meets in the tests of another one that makes it.
@@ -143,7 +143,7 @@ NAMES = {"Bad": "Uploads", "Empty": "is_empty"}
 # Names of methods that are those of std's types too.
 COMMON = {"copy", "new", "of", "push", "reserve"}
 # Crates of tests alone, whose functions serve the tests of all their files.
-OF_TESTS = {"base_examples", "content_examples", "journal_examples", "machine_examples", "module_round_trip", "run_examples"}
+OF_TESTS = {"base_examples", "content_examples", "device_examples", "journal_examples", "machine_examples", "module_round_trip", "run_examples"}
 
 # The answers that a clause says never come.
 NEVER = {

@@ -9,7 +9,7 @@ use Rattle.command_words.specs.declared.command.GenPart.{GenPart}
 use Rattle.command_words.specs.declared.command.GenPart.TheVariants.{World, Uploads}
 use Rattle.world_run.specs.Demo.{EndsDemonstrating}
 use Rattle.world_run.specs.Made.{EndsWriting, IsMade}
-use Rattle.world_run.specs.declared.status.Status.{Status}
+use Rattle.run_status.specs.declared.status.Status.{Status}
 
 same_text : (found : Option Text) (one other : Text) → found ≡ Some one → found ≡ Some other → one ≡ other
 same_text found one other is also = cc

@@ -3,8 +3,8 @@ use Rattle.std.proofs.Common.{◌≡◌, ℕ, List, ◌++◌, Option, Some, None
 use Rattle.std.proofs.lemmas.List.{append-nil}
 use Rattle.world_io.specs.Told.{GaveAll}
 use Rattle.world_run.specs.Checks.{Checks, IsAnswer, ReadsAnswer}
-use Rattle.world_run.specs.declared.status.Status.{Status}
-use Rattle.world_run.specs.declared.status.Status.TheVariants.{Memory}
+use Rattle.run_status.specs.declared.status.Status.{Status}
+use Rattle.run_status.specs.declared.status.Status.TheVariants.{Memory}
 
 -- What a source gave is all that it had left.
 pub gave_whole : (new : Option (List ℕ)) (left bytes : List ℕ) → GaveAll (Some left) new bytes → bytes ≡ left

@@ -20,12 +20,14 @@ use Rattle.world_journal.proofs.Journals.{journal_some}
 use Rattle.world_rules.specs.Sound.{IsSound}
 use Rattle.world_rules.specs.World.{World, world_of}
 use Rattle.world_run.specs.Demo.{AreMadeTicks, IsDemonstrated, IsLastLine, UsesUp, made_state, made_world}
-use Rattle.world_run.specs.Listed.{listed}
+use Rattle.world_replay.specs.Listed.{listed}
 use Rattle.world_run.specs.Made.{IsPlayerText}
-use Rattle.world_run.specs.Runs.{Follow, IsExhausted, Stood, last_of, output, recorded_of, resumed}
+use Rattle.world_replay.specs.Serials.{HasRunOut, IsExhausted}
+use Rattle.world_run.specs.Runs.{Follow, Stood, last_of, output, recorded_of, resumed}
 use Rattle.world_run.specs.inner.Held as held
 use Rattle.world_run.proofs.Checked.{gave_whole}
-use Rattle.world_run.proofs.Worldly.{exhausted_shown, file_listed, follow_shown, last_shown, many_shown, output_left, read_world_of, records_shown, shown, start_is, world_once}
+use Rattle.world_replay.proofs.Listing.{exhausted_shown, file_listed}
+use Rattle.world_run.proofs.Worldly.{follow_shown, last_shown, many_shown, output_left, read_world_of, records_shown, shown, start_is, world_once}
 
 -- ---- the last line of a text
 
@@ -111,7 +113,7 @@ module _ (seed rooms : ℕ) (world : Stored) (same : world_of world ≡ made_wor
         let entries_are : entries ++ held.recorded_of steps ≡ recorded_of (map shown steps) = ap (λ (l : List TickRecord). l ++ held.recorded_of steps) none ∙ sym (records_shown steps) in
         subst (λ (b : Stored). IsWholeJournal b (recorded_of (map shown steps)) journal) base (subst (λ (l : List TickRecord). IsWholeJournal (world_as_read world) l journal) entries_are whole)
 
-    pub used_up : (ticks index : ℕ) → length steps < ticks → held.IsExhausted (held.last_of first steps).world index → UsesUp seed rooms ticks index
+    pub used_up : (ticks index : ℕ) → length steps < ticks → HasRunOut (held.last_of first steps).world index → UsesUp seed rooms ticks index
     used_up ticks index fewer is =
         let last = sym (ap (λ (s : State). s.world) (last_shown first steps)) in
         let here = subst (λ (w : World). IsExhausted w index) last (exhausted_shown (held.last_of first steps).world index is) in
@@ -138,7 +140,7 @@ module _ (seed rooms : ℕ) (world : Stored) (same : world_of world ≡ made_wor
       }
 
   pub exhausted : (ticks index : ℕ) (steps : List held.Step) (disk sink : List ℕ) (disk_new sink_new : Option (List ℕ)) → disk ≡ [] → sink ≡ [] → length steps < ticks
-      → (leaves : held.Leaves (Some disk) disk_new (Some sink) sink_new stream world steps) → held.IsExhausted (held.last_of leaves.prints.first steps).world index → UsesUp seed rooms ticks index
+      → (leaves : held.Leaves (Some disk) disk_new (Some sink) sink_new stream world steps) → HasRunOut (held.last_of leaves.prints.first steps).world index → UsesUp seed rooms ticks index
   exhausted ticks index steps disk sink disk_new sink_new no_disk no_sink fewer leaves is =
       let p = leaves.prints in
       used_up steps p.entries p.first (subst (λ (d : List ℕ). Stood (Some d) (world_as_read world) p.entries) no_disk p.stood) p.at_end p.follow ticks index fewer is

@@ -15,15 +15,18 @@ use Rattle.world_form.specs.declared.fault.WorldFault.{WorldFault}
 use Rattle.upload_stream.specs.Streams.{Upload}
 use Rattle.hosted_tick.specs.Hosting.{Held, state_of}
 use Rattle.hosted_tick.specs.Next.{State}
-use Rattle.world_run.specs.declared.status.Status.{Status}
-use Rattle.world_run.specs.declared.status.Status.TheVariants as statuses
+use Rattle.run_status.specs.declared.status.Status.{Status}
+use Rattle.run_status.specs.declared.status.Status.TheVariants as statuses
 use Rattle.command_words.specs.Words.{AreRun, Asks, AsksAtLeast}
-use Rattle.world_run.specs.Listed.{listed}
-use Rattle.world_run.specs.Runs.{DifferAt, Follow, HasOther, IsExhausted, IsKept, IsPastWords, ReadsWorld, ReadsFault, ReadsUploads, ReadsBad, Stood, last_of, output, recorded_of, resumed}
+use Rattle.world_replay.specs.Listed.{listed}
+use Rattle.world_replay.specs.Differing.{DifferAt}
+use Rattle.world_replay.specs.Serials.{HasRunOut, IsExhausted}
+use Rattle.world_run.specs.Runs.{Follow, HasOther, IsKept, IsPastWords, ReadsWorld, ReadsFault, ReadsUploads, ReadsBad, Stood, last_of, output, recorded_of, resumed}
 use Rattle.world_run.specs.inner.Held as held
 use Rattle.world_run.specs.inner.Stages.{IsOfRun, IsPastWorld, IsPastUploads, IsBeforeJournal}
 use Rattle.world_run.specs.Ends.{Outside, CutsLast, Keeps, Makes, Leaves, LeavesPart, Asked, Ends, start_of}
-use Rattle.world_run.proofs.Worldly.{shown, file_listed, follow_shown, last_shown, many_shown, exhausted_shown, output_left, cuts_left, records_shown, start_is}
+use Rattle.world_replay.proofs.Listing.{file_listed, exhausted_shown}
+use Rattle.world_run.proofs.Worldly.{shown, follow_shown, last_shown, many_shown, output_left, cuts_left, records_shown, start_is}
 
 module _ (words : List (List ℕ)) (old new : Outside) where
   -- Some ticks of stored worlds, of which this is known.
@@ -53,7 +56,7 @@ module _ (words : List (List ℕ)) (old new : Outside) where
     pub exhausted : (index : ℕ) → status ≡ statuses.IdsExhausted index → (first : Stored) × (stream : List Upload) × (steps : List held.Step)
         × AsksAtLeast words (suc (length steps)) × ReadsWorld old.world new.world (world_of first) × IsSound first × ReadsUploads old.uploads new.uploads stream
         × (leaves : held.Leaves old.disk new.disk old.written new.written stream first steps)
-        × held.IsExhausted (held.last_of leaves.prints.first steps).world index
+        × HasRunOut (held.last_of leaves.prints.first steps).world index
     pub read_fault : status ≡ statuses.ReadFault → (Rose old.world_faults new.world_faults × (new.uploads ≡ old.uploads))
         ⊎ (Rose old.uploads_faults new.uploads_faults × ((found : World) × ReadsWorld old.world new.world found))
     pub write_fault : status ≡ statuses.WriteFault → Rose old.sink_faults new.sink_faults
@@ -120,7 +123,7 @@ module _ (words : List (List ℕ)) (old new : Outside) where
     asked asks = subst (AsksAtLeast words) (sym (many_shown steps)) asks
 
     exhausted_here : (entries : List TickRecord) (first : Held) → held.IsAt (world_as_read world) entries first → held.Follow stream first steps → (index : ℕ)
-        → held.IsExhausted (held.last_of first steps).world index → IsExhausted (last_of (resumed (listed (world_of world)) entries) (map shown steps)).world index
+        → HasRunOut (held.last_of first steps).world index → IsExhausted (last_of (resumed (listed (world_of world)) entries) (map shown steps)).world index
     exhausted_here entries first at follow index is =
         let here = exhausted_shown (held.last_of first steps).world index is in
         let last = sym (ap (λ (s : State). s.world) (last_shown first steps)) in

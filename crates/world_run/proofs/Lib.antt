@@ -3,8 +3,6 @@ pub mod RunsLists
 pub mod Asked
 pub mod Demonstrates
 pub mod Shows
-pub mod Untested
-pub mod Replays
 pub mod Checked
 pub mod WorldFaults
 pub mod Hosts
@@ -13,5 +11,4 @@ pub mod Worldly
 pub mod Uploaded
 pub mod Ended
 pub mod Opened
-pub mod Serials
 pub mod Recorded

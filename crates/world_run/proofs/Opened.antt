@@ -1,5 +1,5 @@
 -- The opening of a journal.
-use Rattle.std.proofs.Common.{◌≡◌, ℕ, cond, true, false, List, [], ◌∷◌, map, Option, Some, None, IfSome, inl, inr, refl, sym, ap, subst, ◌∙◌}
+use Rattle.std.proofs.Common.{◌≡◌, ℕ, cond, true, false, List, [], ◌∷◌, map, Option, Some, None, IfSome, inl, inr, refl, sym, ap, subst}
 use Rattle.std.specs.List.{AllByRecursion, find}
 use Rattle.std.specs.Prelude.{slice_get, unwrap_or, ◌==◌}
 use Rattle.frame_log.specs.Frames.{IsEmpty, IsEmptyDisk}
@@ -15,7 +15,8 @@ use Rattle.world_journal.specs.Faults.{FailsAt}
 use Rattle.world_journal.specs.Journals.{HasJournal, IsCourse, IsJournal, IsQuiet, IsRead}
 use Rattle.record_follows.specs.Courses.{world_after}
 use Rattle.record_follows.specs.Follows.{after, room_after}
-use Rattle.world_run.specs.Runs.{DifferAt, IsKept, Stood}
+use Rattle.world_replay.specs.Differing.{DifferAt}
+use Rattle.world_run.specs.Runs.{IsKept, Stood}
 use Rattle.world_run.proofs.RunsLists.{journal_of}
 
 -- Where nothing was committed, a crash leaves what a read gives.
@@ -49,10 +50,6 @@ stood_there (Some bytes) base entries is = inr is
 pub stood_empty : (seen : Option (List ℕ)) (base : Stored) → IfSome seen IsEmpty → Stood seen base []
 stood_empty None base none = tt
 stood_empty (Some bytes) base none = inl (none, refl)
-
--- Equal contents don't differ.
-pub same_differ : (at : ℕ) (kept given : Option ℕ) (one other : List ℕ) → one ≡ other → DifferAt at kept given one other → ⊥
-same_differ at kept given one other same d = d.differ (sym d.kept_is ∙ (ap (λ (l : List ℕ). slice_get l at) same ∙ d.given_is))
 
 some_same : (one other : List ℕ) → Some one ≡ Some other → one ≡ other
 some_same one other same = cc

@@ -8,8 +8,8 @@ use Rattle.world_journal.specs.Faults.{HasNoWorld}
 use Rattle.world_journal.specs.Journals.{IsJournal}
 use Rattle.world_journal.proofs.Journals.{journal_once, journal_some, journal_whole}
 use Rattle.world_run.specs.Shown.{IsNotShown}
-use Rattle.world_run.specs.declared.status.Status.{Status}
-use Rattle.world_run.specs.declared.status.Status.TheVariants as statuses
+use Rattle.run_status.specs.declared.status.Status.{Status}
+use Rattle.run_status.specs.declared.status.Status.TheVariants as statuses
 
 within : (tick first last start count size : ℕ) → first ≡ start → last ≡ start + size → tick ≡ start + count
     → count ≤ size → (tick < first) ⊎ (last < tick) → ⊥

@@ -7,7 +7,7 @@ use Rattle.world_form.specs.declared.fault.WorldFault.{WorldFault}
 use Rattle.world_form.specs.declared.fault.WorldFault.TheVariants as faults
 use Rattle.world_run.specs.Runs.{ReadsFault}
 use Rattle.world_run.specs.inner.Stages.{IsOfWorld, status_of_fault}
-use Rattle.world_run.specs.declared.status.Status.TheVariants as statuses
+use Rattle.run_status.specs.declared.status.Status.TheVariants as statuses
 
 pub fault_read : (old new : Option (List ℕ)) (bytes : List ℕ) (fault other : WorldFault) → GaveAll old new bytes → length bytes ≤ 2 ^ 26 → HasFault bytes fault → status_of_fault fault ≡ statuses.World other → ReadsFault old new other
 fault_read old new bytes faults.TooLong other all short has is = absurd (omega arith)

@@ -1,29 +1,20 @@
 -- Runs of stored worlds are runs of the worlds that they store: the same journal, the same lines, the same ticks.
-use Rattle.std.proofs.Common.{◌≡◌, ℕ, suc, ◌≤◌, List, [], ◌∷◌, ◌++◌, length, map, take, Option, Some, None, option_map, inl, inr, refl, sym, ap, subst, ◌∙◌, append_assoc}
-use Rattle.std.specs.Prelude.{slice_get}
+use Rattle.std.proofs.Common.{◌≡◌, ℕ, suc, List, [], ◌∷◌, ◌++◌, length, map, take, Option, Some, inl, inr, refl, sym, ap, subst, ◌∙◌}
 use Rattle.std.specs.List.{AllByRecursion, flat_map}
 use Rattle.std.specs.FinMap.{get, values}
 use Rattle.std.proofs.lemmas.List.{length-map, map-append}
 use Rattle.std.specs.Io.KnownBytes.{Appends}
 use Rattle.world_io.specs.Told.{AppendsPrefix, GaveAll}
-use Rattle.object_store.specs.declared.account.Account.{Account}
-use Rattle.object_store.specs.declared.object.Object.{Object}
 use Rattle.object_store.specs.declared.world.Room.{Room}
-use Rattle.object_store.specs.Tallies.{no_tallies}
 use Rattle.object_store.specs.Stored.{Stored}
-use Rattle.object_store.specs.Tables.{IsRising, Table}
+use Rattle.object_store.specs.Tables.{Table}
 use Rattle.intent_book.specs.declared.player_run.PlayerRun.{PlayerRun}
 use Rattle.world_rules.specs.World.{World, Frame, Listing, framed_from, listing_of, world_of}
 use Rattle.world_rules.specs.World as worlds
-use Rattle.world_rules.specs.RoomParts.{RoomPart, objects_in}
-use Rattle.world_rules.specs.Sound.{IsSound, HaveSerials, serials_bound, bare_room, bare}
+use Rattle.world_rules.specs.Sound.{IsSound, bare_room, bare}
 use Rattle.world_form.specs.Facts.{Filed, filed_listing}
 use Rattle.world_form.specs.Files.{WorldForm}
 use Rattle.world_form.proofs.OneThing.{one_world}
-use Rattle.world_rules.proofs.Keys.{table_sorted, accounts_sorted, values_of, entries_of_sorted}
-use Rattle.world_rules.proofs.Same.{once, tables_at}
-use Rattle.world_rules.proofs.Lifting.{frames_stored, frame_stored, part_of_stored, room_at}
-use Rattle.std.proofs.lemmas.Option.{get_or_from_slice_get, slice_get_within}
 use Rattle.upload_stream.specs.Streams.{Upload}
 use Rattle.tick_journal.specs.BaseForms.{world_as_read}
 use Rattle.tick_journal.specs.declared.entries.UploadEntry.{UploadEntry}
@@ -33,58 +24,11 @@ use Rattle.recorded_tick.specs.Recording.{AreChangedRooms, IsRecordOf}
 use Rattle.hosted_tick.specs.Hosting.{Held, IsHosted, state_of}
 use Rattle.world_run.proofs.Checked.{gave_whole}
 use Rattle.run_lines.specs.Lines.{object_count, total_energy, start_line, tick_line, tick_lines}
-use Rattle.world_run.specs.Listed.{listed_room, listed}
-use Rattle.world_run.specs.Runs.{Step, HasSerials, IsExhausted, IsStep, Follow, last_of, output, recorded_of, resumed, step_lines, AppendsPart}
+use Rattle.world_replay.specs.Listed.{listed}
+use Rattle.world_replay.proofs.Listing.{file_listed, listed_is, serials_shown}
+use Rattle.world_run.specs.Runs.{Step, IsStep, Follow, last_of, output, recorded_of, resumed, step_lines, AppendsPart}
 use Rattle.world_run.specs.inner.Held as held
 use Rattle.world_run.specs.Ends.{CutsLast}
-
--- ---- what is listed of a stored world is what is stored, but for the room that tables keep
-
-module _ (tick : ℕ) (accounts : List Account) (before : List Room) (room : Room) (after : List Room) (s : IsSound (record { tick = tick; rooms = before ++ room ∷ after; accounts = accounts })) where
-  abbrev stored : Stored
-  stored = record { tick = tick; rooms = before ++ room ∷ after; accounts = accounts }
-
-  rising : IsRising room.table.objects
-  rising = tables_at (before ++ room ∷ after) (length before) room s.tables (room_at before room after)
-
-  objects_here : values (objects_in (world_of stored) (length before)) ≡ room.table.objects
-  objects_here =
-      ap (λ (part : RoomPart). values part.objects) (part_of_stored tick accounts before room after (once stored s))
-      ∙ ap (map (λ (e : ℕ × Object). e.1)) (entries_of_sorted (map (λ (object : Object). (object.id, object)) room.table.objects) (table_sorted room.table.objects rising))
-      ∙ values_of (λ (object : Object). object.id) room.table.objects
-
-  room_is : listed_room (world_of stored) (length before, (worlds.listed_room room).frame) ≡ bare_room room
-  room_is =
-      let place = s.places (length before) room (room_at before room after) in
-      λ i. record {
-        name = room.name;
-        terrain = room.terrain;
-        table = record { index = sym place i; next = room.table.next; objects = objects_here i; spare = 0; tallies = no_tallies };
-      }
-
-length_push : (before : List Room) (room : Room) → length (before ++ room ∷ []) ≡ suc (length before)
-length_push [] room = refl
-length_push (first ∷ before) room = ap suc (length_push before room)
-
-rooms_from : (tick : ℕ) (accounts : List Account) (before rest : List Room) (s : IsSound (record { tick = tick; rooms = before ++ rest; accounts = accounts }))
-    → map (listed_room (world_of (record { tick = tick; rooms = before ++ rest; accounts = accounts }))) (framed_from (length before) (map worlds.listed_room rest)) ≡ map bare_room rest
-rooms_from tick accounts before [] s = refl
-rooms_from tick accounts before (room ∷ rest) s =
-    let again : List Room = before ++ room ∷ [] in
-    let same : again ++ rest ≡ before ++ (room ∷ rest) = append_assoc before (room ∷ []) rest in
-    let P : List Room → Type 0 = λ rooms. IsSound (record { tick = tick; rooms = rooms; accounts = accounts }) in
-    let later = rooms_from tick accounts again rest (subst P (sym same) s) in
-    let many : length again ≡ suc (length before) = length_push before room in
-    let first = room_is tick accounts before room rest s in
-    let Q : List Room → ℕ → Type 0 = λ rooms n. map (listed_room (world_of (record { tick = tick; rooms = rooms; accounts = accounts }))) (framed_from n (map worlds.listed_room rest)) ≡ map bare_room rest in
-    let others : Q (before ++ (room ∷ rest)) (suc (length before)) = subst (λ (n : ℕ). Q (before ++ (room ∷ rest)) n) many (subst (λ (rooms : List Room). Q rooms (length again)) same later) in
-    λ i. first i ∷ others i
-
-listed_is : (stored : Stored) → IsSound stored → listed (world_of stored) ≡ bare stored
-listed_is stored s =
-    let rooms = ap (map (listed_room (world_of stored))) (frames_stored stored) ∙ rooms_from stored.tick stored.accounts [] stored.rooms s in
-    let accounts = ap (map (λ (e : ℕ × Account). e.1)) (entries_of_sorted (map (λ (account : Account). (account.player, account)) stored.accounts) (accounts_sorted stored.accounts s.accounts)) ∙ values_of (λ (account : Account). account.player) stored.accounts in
-    λ i. record { tick = stored.tick; rooms = rooms i; accounts = accounts i }
 
 -- ---- that room is in no line
 
@@ -161,35 +105,6 @@ sound_steps : (stream : List Upload) (before : Held) (steps : List held.Step) �
 sound_steps stream before [] f = tt
 sound_steps stream before (step ∷ later) f = ((hosted_first stream step.after later f.3).sound, sound_steps stream step.after later f.3)
 
-next_at : (stored : Stored) (index : ℕ) (frame : Frame) (found : Option Room) → slice_get stored.rooms index ≡ found → option_map (λ (room : Room). (worlds.listed_room room).frame) found ≡ Some frame
-    → (room : Room) × (slice_get stored.rooms index ≡ Some room) × (room.table.next ≡ frame.next)
-next_at stored index frame None at is = absurd cc
-next_at stored index frame (Some room) at is =
-    let same : (worlds.listed_room room).frame ≡ frame = cc in
-    (room, at, ap (λ (f : Frame). f.next) same)
-
-room_in : (stored : Stored) (index : ℕ) (frame : Frame) → get (world_of stored).rooms index ≡ Some frame → (room : Room) × (slice_get stored.rooms index ≡ Some room) × (room.table.next ≡ frame.next)
-room_in stored index frame is = next_at stored index frame (slice_get stored.rooms index) refl (sym (frame_stored stored index) ∙ is)
-
-next_within : (stored : Stored) (index : ℕ) (room : Room) → HaveSerials stored.rooms → slice_get stored.rooms index ≡ Some room → room.table.next ≤ serials_bound
-next_within stored index room all is = subst (λ (r : Room). r.table.next ≤ serials_bound) (get_or_from_slice_get stored.rooms index room room is) (all index room (slice_get_within stored.rooms index room is))
-
-pub serials_shown : (stored : Stored) → HaveSerials stored.rooms → HasSerials (world_of stored)
-serials_shown stored all index frame is =
-    let found = room_in stored index frame is in
-    subst (λ (n : ℕ). n ≤ serials_bound) found.2 (next_within stored index found.0 all found.1)
-
-pub exhausted_shown : (stored : Stored) (index : ℕ) → held.IsExhausted stored index → IsExhausted (world_of stored) index
-exhausted_shown stored index e =
-    record {
-      frame = (worlds.listed_room e.room).frame;
-      stands = frame_stored stored index ∙ ap (option_map (λ (room : Room). (worlds.listed_room room).frame)) e.stands;
-      above = e.above;
-      first = λ earlier other below is.
-          let found = room_in stored earlier other is in
-          subst (λ (n : ℕ). n ≤ serials_bound) found.2 (e.first earlier found.0 below found.1);
-    }
-
 -- What changed of stored worlds changed of what is listed of them.
 rooms_bare : (before after : List Room) (tables : List Table) → AreChangedRooms before after tables → AreChangedRooms (map bare_room before) (map bare_room after) tables
 rooms_bare [] after tables is = is
@@ -230,10 +145,6 @@ pub many_shown : (steps : List held.Step) → length (map shown steps) ≡ lengt
 many_shown steps = length-map steps shown
 
 -- ---- where a run starts
-
--- the world of a file, as the journal has it
-pub file_listed : (world : Stored) → IsSound world → listed (world_of world) ≡ world_as_read world
-file_listed world s = listed_is world s
 
 -- A file's bytes say one world,
 pub world_once : (bytes : List ℕ) (one other : World) → WorldForm bytes one → WorldForm bytes other → one ≡ other

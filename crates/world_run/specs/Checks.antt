@@ -5,8 +5,8 @@ use Rattle.intent_book.specs.Refusals.{refusal_name}
 use Rattle.intent_book.specs.declared.refusal.Refusal.TheVariants as refusals
 use Rattle.upload_stream.specs.Streams.{module_bytes_bound}
 use Rattle.player_run.specs.Admission.{IsAccepted, IsRefused}
-use Rattle.world_run.specs.declared.status.Status.{Status}
-use Rattle.world_run.specs.declared.status.Status.TheVariants as statuses
+use Rattle.run_status.specs.declared.status.Status.{Status}
+use Rattle.run_status.specs.declared.status.Status.TheVariants as statuses
 
 -- ---- the answer
 

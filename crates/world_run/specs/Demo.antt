@@ -9,11 +9,12 @@ use Rattle.world_gen.specs.Uploads.{uploads}
 use Rattle.world_io.specs.Told.{AppendsPrefix}
 use Rattle.world_journal.specs.Journals.{IsWholeJournal}
 use Rattle.world_rules.specs.World.{World, world_of}
-use Rattle.world_run.specs.Listed.{listed}
+use Rattle.world_replay.specs.Listed.{listed}
 use Rattle.world_run.specs.Made.{IsPlayerText}
-use Rattle.world_run.specs.Runs.{Follow, IsExhausted, Step, last_of, output, recorded_of}
-use Rattle.world_run.specs.declared.status.Status.{Status}
-use Rattle.world_run.specs.declared.status.Status.TheVariants as statuses
+use Rattle.world_replay.specs.Serials.{IsExhausted}
+use Rattle.world_run.specs.Runs.{Follow, Step, last_of, output, recorded_of}
+use Rattle.run_status.specs.declared.status.Status.{Status}
+use Rattle.run_status.specs.declared.status.Status.TheVariants as statuses
 
 -- ---- the run
 

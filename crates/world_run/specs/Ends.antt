@@ -11,13 +11,14 @@ use Rattle.tick_journal.specs.declared.tick_record.TickRecord.{TickRecord}
 use Rattle.world_journal.specs.Faults.{FailsAt}
 use Rattle.world_journal.specs.Journals.{IsWholeJournal}
 use Rattle.run_lines.specs.Lines.{start_line}
-use Rattle.world_run.specs.Listed.{listed}
+use Rattle.world_replay.specs.Listed.{listed}
 use Rattle.command_words.specs.Words.{AreRun, Asks, AsksAtLeast}
-use Rattle.world_run.specs.Runs.{Step, Follow, IsExhausted, last_of, output, recorded_of, resumed, step_lines}
+use Rattle.world_replay.specs.Serials.{IsExhausted}
+use Rattle.world_run.specs.Runs.{Step, Follow, last_of, output, recorded_of, resumed, step_lines}
 use Rattle.world_run.specs.Runs.{AppendsPart, ReadsWorld, ReadsFault, ReadsUploads, ReadsBad, HasOther}
 use Rattle.world_run.specs.Runs.{IsKept, Stood}
-use Rattle.world_run.specs.declared.status.Status.{Status}
-use Rattle.world_run.specs.declared.status.Status.TheVariants as statuses
+use Rattle.run_status.specs.declared.status.Status.{Status}
+use Rattle.run_status.specs.declared.status.Status.TheVariants as statuses
 
 -- What a run works on: what its two sources have left, what its sink was given and the bytes of its disk,
 -- where they tell, and the counts of the faults of each.

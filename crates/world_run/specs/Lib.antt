@@ -1,10 +1,7 @@
-pub mod Faults
-pub mod Listed
 pub mod Runs
 pub mod Ends
 pub mod Checks
 pub mod Made
 pub mod Demo
 pub mod Shown
-pub mod Replayed
 pub mod inner

@@ -11,8 +11,8 @@ use Rattle.world_gen.specs.PlayerModule.{player_module}
 use Rattle.world_gen.specs.Uploads.{uploads}
 use Rattle.command_words.specs.declared.command.GenPart.{GenPart}
 use Rattle.command_words.specs.declared.command.GenPart.TheVariants as parts
-use Rattle.world_run.specs.declared.status.Status.{Status}
-use Rattle.world_run.specs.declared.status.Status.TheVariants as statuses
+use Rattle.run_status.specs.declared.status.Status.{Status}
+use Rattle.run_status.specs.declared.status.Status.TheVariants as statuses
 
 -- ---- the parts of a generated world
 

@@ -1,14 +1,13 @@
 -- What a run makes of its inputs: the worlds of its ticks, their records, and the lines.
-use Rattle.std.specs.Prelude.{◌≡◌, ◌≢◌, ℕ, ◌+◌, ◌^◌, ◌<◌, ◌≤◌, ◌⊎◌, List, [], ◌∷◌, ◌++◌, length, map, take}
-use Rattle.std.specs.Prelude.{slice_get, Option, Some, None, IfSome, ⊤}
+use Rattle.std.specs.Prelude.{◌≡◌, ℕ, ◌+◌, ◌^◌, ◌≤◌, ◌⊎◌, List, [], ◌∷◌, ◌++◌, length, map, take}
+use Rattle.std.specs.Prelude.{Option, Some, None, IfSome, ⊤}
 use Rattle.std.specs.List.{flat_map}
 use Rattle.std.specs.Io.KnownBytes.{Appends}
-use Rattle.std.specs.FinMap.{empty, get}
+use Rattle.std.specs.FinMap.{empty}
 use Rattle.frame_log.specs.Frames.{IsEmpty}
 use Rattle.intent_book.specs.declared.player_run.PlayerRun.{PlayerRun}
 use Rattle.object_store.specs.Stored.{Stored}
-use Rattle.world_rules.specs.World.{Frame, World, world_of}
-use Rattle.world_rules.specs.Sound.{serials_bound}
+use Rattle.world_rules.specs.World.{World, world_of}
 use Rattle.world_form.specs.Files.{WorldForm, HasFault}
 use Rattle.world_form.specs.declared.fault.WorldFault.{WorldFault}
 use Rattle.world_form.specs.declared.fault.WorldFault.TheVariants as faults
@@ -22,9 +21,11 @@ use Rattle.recorded_tick.specs.Recording.{IsRecordOf}
 use Rattle.world_journal.specs.Journals.{IsJournal}
 use Rattle.hosted_tick.specs.Next.{Next, State}
 use Rattle.run_lines.specs.Lines.{start_line, tick_lines}
-use Rattle.world_run.specs.Listed.{listed}
-use Rattle.world_run.specs.declared.status.Status.{Status}
-use Rattle.world_run.specs.declared.status.Status.TheVariants as statuses
+use Rattle.world_replay.specs.Differing.{DifferAt}
+use Rattle.world_replay.specs.Listed.{listed}
+use Rattle.world_replay.specs.Serials.{HasSerials}
+use Rattle.run_status.specs.declared.status.Status.{Status}
+use Rattle.run_status.specs.declared.status.Status.TheVariants as statuses
 
 -- ---- the ticks
 
@@ -44,19 +45,6 @@ recorded_of steps = map (λ (step : Step). step.recorded) steps
 abbrev pub resumed : Stored → List TickRecord → State
 resumed base entries =
     record { world = world_of (world_after base entries); modules = modules_after empty entries }
-
--- No room has used up its serials.
-abbrev pub HasSerials : World → Type 0
-HasSerials world =
-    (index : ℕ) (frame : Frame) → get world.rooms index ≡ Some frame → frame.next ≤ serials_bound
-
--- The room of this index is the first that has used up its serials.
-pub record IsExhausted (world : World) (index : ℕ) : Type 0 where
-  pub frame : Frame
-  pub stands : get world.rooms index ≡ Some frame
-  pub above : serials_bound < frame.next
-  pub first : (earlier : ℕ) (other : Frame) → earlier < index → get world.rooms earlier ≡ Some other
-      → other.next ≤ serials_bound
 
 -- The step is the tick that comes with the uploads of its number in this stream, and its record has what it
 -- changed.
@@ -123,13 +111,6 @@ Stood (Some bytes) base entries = (IsEmpty bytes × (entries ≡ [])) ⊎ IsJour
 abbrev pub IsKept : Option (List ℕ) → Option (List ℕ) → Type 0
 IsKept old new = (new ≡ old) ⊎ ((base : Stored) × (entries : List TickRecord)
     × IfSome old (IsJournal base entries) × IfSome new (IsJournal base entries))
-
--- The contents differ first at the place, where one has this byte and the other that one, or none.
-pub record DifferAt (at : ℕ) (kept given : Option ℕ) (one other : List ℕ) : Type 0 where
-  pub same : take at one ≡ take at other
-  pub kept_is : slice_get one at ≡ kept
-  pub given_is : slice_get other at ≡ given
-  pub differ : kept ≢ given
 
 -- A journal of another world stands on the disk: its base content differs from the file's, first at the
 -- place.

@@ -10,8 +10,8 @@ use Rattle.world_io.specs.Causes.{Rose}
 use Rattle.world_io.specs.Told.{AppendsPrefix}
 use Rattle.world_journal.specs.Faults.{FailsAt, HasNoWorld}
 use Rattle.world_journal.specs.Journals.{IsCourse, IsJournal}
-use Rattle.world_run.specs.declared.status.Status.{Status}
-use Rattle.world_run.specs.declared.status.Status.TheVariants as statuses
+use Rattle.run_status.specs.declared.status.Status.{Status}
+use Rattle.run_status.specs.declared.status.Status.TheVariants as statuses
 
 -- Where the disk tells its bytes, they are a journal, and these bytes are the text of its world of the tick
 -- and a line feed.

@@ -1,4 +1,3 @@
 -- Definitions that private functions and proofs cite alone.
 pub mod Stages
 pub mod Held
-pub mod Ruling

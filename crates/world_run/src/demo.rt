@@ -10,10 +10,10 @@ ghost use Rattle.world_run.specs.Demo.{made_world};
 ghost use Rattle.world_run.specs.inner.Held.{MayStart};
 
 use crate::inputs::load_world;
-use crate::status::Status;
 use crate::ticks::keep_journal;
 use made_worlds::generated_worlds_are_writable;
 use object_store::World;
+use run_status::Status;
 use std::alloc::{AllocError as NoMemory, Global};
 use upload_stream::{Uploads, stream_is_judged_once};
 use world_gen::{generate, generate_uploads};

@@ -12,9 +12,9 @@ ghost use Rattle.world_run.specs.inner.Stages.{IsOfInputs, IsPastWorld};
 ghost use Rattle.command_words.specs.Words.{AreRun, Asks};
 ghost use Rattle.world_run.specs.Runs.{ReadsWorld, ReadsFault, IsPastWords};
 
-use crate::status::Status;
 use command_words::{Command, WordsFault, read_words};
 use object_store::World;
+use run_status::Status;
 use std::alloc::Global;
 use world_io::{ReadStop, Source, read_all};
 use world_text::{WorldFault, read_world};

@@ -6,15 +6,13 @@ mod inputs;
 mod kept;
 mod made;
 mod opening;
-mod replayed;
 mod run;
 mod shown;
-mod status;
 mod ticks;
 mod tool;
 
 pub use player_run::Refusal;
 pub use run::run_alone;
-pub use status::Status;
+pub use run_status::Status;
 pub use std::alloc::AllocError as NoMemory;
 pub use tool::tool_main;

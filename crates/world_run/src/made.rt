@@ -6,8 +6,8 @@ ghost use Rattle.world_form.specs.Written.{written};
 ghost use Rattle.world_gen.specs.Generator.{generated};
 ghost use Rattle.world_run.specs.Made.{AreUploads, EndsWriting, IsMade};
 
-use crate::status::Status;
 use command_words::GenPart;
+use run_status::Status;
 use std::alloc::{AllocError, Global};
 use world_gen::{generate, generate_uploads};
 use world_io::{Sink, write_all};

@@ -12,20 +12,22 @@ ghost use Rattle.world_journal.specs.Faults.{FailsAt};
 ghost use Rattle.world_journal.specs.Journals.{IsJournal, IsQuiet, MayBegin};
 ghost use Rattle.world_journal.specs.Recovering.{HasRecovered};
 ghost use Rattle.run_lines.specs.Lines.{start_line as start_line_of};
-ghost use Rattle.world_run.specs.Runs.{DifferAt, IsKept, Stood};
+ghost use Rattle.world_replay.specs.Differing.{DifferAt};
+ghost use Rattle.world_run.specs.Runs.{IsKept, Stood};
 ghost use Rattle.world_run.specs.inner.Held.{IsAt, IsKeptAt, MayStart};
 ghost use Rattle.world_run.specs.inner.Stages.{IsOfOpening};
 
 use crate::kept::Kept;
-use crate::status::Status;
 use hosted_tick::Hosted;
 use object_store::World;
 use recorded_tick::{Recorder, courses_can_be_hosted};
 use run_lines::start_line;
+use run_status::Status;
 use std::alloc::{AllocError as NoMemory, Global};
 use tick_journal::{bases_are_one, write_base};
 use world_io::Disk;
 use world_journal::{AppendFault, Journal, RecoverFault, Recovered, bytes_stand_for_one_journal};
+use world_replay::{byte_at, first_difference};
 
 /// A journal that is open, and the line that is printed for it.
 #[derive(Drop)]
@@ -205,35 +207,5 @@ fn same_base(alloc: Global, base: &World, world: &World) -> Result<(), Status>
             kept: byte_at(&kept, place),
             given: byte_at(&given, place),
         }),
-    }
-}
-
-/// The byte at a place, where there is one.
-pub(crate) fn byte_at(bytes: &[u8], place: usize) -> Option<u8>
-    ensures { result ≡ slice_get bytes.now place }
-{
-    bytes.get(place).copied()
-}
-
-/// The first place at which bytes differ, or at which one of them ends.
-pub(crate) fn first_difference(one: &[u8], other: &[u8]) -> Option<usize>
-    ensures some { IfSome result
-        (λ at. DifferAt at (slice_get one.now at) (slice_get other.now at) one.now other.now) }
-    ensures none { IfNone result (one.now ≡ other.now) }
-{
-    let shorter = if one.len() < other.len() {
-        one.len()
-    } else {
-        other.len()
-    };
-    for place in 0..shorter {
-        if one[place] != other[place] {
-            return Some(place);
-        }
-    }
-    if one.len() == other.len() {
-        None
-    } else {
-        Some(shorter)
     }
 }

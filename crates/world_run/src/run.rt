@@ -12,17 +12,19 @@ ghost use Rattle.tick_journal.specs.Contents.{base_content};
 ghost use Rattle.tick_journal.specs.declared.tick_record.TickRecord.{TickRecord};
 ghost use Rattle.world_journal.specs.Faults.{FailsAt};
 ghost use Rattle.world_journal.specs.Journals.{IsJournal, IsQuiet};
-ghost use Rattle.world_run.specs.inner.Held.{Step, IsExhausted, Leaves, LeavesPart, Prints, last_of};
+ghost use Rattle.world_replay.specs.Serials.{HasRunOut};
+ghost use Rattle.world_run.specs.inner.Held.{Step, Leaves, LeavesPart, Prints, last_of};
 ghost use Rattle.command_words.specs.Words.{AreRun, Asks, AsksAtLeast};
-ghost use Rattle.world_run.specs.Listed.{listed};
-ghost use Rattle.world_run.specs.Runs.{ReadsWorld, ReadsFault, ReadsUploads, ReadsBad, DifferAt, IsKept};
+ghost use Rattle.world_replay.specs.Listed.{listed};
+ghost use Rattle.world_replay.specs.Differing.{DifferAt};
+ghost use Rattle.world_run.specs.Runs.{ReadsWorld, ReadsFault, ReadsUploads, ReadsBad, IsKept};
 ghost use Rattle.world_run.specs.Runs.{IsPastWords, Stood};
 ghost use Rattle.world_run.specs.inner.Stages.{IsOfRun, IsPastWorld, IsPastUploads, IsBeforeJournal};
 ghost use Rattle.world_run.specs.Ends.{Runs};
 
 use crate::inputs::{Inputs, read_inputs};
-use crate::status::Status;
 use crate::ticks::keep_journal;
+use run_status::Status;
 use std::alloc::Global;
 use upload_stream::Uploads;
 use world_io::{Disk, Sink, Source};
@@ -119,7 +121,7 @@ fn run_stored<W: Source, U: Source, O: Sink, D: Disk>(
         × ReadsUploads (U.left uploads.old) (U.left uploads.new) stream
         × (leaves : Leaves (D.seen disk.old) (D.seen disk.new) (O.written out.old)
         (O.written out.new) stream first steps)
-        × IsExhausted (last_of leaves.prints.first steps).world index }
+        × HasRunOut (last_of leaves.prints.first steps).world index }
 
     // A fault comes only where that object's count rose, and that of the upload stream only where the world
     // file was accepted.

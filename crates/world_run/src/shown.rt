@@ -9,8 +9,8 @@ ghost use Rattle.world_journal.specs.Journals.{IsJournal};
 ghost use Rattle.world_run.specs.Shown.{EndsShowing, IsNotShown, IsShown};
 ghost use Rattle.world_run.specs.inner.Stages.{status_of_at};
 
-use crate::status::Status;
 use object_store::World;
+use run_status::Status;
 use std::alloc::{AllocError, Global};
 use world_io::{Disk, Sink, write_all};
 use world_journal::{AtFault, world_at};

@@ -24,29 +24,29 @@ ghost use Rattle.world_journal.specs.Faults.{FailsAt};
 ghost use Rattle.world_journal.specs.Journals.{HasJournal, IsJournal, IsQuiet, IsWholeJournal, MayFollow};
 ghost use Rattle.record_follows.specs.Follows.{after};
 ghost use Rattle.run_lines.specs.Lines.{upload_line};
-ghost use Rattle.world_run.specs.Runs.{DifferAt, IsKept, Stood};
-ghost use Rattle.world_run.specs.inner.Held.{Step, step_lines, IsExhausted, IsKeptAt, IsStep, Leaves};
+ghost use Rattle.world_run.specs.Runs.{IsKept, Stood};
+ghost use Rattle.world_replay.specs.Serials.{HasRunOut};
+ghost use Rattle.world_replay.specs.Differing.{DifferAt};
+ghost use Rattle.world_run.specs.inner.Held.{Step, step_lines, IsKeptAt, IsStep, Leaves};
 ghost use Rattle.world_run.specs.inner.Held.{LeavesPart, MayStart, Prints, last_of};
 ghost use Rattle.world_run.specs.inner.Stages.{Continues, IsOfRecord, IsOfTick, IsOfTicks, IsOfJournal};
 ghost use Rattle.world_run.specs.inner.Stages.{Grows, GrowsPart};
 
 use crate::kept::Kept;
 use crate::opening::{Opening, open_journal};
-use crate::status::Status;
 use hosted_tick::{Hosted, Ticked};
 use judged_uploads::JudgedUploads;
 use object_store::World;
 use recorded_tick::{Recorder, records_may_stand};
 use run_lines::{later_lines, print_uploads};
+use run_status::Status;
 use site_limit::ticks_keep_the_limit_of_sites;
 use std::alloc::{AllocError as NoMemory, Global};
 use tick_journal::TickRecord;
 use upload_stream::Uploads;
 use world_io::{Disk, Failed, Sink, write_all};
 use world_journal::{AppendFault, Journal};
-
-// The most that a room's next serial may be before a tick: 2^20 are left below 2^32.
-const MOST_SERIALS: u32 = 0xFFF0_0000;
+use world_replay::exhausted_room;
 
 // The most bytes of a piece of the uploads' lines.
 const MOST_PIECE: usize = 65_536;
@@ -74,7 +74,7 @@ pub(crate) fn keep_journal<O: Sink, D: Disk>(
         → (steps : List Step) × (length steps < ticks)
         × (leaves : Leaves (D.seen disk.old) (D.seen disk.new) (O.written out.old) (O.written out.new)
         stream.entry world steps)
-        × IsExhausted (last_of leaves.prints.first steps).world index }
+        × HasRunOut (last_of leaves.prints.first steps).world index }
     ensures journal_refused { (at : ℕ) → result ≡ Status.NotAJournal at
         → IfSome (D.seen disk.old) (FailsAt at) × (D.seen disk.new ≡ D.seen disk.old)
         × (O.written out.new ≡ O.written out.old) }
@@ -139,7 +139,7 @@ fn run_ticks<O: Sink, D: Disk>(
         → (steps : List Step) × (length steps < ticks)
         × Grows (O.written out.old) (O.written out.new) stream.entry first.hosted steps
         × Continues first (D.seen disk.old) (D.moments disk.old) (D.seen disk.new) steps
-        × IsExhausted (last_of first.hosted steps).world index }
+        × HasRunOut (last_of first.hosted steps).world index }
     ensures memory { result ≡ Status.Memory → (steps : List Step) × (length steps ≤ ticks)
         × Grows (O.written out.old) (O.written out.new) stream.entry first.hosted steps
         × Continues first (D.seen disk.old) (D.moments disk.old) (D.seen disk.new) steps }
@@ -164,19 +164,6 @@ fn run_ticks<O: Sink, D: Disk>(
         }
     }
     Status::Done
-}
-
-/// The index of the first room that has used up its serials.
-pub(crate) fn exhausted_room(world: &World) -> Option<u32>
-    ensures some { IfSome result (IsExhausted world.now) }
-    ensures none { IfNone result (HaveSerials world.now.rooms) }
-{
-    for (index, room) in world.room_list().iter().enumerate() {
-        if room.table.next() > MOST_SERIALS {
-            return Some(index as u32);
-        }
-    }
-    None
 }
 
 // Runs one tick: it is recorded, and then its lines are printed.
@@ -209,7 +196,7 @@ fn one_tick<O: Sink, D: Disk>(
     ensures memory { IfErr result (λ status. status ≡ Status.Memory
         → (D.seen disk.new ≡ D.seen disk.old) × (O.written out.new ≡ O.written out.old)) }
     ensures exhausted { IfErr result (λ status. (index : ℕ) → status ≡ Status.IdsExhausted index
-        → IsExhausted kept.hosted.world index × (D.seen disk.new ≡ D.seen disk.old)
+        → HasRunOut kept.hosted.world index × (D.seen disk.new ≡ D.seen disk.old)
         × (O.written out.new ≡ O.written out.old)) }
     ensures disk_stopped { IfErr result (λ status. status ≡ Status.DiskFault
         → O.written out.new ≡ O.written out.old) }

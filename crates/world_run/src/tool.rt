@@ -13,22 +13,22 @@ ghost use Rattle.world_run.specs.Runs.{IsPastWords};
 ghost use Rattle.world_run.specs.Demo.{EndsDemonstrating};
 ghost use Rattle.world_run.specs.Made.{EndsWriting, IsMade};
 ghost use Rattle.world_run.specs.Shown.{EndsShowing, IsOfTool};
-ghost use Rattle.world_run.specs.Replayed.{AllRuled, EndsReplaying};
+ghost use Rattle.world_replay.specs.Replayed.{AllRuled, EndsReplaying};
 ghost use Rattle.command_words.specs.Words.{AreCheck, AreDemo, AreGen, AreOfTool, AreReplay, AreShow};
 ghost use Rattle.command_words.specs.Words.{AsksFor, IsDemo, IsGen};
 ghost use Rattle.command_words.specs.declared.command.GenPart.{GenPart as Part};
-ghost use Rattle.world_run.specs.declared.status.Status.{Status as StatusView};
+ghost use Rattle.run_status.specs.declared.status.Status.{Status as StatusView};
 
 use crate::demo::run_in_memory;
 use crate::made::make_part;
-use crate::replayed::replay_journal;
 use crate::shown::show_tick;
-use crate::status::Status;
 use command_words::{Command, WordsFault, read_words};
 use player_run::{Refusal, admit};
+use run_status::Status;
 use std::alloc::{AllocError, Global};
 use upload_stream::most_module_bytes;
 use world_io::{Disk, ReadStop, Sink, Source, read_all, write_all};
+use world_replay::replay_journal;
 
 /// Runs a command that keeps nothing: `check MODULE`, `gen SEED ROOMS PART`, `demo SEED ROOMS TICKS`,
 /// `show JOURNAL TICK` or `replay JOURNAL`.

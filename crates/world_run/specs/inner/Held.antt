@@ -1,6 +1,6 @@
 -- Runs as they are held: by stored worlds. For private clauses; Runs and Ends say the same of worlds.
-use Rattle.std.specs.Prelude.{◌≡◌, ℕ, ◌<◌, ◌≤◌, ◌^◌, List, [], ◌∷◌, ◌++◌, length, map, Option, Some, IfSome}
-use Rattle.std.specs.Prelude.{false, slice_get}
+use Rattle.std.specs.Prelude.{◌≡◌, ℕ, ◌≤◌, ◌^◌, List, [], ◌∷◌, ◌++◌, length, map, Option, IfSome}
+use Rattle.std.specs.Prelude.{false}
 use Rattle.std.specs.List.{AllByRecursion, flat_map}
 use Rattle.std.specs.FinMap.{empty}
 use Rattle.std.specs.Io.KnownBytes.{Appends}
@@ -8,7 +8,7 @@ use Rattle.frame_log.specs.Frames.{IsLog}
 use Rattle.object_store.specs.Stored.{Stored}
 use Rattle.object_store.specs.declared.world.Room.{Room}
 use Rattle.intent_book.specs.declared.player_run.PlayerRun.{PlayerRun}
-use Rattle.world_rules.specs.Sound.{HaveSerials, serials_bound}
+use Rattle.world_rules.specs.Sound.{HaveSerials}
 use Rattle.world_io.specs.Moments.{Moment}
 use Rattle.world_io.specs.Told.{AppendsPrefix}
 use Rattle.upload_stream.specs.Streams.{Upload, uploads_at}
@@ -64,14 +64,6 @@ last_of before (step ∷ later) = last_of step.after later
 -- what a run prints: the opening line, then the lines of each tick
 abbrev pub output : Stored → List Step → List ℕ
 output first steps = start_line first ++ flat_map step_lines steps
-
--- The room of this index is the first that has used up its serials.
-pub record IsExhausted (world : Stored) (index : ℕ) : Type 0 where
-  pub room : Room
-  pub stands : slice_get world.rooms index ≡ Some room
-  pub above : serials_bound < room.table.next
-  pub first : (earlier : ℕ) (other : Room) → earlier < index → slice_get world.rooms earlier ≡ Some other
-      → other.table.next ≤ serials_bound
 
 -- ---- the journal
 

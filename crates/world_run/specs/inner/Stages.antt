@@ -8,8 +8,6 @@ use Rattle.world_form.specs.declared.fault.WorldFault.{WorldFault}
 use Rattle.world_form.specs.declared.fault.WorldFault.TheVariants as faults
 use Rattle.world_journal.specs.declared.fault.AtFault.{AtFault}
 use Rattle.world_journal.specs.declared.fault.AtFault.TheVariants as at_faults
-use Rattle.world_journal.specs.declared.fault.RecoverFault.{RecoverFault}
-use Rattle.world_journal.specs.declared.fault.RecoverFault.TheVariants as recover_faults
 use Rattle.world_run.specs.Runs.{AppendsPart}
 use Rattle.object_store.specs.Stored.{Stored}
 use Rattle.tick_journal.specs.declared.tick_record.TickRecord.{TickRecord}
@@ -17,8 +15,8 @@ use Rattle.world_io.specs.Moments.{Moment}
 use Rattle.world_journal.specs.Journals.{IsWholeJournal}
 use Rattle.world_run.specs.declared.kept.Kept.{Kept}
 use Rattle.world_run.specs.inner.Held.{Follow, IsKeptAt, Step, recorded_of, step_lines}
-use Rattle.world_run.specs.declared.status.Status.{Status}
-use Rattle.world_run.specs.declared.status.Status.TheVariants as statuses
+use Rattle.run_status.specs.declared.status.Status.{Status}
+use Rattle.run_status.specs.declared.status.Status.TheVariants as statuses
 
 -- ---- how far a run came, by its status
 
@@ -157,10 +155,3 @@ status_of_at (at_faults.NoSuchTick first last) = statuses.NoSuchTick first last
 status_of_at at_faults.DiskFault = statuses.DiskFault
 status_of_at (at_faults.NotAJournal at) = statuses.NotAJournal at
 status_of_at at_faults.Memory = statuses.Memory
-
--- the status where the frames of a journal are not read
-abbrev pub status_unread : RecoverFault → Status
-status_unread recover_faults.Empty = statuses.NoJournal
-status_unread recover_faults.DiskFault = statuses.DiskFault
-status_unread (recover_faults.NotAJournal at) = statuses.NotAJournal at
-status_unread recover_faults.Memory = statuses.Memory

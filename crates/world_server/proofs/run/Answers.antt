@@ -3,8 +3,8 @@ use Rattle.command_words.specs.Commands.{a_run}
 use Rattle.command_words.proofs.Tools.{none_of_tool}
 use Rattle.command_words.specs.declared.command.WordsFault.{WordsFault}
 use Rattle.command_words.specs.declared.command.WordsFault.TheVariants as faults
-use Rattle.world_run.specs.declared.status.Status.{Status}
-use Rattle.world_run.specs.declared.status.Status.TheVariants as statuses
+use Rattle.run_status.specs.declared.status.Status.{Status}
+use Rattle.run_status.specs.declared.status.Status.TheVariants as statuses
 use Rattle.world_server.proofs.run.Goals as goal
 
 -- A call that ends with `Usage` did not want memory.

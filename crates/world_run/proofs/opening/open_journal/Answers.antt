@@ -2,7 +2,8 @@ use Rattle.std.proofs.Common.{◌≡◌, ◌∙◌, inl, inr, ap, sym}
 use Rattle.tick_journal.specs.BaseForms.{world_as_read}
 use Rattle.tick_journal.specs.Contents.{base_content}
 use Rattle.tick_journal.proofs.BaseContents.{as_read_same}
-use Rattle.world_run.proofs.Opened.{kept_there, other_world, same_differ, some_other}
+use Rattle.world_replay.proofs.Equal.{same_differ}
+use Rattle.world_run.proofs.Opened.{kept_there, other_world, some_other}
 use Rattle.world_run.proofs.opening.open_journal.Goals as goal
 
 pub returns-in-Ok-clause-other : goal.returns-in-Ok-clause-other

@@ -2,7 +2,7 @@ use Rattle.std.proofs.Common.{◌≡◌, ◌∙◌, ap, sym, subst, List, ℕ, O
 use Rattle.std.specs.Prelude.{slice_get}
 use Rattle.tick_journal.specs.BaseForms.{SpellsBase, world_as_read}
 use Rattle.tick_journal.specs.Contents.{base_content}
-use Rattle.world_run.specs.declared.status.Status.TheVariants.{OtherWorld}
+use Rattle.run_status.specs.declared.status.Status.TheVariants.{OtherWorld}
 use Rattle.world_run.proofs.Opened.{differ_as}
 use Rattle.world_run.proofs.opening.same_base.Goals as goal
 

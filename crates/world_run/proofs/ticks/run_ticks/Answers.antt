@@ -1,6 +1,6 @@
 use Rattle.std.proofs.Common.{◌≡◌, ◌+◌, ℕ, List, Option, arith, ap, refl, subst, sym, ◌∙◌}
 use Rattle.hosted_tick.specs.Hosting.{Held, IsHosted}
-use Rattle.world_run.specs.inner.Held.{IsExhausted}
+use Rattle.world_replay.specs.Serials.{HasRunOut}
 use Rattle.world_run.specs.inner.Stages.{Continues, Grows}
 use Rattle.upload_stream.specs.Streams.{uploads_at}
 use Rattle.world_run.proofs.Left.{later_left, step_same}
@@ -36,7 +36,7 @@ returns-in-Err-clause-exhausted g c = λ index is.
     let grows = subst (λ (sink : Option (List ℕ)). Grows (g.O.Sink.written c.args.out.now) sink c.args.stream c.args.first.hosted along.steps) (sym end.2) along.grows in
     let more = continues _ _ _ _ c.args.first c.loop-turn.kept along.steps along.keeps in
     let kept = subst (λ (seen : Option (List ℕ)). Continues c.args.first (g.D.Disk.seen c.args.disk.now) (g.D.Disk.moments c.args.disk.now) seen along.steps) (sym end.1) more in
-    (along.steps, omega (arith, along.counted), grows, kept, subst (λ (held : Held). IsExhausted held.world index) (sym along.ended) end.0)
+    (along.steps, omega (arith, along.counted), grows, kept, subst (λ (held : Held). HasRunOut held.world index) (sym along.ended) end.0)
 
 pub returns-in-Err-clause-memory : goal.returns-in-Err-clause-memory
 returns-in-Err-clause-memory g c = λ is.

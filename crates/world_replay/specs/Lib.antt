@@ -1,0 +1,5 @@
+pub mod Differing
+pub mod Listed
+pub mod Replayed
+pub mod Serials
+pub mod inner
