@@ -5,6 +5,8 @@ by crate and kind of work: the proof of the crate, that of its tests, its must-f
 Run it in the repository's top folder. Only what the run proves anew takes time: `bench/gate.py --anew` measures
 the gate from nothing. The times are read from /proc four times a second, so what a process does in its last
 quarter of a second is lost. Where it is ended early, by SIGTERM or an interrupt, it prints what was used so far.
+With RT_JOBS=N in the environment there are N lanes with one check each; else a check takes up to four processors while
+nothing else can be proved, which costs more of their time.
 """
 
 import collections
