@@ -2,7 +2,7 @@
 use Rattle.std.specs.Prelude.{◌≡◌, ℕ, ◌-◌, ◌^◌, min, true, List, Option}
 use Rattle.std.specs.Option.{is_some}
 use Rattle.game_tables.specs.declared.kind.Kind.{Kind}
-use Rattle.object_store.specs.declared.object.Object.{Object}
+use Rattle.room_table.specs.declared.object.Object.{Object}
 use Rattle.world_rules.specs.Spawns.{held_by}
 use Rattle.world_rules.specs.Sites as sites
 use Rattle.world_rules.specs.Sites.{count_of, planned_kind}

@@ -1,7 +1,7 @@
 // The checks of an action.
 ghost use Rattle.std.specs.Prelude.{◌≡◌, ◌==◌, [], ◌∷◌, option_map, Some, not};
 ghost use Rattle.std.specs.Option.{unwrap_or};
-ghost use Rattle.object_store.specs.Controllers.{is_anothers as is_anothers_room};
+ghost use Rattle.room_table.specs.Controllers.{is_anothers as is_anothers_room};
 ghost use Rattle.world_rules.specs.World.{shown};
 ghost use Rattle.world_rules.specs.Checks.{all_hold, amount_checks, is_amount_of as amount_of};
 ghost use Rattle.world_rules.specs.Checks.{are_near as near, checks, controller_around as around_controller};

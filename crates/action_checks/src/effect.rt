@@ -1,7 +1,7 @@
 // The checks of an action in a rule.
 ghost use Rattle.std.specs.Prelude.{◌≡◌, List, nat_lt, option_map};
 ghost use Rattle.room_terrain.specs.declared.terrain.Ground.{Ground};
-ghost use Rattle.object_store.specs.Tables.{find_object};
+ghost use Rattle.room_table.specs.Tables.{find_object};
 ghost use Rattle.world_rules.specs.World.{shown};
 ghost use Rattle.world_rules.specs.RoomParts.{table_part};
 ghost use Rattle.world_rules.specs.Checks.{acting, both_of, holds_of, may_take_effect, parties, standing_at};

@@ -7,9 +7,9 @@ ghost use Rattle.game_tables.specs.Kinds.{needs_owned_room as needs_owned, obstr
 ghost use Rattle.game_tables.specs.Levels.{allowed as allowed_counts};
 ghost use Rattle.game_tables.specs.Numbers.{kind_number};
 ghost use Rattle.game_tables.specs.Limits.{most_sites as sites_bound};
-ghost use Rattle.object_store.specs.Controllers.{controller_among, is_anothers as is_anothers_room};
-ghost use Rattle.object_store.specs.Stores.{site_kinds};
-ghost use Rattle.object_store.specs.declared.object.Object.{Object};
+ghost use Rattle.room_table.specs.Controllers.{controller_among, is_anothers as is_anothers_room};
+ghost use Rattle.room_table.specs.Stores.{site_kinds};
+ghost use Rattle.room_table.specs.declared.object.Object.{Object};
 ghost use Rattle.world_rules.specs.World.{shown};
 ghost use Rattle.world_rules.specs.Checks.{all_hold, first_failing};
 ghost use Rattle.world_rules.specs.Sites.{count_of, counted_number, has_creep, has_place, is_free_tile};

@@ -6,10 +6,10 @@ use Rattle.std.proofs.lemmas.Bool.{cases_eq, eq-eqb, ne_eqb}
 use Rattle.std.proofs.lemmas.List.Sums.{sum_by-le-sum_by}
 use Rattle.std.proofs.lemmas.Option.{same_Some, slice_get-get_or}
 use Rattle.rule_check.proofs.Minima.{all_at}
-use Rattle.object_store.specs.declared.object.Object.{Object}
+use Rattle.room_table.specs.declared.object.Object.{Object}
 use Rattle.object_store.specs.declared.world.Room.{Room}
 use Rattle.object_store.specs.Stored.{Stored}
-use Rattle.object_store.specs.Tables.{IsRising, Table}
+use Rattle.room_table.specs.Tables.{IsRising, Table}
 use Rattle.rule_check.specs.Kept.{KeepsObjectRules}
 use Rattle.changed_rules.specs.declared.census.Census.{Census}
 use Rattle.changed_rules.specs.declared.counted.Counted.{Counted}

@@ -6,10 +6,10 @@ use Rattle.std.proofs.lemmas.Bool.{MatchBool-at_true, eq-eqb, eqb-true, or_left,
 use Rattle.std.proofs.lemmas.List.{length-map}
 use Rattle.std.proofs.lemmas.Option.{same_Some}
 use Rattle.object_store.specs.declared.account.Account.{Account}
-use Rattle.object_store.specs.declared.object.Object.{Object}
+use Rattle.room_table.specs.declared.object.Object.{Object}
 use Rattle.object_store.specs.declared.world.Room.{Room}
 use Rattle.object_store.specs.Stored.{Stored, HasAccount, HaveRisingTables}
-use Rattle.object_store.specs.Tables.{Table}
+use Rattle.room_table.specs.Tables.{Table}
 use Rattle.rule_check.specs.Kept.{KeepsObjectRules}
 use Rattle.rule_check.specs.inner.Checks.{IsListed}
 use Rattle.rule_check.proofs.Found.{mapped_at, mapped_back}

@@ -9,11 +9,11 @@ use Rattle.game_tables.specs.declared.kind.Kind.TheVariants as kinds
 use Rattle.game_tables.specs.Kinds.{is_controller, is_site, may_have_owner}
 use Rattle.game_tables.specs.Limits.{most_sites}
 use Rattle.object_store.specs.declared.account.Account.{Account}
-use Rattle.object_store.specs.declared.object.Object.{Object}
+use Rattle.room_table.specs.declared.object.Object.{Object}
 use Rattle.object_store.specs.declared.world.Room.{Room}
 use Rattle.object_store.specs.Stored.{Stored, HasAccount, HaveRisingTables, find_account}
-use Rattle.object_store.specs.Tables.{IsOnTile, IsRising}
-use Rattle.object_store.proofs.Rising.{non_decreasing}
+use Rattle.room_table.specs.Tables.{IsOnTile, IsRising}
+use Rattle.room_table.proofs.Rising.{non_decreasing}
 use Rattle.world_rules.specs.declared.rule.Rule.{Rule}
 use Rattle.world_rules.specs.declared.rule.Rule.TheVariants as rules
 use Rattle.world_rules.specs.Rules.{Broken, IsInRangeAs, IsOnWrongTile, IsSite}

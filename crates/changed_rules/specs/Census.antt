@@ -5,10 +5,10 @@ use Rattle.std.specs.List.{AllByRecursion, find}
 use Rattle.game_tables.specs.Kinds.{is_controller, may_have_owner}
 use Rattle.room_terrain.specs.declared.terrain.Ground.{Ground}
 use Rattle.object_store.specs.declared.account.Account.{Account}
-use Rattle.object_store.specs.declared.object.Object.{Object}
+use Rattle.room_table.specs.declared.object.Object.{Object}
 use Rattle.object_store.specs.declared.world.Room.{Room}
 use Rattle.object_store.specs.Stored.{Stored, HasAccount, HaveRisingTables}
-use Rattle.object_store.specs.Tables.{Table, IsOnTile, IsRising}
+use Rattle.room_table.specs.Tables.{Table, IsOnTile, IsRising}
 use Rattle.rule_check.specs.Kept.{KeepsRoomRules}
 use Rattle.changed_rules.specs.declared.census.Census.{Census}
 use Rattle.changed_rules.specs.declared.counted.Counted.{Counted}

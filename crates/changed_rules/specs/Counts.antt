@@ -5,7 +5,7 @@ use Rattle.std.specs.BTreeMap.{get}
 use Rattle.std.specs.Ordering.{nat_cmp}
 use Rattle.game_tables.specs.Kinds.{is_site}
 use Rattle.game_tables.specs.Limits.{most_sites}
-use Rattle.object_store.specs.declared.object.Object.{Object}
+use Rattle.room_table.specs.declared.object.Object.{Object}
 use Rattle.object_store.specs.declared.world.Room.{Room}
 use Rattle.changed_rules.specs.declared.counted.Counted.{Counted}
 use Rattle.changed_rules.specs.declared.counted.Counted.TheVariants.{Ids, SiteOwners}

@@ -4,7 +4,7 @@ ghost use Rattle.std.specs.Prelude.{length, slice_get};
 ghost use Rattle.std.specs.List.{AllByRecursion, IsDistinct};
 ghost use Rattle.object_store.specs.declared.world.Room.{Room};
 ghost use Rattle.object_store.specs.Stored.{Stored};
-ghost use Rattle.object_store.specs.Tables.{IsRising};
+ghost use Rattle.room_table.specs.Tables.{IsRising};
 ghost use Rattle.rule_check.specs.Kept.{KeepsObjectRules};
 ghost use Rattle.changed_rules.specs.Census.{ArePlaced, HasLeft, IsCensus, IsCensusApart, IsChanged};
 ghost use Rattle.changed_rules.specs.Census.{KeepsElsewhere, KeepsSerials, tally_of};

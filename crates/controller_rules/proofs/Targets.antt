@@ -2,9 +2,9 @@
 use Rattle.std.proofs.Common.{◌≡◌, ℕ, ◌+◌, ◌-◌, ◌*◌, ◌≤◌, ◌==◌, max, min, nat_le, if◌then◌else◌, true, false, List, Option, Some, None, refl, sym, ap, subst, ◌∙◌}
 use Rattle.game_tables.specs.Levels.{total_for_next}
 use Rattle.room_terrain.specs.declared.terrain.Ground.{Ground}
-use Rattle.object_store.specs.declared.object.Object.{Object}
-use Rattle.object_store.specs.Tables.{Table, HasId, IsOnTile}
-use Rattle.object_store.specs.Tallies.{sum_with}
+use Rattle.room_table.specs.declared.object.Object.{Object}
+use Rattle.room_table.specs.Tables.{Table, HasId, IsOnTile}
+use Rattle.room_table.specs.Tallies.{sum_with}
 use Rattle.world_rules.specs.Claims.{controller_hurt, full_time, live_claim, progressed, refreshed, risen, worked_on}
 use Rattle.world_rules.specs.RoomParts.{table_part}
 use Rattle.world_rules.specs.Changes.{with_object as with_in_part}

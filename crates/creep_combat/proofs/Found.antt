@@ -3,11 +3,11 @@ use Rattle.std.proofs.Common.{◌≡◌, true, false, if◌then◌else◌, List,
 use Rattle.std.specs.FinMap.{get}
 use Rattle.room_terrain.specs.declared.terrain.Ground.{Ground}
 use Rattle.game_tables.specs.declared.action.Action.{Action}
-use Rattle.object_store.specs.declared.object.Object.{Object}
+use Rattle.room_table.specs.declared.object.Object.{Object}
 use Rattle.game_tables.specs.Kinds.{is_creep}
 use Rattle.game_tables.specs.declared.kind.Kind.{Kind}
 use Rattle.game_tables.specs.declared.kind.Kind.TheVariants.{Creep}
-use Rattle.object_store.specs.Tables.{Table, find_object}
+use Rattle.room_table.specs.Tables.{Table, find_object}
 use Rattle.intent_book.specs.declared.intent.Intent.{Intent}
 use Rattle.world_rules.specs.RoomParts.{RoomPart, table_part}
 use Rattle.world_rules.specs.Fights.{strength, struck_back}

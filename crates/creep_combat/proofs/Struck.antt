@@ -3,8 +3,8 @@ use Rattle.std.proofs.Common.{◌≡◌, ℕ, ◌+◌, ◌-◌, ◌<◌, ◌≤�
 use Rattle.std.specs.List.{AllByRecursion, filter, find}
 use Rattle.std.proofs.lemmas.Bool.{eq-eqb, eqb-true, ne_eqb, cases_eq, cases_Bool, cond-false, lt-ltb, le-ltb, le-leb, and_parts}
 use Rattle.std.proofs.lemmas.List.Sums.{sum_by-cons}
-use Rattle.object_store.specs.declared.object.Object.{Object}
-use Rattle.object_store.specs.Tables.{IsRising, HasNoId, find_object, first_on_from, is_on}
+use Rattle.room_table.specs.declared.object.Object.{Object}
+use Rattle.room_table.specs.Tables.{IsRising, HasNoId, find_object, first_on_from, is_on}
 use Rattle.world_rules.specs.Fights.{is_struck, mass_blow, range_between}
 use Rattle.world_rules.specs.Tick.{total_for}
 use Rattle.world_rules.proofs.Checked.{and_right}

@@ -2,8 +2,8 @@
 use Rattle.std.proofs.Common.{◌≡◌, ℕ, ◌+◌, ◌<◌, ◌≤◌, ◌&&◌, ◌^◌, ◌==◌, nat_le, nat_lt, Some, None, sym, ap, ◌∙◌, arith}
 use Rattle.std.specs.List.{AllByRecursion}
 use Rattle.std.proofs.lemmas.Bool.{lt-ltb}
-use Rattle.object_store.specs.declared.object.Object.{Object}
-use Rattle.object_store.specs.Tables.{Table, IsRising, HasId, find_object, first_on_from, is_on}
+use Rattle.room_table.specs.declared.object.Object.{Object}
+use Rattle.room_table.specs.Tables.{Table, IsRising, HasId, find_object, first_on_from, is_on}
 use Rattle.world_rules.proofs.TableParts.{all_found, found_by_id}
 use Rattle.room_rules.specs.inner.Damage.{IsDamaged, to_one}
 use Rattle.creep_combat.specs.inner.Damage.{damage_where, mass_damage}

@@ -4,7 +4,7 @@ ghost use Rattle.std.specs.List.{AllByRecursion};
 ghost use Rattle.game_tables.specs.Bodies.{live_count};
 ghost use Rattle.game_tables.specs.declared.kind.Part.TheVariants.{RangedAttack};
 ghost use Rattle.room_terrain.specs.declared.terrain.Ground.{Ground};
-ghost use Rattle.object_store.specs.Tables.{HasId, IsOnTile, is_on};
+ghost use Rattle.room_table.specs.Tables.{HasId, IsOnTile, is_on};
 ghost use Rattle.world_rules.specs.RoomParts.{table_part};
 ghost use Rattle.world_rules.specs.Fights.{is_struck, mass_attacked, mass_strength, range_between};
 ghost use Rattle.room_rules.specs.Calls.{IsHarmedBy, IsReady, Keeps};

@@ -1,8 +1,8 @@
 -- What a hand-over between two objects makes of a room's part.
 use Rattle.std.proofs.Common.{◌≡◌, ℕ, ◌==◌, List, Some, ap, ◌∙◌}
 use Rattle.room_terrain.specs.declared.terrain.Ground.{Ground}
-use Rattle.object_store.specs.declared.object.Object.{Object}
-use Rattle.object_store.specs.Tables.{Table, IsOnTile, find_object}
+use Rattle.room_table.specs.declared.object.Object.{Object}
+use Rattle.room_table.specs.Tables.{Table, IsOnTile, find_object}
 use Rattle.room_rules.specs.Calls.{IsReady, Keeps}
 use Rattle.room_rules.proofs.Calls.{keeps_itself, set_in}
 use Rattle.world_rules.specs.RoomParts.{table_part}

@@ -1,8 +1,8 @@
 -- What an entry to drop makes of a room's table and of the room's part.
 use Rattle.std.proofs.Common.{◌≡◌, ◌-◌, Bool, true, false, if◌then◌else◌, List, Option, Some, None, sym, ap, ◌∙◌}
 use Rattle.room_terrain.specs.declared.terrain.Ground.{Ground}
-use Rattle.object_store.specs.declared.object.Object.{Object}
-use Rattle.object_store.specs.Tables.{Table, find_object, with_object}
+use Rattle.room_table.specs.declared.object.Object.{Object}
+use Rattle.room_table.specs.Tables.{Table, find_object, with_object}
 use Rattle.intent_book.specs.declared.intent.Intent.{Intent}
 use Rattle.world_rules.specs.RoomParts.{RoomPart, table_part}
 use Rattle.game_tables.specs.declared.action.Action.TheVariants.{DropLoad}

@@ -4,8 +4,8 @@ use Rattle.std.proofs.lemmas.Bool.{cases_eq, eq-eqb, ne_eqb}
 use Rattle.game_tables.specs.declared.action.Action.{Action}
 use Rattle.game_tables.specs.declared.action.Action.TheVariants.{Pickup}
 use Rattle.game_tables.specs.Actions.{is_target}
-use Rattle.object_store.specs.declared.object.Object.{Object}
-use Rattle.object_store.specs.Tables.{Table, HasId, IsOnTile, find_object, with_object, without}
+use Rattle.room_table.specs.declared.object.Object.{Object}
+use Rattle.room_table.specs.Tables.{Table, HasId, IsOnTile, find_object, with_object, without}
 use Rattle.intent_book.specs.declared.intent.Intent.{Intent}
 use Rattle.room_rules.specs.Calls.{Keeps}
 use Rattle.room_rules.proofs.Calls.{set_in}

@@ -1,7 +1,7 @@
 // How much energy goes from one object to another.
 ghost use Rattle.std.specs.Prelude.{◌≡◌, ◌+◌, ◌-◌, ◌^◌, ◌<◌, List};
 ghost use Rattle.room_terrain.specs.declared.terrain.Ground.{Ground};
-ghost use Rattle.object_store.specs.Stores.{free_room};
+ghost use Rattle.room_table.specs.Stores.{free_room};
 ghost use Rattle.world_rules.specs.RoomParts.{table_part, controller_of};
 ghost use Rattle.world_rules.specs.Drops.{wanted_of};
 

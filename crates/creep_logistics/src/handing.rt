@@ -1,7 +1,7 @@
 // Energy that creeps hand over and take.
 ghost use Rattle.std.specs.Prelude.{◌≡◌, ◌+◌, ◌^◌, ◌<◌, ◌≤◌, List, Some};
 ghost use Rattle.room_terrain.specs.declared.terrain.Ground.{Ground};
-ghost use Rattle.object_store.specs.Tables.{find_object};
+ghost use Rattle.room_table.specs.Tables.{find_object};
 ghost use Rattle.world_rules.specs.RoomParts.{table_part};
 ghost use Rattle.world_rules.specs.Loads.{handed_over, transferred, withdrawn};
 ghost use Rattle.room_rules.specs.Calls.{IsReady, Keeps, KeepsTallies};

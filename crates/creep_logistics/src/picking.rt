@@ -1,7 +1,7 @@
 // Piles that creeps pick up.
 ghost use Rattle.std.specs.Prelude.{◌≡◌, ◌≢◌, ℕ, ◌≤◌, List, Some};
 ghost use Rattle.room_terrain.specs.declared.terrain.Ground.{Ground};
-ghost use Rattle.object_store.specs.Tables.{HasId, find_object};
+ghost use Rattle.room_table.specs.Tables.{HasId, find_object};
 ghost use Rattle.world_rules.specs.RoomParts.{table_part};
 ghost use Rattle.world_rules.specs.Loads.{picked_up, taken_from};
 ghost use Rattle.room_rules.specs.Calls.{IsReady, Keeps, KeepsTallies};

@@ -7,7 +7,7 @@ use Rattle.game_tables.specs.Kinds.{is_creep}
 use Rattle.creep_move.specs.declared.candidate.Step.{Step}
 use Rattle.creep_move.specs.inner.Arrivals.{ComesFrom, IsStepOf, as_mover}
 use Rattle.game_tables.specs.declared.action.Action.TheVariants.{Move}
-use Rattle.object_store.specs.declared.object.Object.{Object}
+use Rattle.room_table.specs.declared.object.Object.{Object}
 use Rattle.intent_book.specs.declared.intent.Intent.{Intent}
 use Rattle.world_rules.specs.RoomParts.{RoomPart}
 use Rattle.action_checks.proofs.Towards.{inside_some}

@@ -5,9 +5,9 @@ use Rattle.std.specs.List.{Contains, filter}
 use Rattle.std.proofs.lemmas.Bool.{eqb-true, eq-eqb, and_from, and_parts, both_ways, false_from_ne_true, not-true, not_from_false}
 use Rattle.game_tables.specs.Kinds.{is_creep}
 use Rattle.room_terrain.specs.Tiles.{tile}
-use Rattle.object_store.specs.declared.object.Object.{Object}
+use Rattle.room_table.specs.declared.object.Object.{Object}
 use Rattle.room_terrain.specs.declared.terrain.Ground.{Ground}
-use Rattle.object_store.specs.Tables.{Table, IsOnTile, IsRising}
+use Rattle.room_table.specs.Tables.{Table, IsOnTile, IsRising}
 use Rattle.room_rules.specs.Calls.{AreActorsOnce, IsMovable}
 use Rattle.world_rules.proofs.TableParts.{get_table_part, has_the_id}
 use Rattle.intent_book.specs.declared.intent.Intent.{Intent}

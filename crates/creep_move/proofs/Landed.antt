@@ -9,8 +9,8 @@ use Rattle.game_tables.specs.declared.kind.Kind.{Kind}
 use Rattle.game_tables.specs.declared.kind.Kind.TheVariants.{Road}
 use Rattle.room_terrain.specs.Tiles.{tile}
 use Rattle.room_terrain.specs.declared.terrain.Ground.{Ground}
-use Rattle.object_store.specs.declared.object.Object.{Object}
-use Rattle.object_store.specs.Tables.{IsOnTile, IsRising, find_object, first_on, with_object}
+use Rattle.room_table.specs.declared.object.Object.{Object}
+use Rattle.room_table.specs.Tables.{IsOnTile, IsRising, find_object, first_on, with_object}
 use Rattle.world_rules.specs.Moves.{pace, weight}
 use Rattle.world_rules.proofs.TableParts.{found_by_id, has_the_id}
 use Rattle.room_rules.specs.Calls.{AreApart}

@@ -12,8 +12,8 @@ use Rattle.game_tables.specs.declared.action.Action.TheVariants.{Move}
 use Rattle.game_tables.specs.declared.kind.Kind.TheVariants.{Road}
 use Rattle.room_terrain.specs.Tiles.{tile}
 use Rattle.room_terrain.specs.declared.terrain.Ground.{Ground}
-use Rattle.object_store.specs.declared.object.Object.{Object}
-use Rattle.object_store.specs.Tables.{Table, IsRising, find_object, first_on}
+use Rattle.room_table.specs.declared.object.Object.{Object}
+use Rattle.room_table.specs.Tables.{Table, IsRising, find_object, first_on}
 use Rattle.intent_book.specs.declared.intent.Intent.{Intent}
 use Rattle.world_rules.specs.RoomParts.{RoomPart, table_part}
 use Rattle.world_rules.specs.Steps.{each}

@@ -5,8 +5,8 @@ use Rattle.std.proofs.lemmas.Bool.{eq-eqb, ne_eqb, true≢false}
 use Rattle.game_tables.specs.Kinds.{clash, is_creep}
 use Rattle.game_tables.specs.declared.kind.Kind.{Kind}
 use Rattle.room_terrain.specs.Tiles.{tile}
-use Rattle.object_store.specs.declared.object.Object.{Object}
-use Rattle.object_store.specs.Tables.{IsRising, find_object}
+use Rattle.room_table.specs.declared.object.Object.{Object}
+use Rattle.room_table.specs.Tables.{IsRising, find_object}
 use Rattle.room_rules.specs.Calls.{AreApart}
 use Rattle.room_commutes.proofs.Members.{Has, all_of_has, pairs_first, pairs_later}
 

@@ -5,7 +5,7 @@ use Rattle.std.proofs.lemmas.List.{get_or_past, map-append, append_assoc}
 use Rattle.std.proofs.lemmas.List.Elements.{Contains-append_left, Contains-push, Contains-push_cases}
 use Rattle.game_tables.specs.Kinds.{is_creep}
 use Rattle.room_terrain.specs.Tiles.{tile}
-use Rattle.object_store.specs.declared.object.Object.{Object}
+use Rattle.room_table.specs.declared.object.Object.{Object}
 use Rattle.creep_move.specs.inner.Walk.{IsStoodOn}
 
 -- ---- the tiles with a creep

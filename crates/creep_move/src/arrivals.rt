@@ -2,7 +2,7 @@
 ghost use Rattle.std.specs.Prelude.{◌≡◌, ◌<◌, ℕ, if◌then◌else◌, length, set, slice_index};
 ghost use Rattle.std.specs.List.{AllByRecursion};
 ghost use Rattle.room_terrain.specs.Tiles.{tile};
-ghost use Rattle.object_store.specs.Tables.{IsOnTile};
+ghost use Rattle.room_table.specs.Tables.{IsOnTile};
 ghost use Rattle.world_rules.specs.RoomParts.{table_part};
 ghost use Rattle.creep_move.specs.inner.Arrivals.{Arrives, leads};
 

@@ -2,7 +2,7 @@
 ghost use Rattle.std.specs.Prelude.{◌≡◌, ◌<◌, Some, IfSome, option_map};
 ghost use Rattle.std.specs.List.{AllByRecursion};
 ghost use Rattle.room_terrain.specs.Tiles.{tile};
-ghost use Rattle.object_store.specs.Tables.{IsOnTile};
+ghost use Rattle.room_table.specs.Tables.{IsOnTile};
 ghost use Rattle.world_rules.specs.RoomParts.{table_part};
 ghost use Rattle.world_rules.specs.Moves.{mover_of, mover_towards};
 ghost use Rattle.creep_move.specs.inner.Arrivals.{as_mover, ComesFrom, IsStepOf};

@@ -1,8 +1,8 @@
 // What a creep's step does to the room.
 ghost use Rattle.std.specs.Prelude.{◌≡◌, ◌<◌, ◌≤◌, Some, length};
 ghost use Rattle.std.specs.List.{AllByRecursion, count_by};
-ghost use Rattle.object_store.specs.declared.object.Object.{Object};
-ghost use Rattle.object_store.specs.Tables.{HasId, IsOnTile, find_object, with_object};
+ghost use Rattle.room_table.specs.declared.object.Object.{Object};
+ghost use Rattle.room_table.specs.Tables.{HasId, IsOnTile, find_object, with_object};
 ghost use Rattle.world_rules.specs.Moves.{pace, weighs, weight};
 ghost use Rattle.creep_move.specs.inner.Landing.{IsGoer, IsLanded, tired_on, worn_by};
 

@@ -2,7 +2,7 @@
 ghost use Rattle.std.specs.Prelude.{◌≡◌, ◌<◌, ℕ, length, slice_index};
 ghost use Rattle.std.specs.FinMap.{values};
 ghost use Rattle.std.specs.List.{AllByRecursion};
-ghost use Rattle.object_store.specs.Tables.{IsOnTile, IsRising};
+ghost use Rattle.room_table.specs.Tables.{IsOnTile, IsRising};
 ghost use Rattle.world_rules.specs.RoomParts.{table_part};
 ghost use Rattle.world_rules.specs.Movement.{movers};
 ghost use Rattle.world_rules.specs.Moves.{candidates, moved};

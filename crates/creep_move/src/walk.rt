@@ -1,7 +1,7 @@
 // The tables by tile that the creeps which stay are found with.
 ghost use Rattle.std.specs.Prelude.{◌≡◌, ◌≢◌, ℕ, ◌<◌, ◌↔◌, ◌⊎◌, length, slice_index};
 ghost use Rattle.std.specs.List.{AllByRecursion};
-ghost use Rattle.object_store.specs.Tables.{IsOnTile};
+ghost use Rattle.room_table.specs.Tables.{IsOnTile};
 ghost use Rattle.creep_move.specs.inner.Walk.{IsStoodOn, IsHeld, IsFree, IsLeft, Stuck, IsClosed};
 
 use crate::candidate::tile_number;

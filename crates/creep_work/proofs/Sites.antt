@@ -3,8 +3,8 @@ use Rattle.std.proofs.Common.{◌≡◌, ℕ, ◌+◌, ◌*◌, ◌^◌, ◌<◌
 use Rattle.std.proofs.lemmas.Bool.{lt-ltb, le-ltb}
 use Rattle.room_terrain.specs.declared.terrain.Ground.{Ground}
 use Rattle.game_tables.specs.declared.kind.Kind.{Kind}
-use Rattle.object_store.specs.declared.object.Object.{Object}
-use Rattle.object_store.specs.Tables.{Table, HasId, with_new, removed}
+use Rattle.room_table.specs.declared.object.Object.{Object}
+use Rattle.room_table.specs.Tables.{Table, HasId, with_new, removed}
 use Rattle.world_rules.specs.RoomParts.{RoomPart, table_part}
 use Rattle.world_rules.specs.Changes.{with_object as with_in_part, with_new as new_in_part, without as without_in_part}
 use Rattle.world_rules.specs.Work.{advanced, building_on, total_of}

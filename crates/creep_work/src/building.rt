@@ -1,7 +1,7 @@
 // What creeps build.
 ghost use Rattle.std.specs.Prelude.{◌≡◌, ◌+◌, ◌^◌, ◌<◌, ◌≤◌, List};
 ghost use Rattle.room_terrain.specs.declared.terrain.Ground.{Ground};
-ghost use Rattle.object_store.specs.Tables.{HasId, IsOnTile};
+ghost use Rattle.room_table.specs.Tables.{HasId, IsOnTile};
 ghost use Rattle.world_rules.specs.RoomParts.{table_part};
 ghost use Rattle.world_rules.specs.Work.{advanced, building_on, built, total_of, work_put};
 ghost use Rattle.room_rules.specs.Calls.{IsReady, Keeps, KeepsTallies};

@@ -1,7 +1,7 @@
 // What creeps harvest of sources.
 ghost use Rattle.std.specs.Prelude.{◌≡◌, ◌+◌, ◌*◌, ◌^◌, ◌<◌, ◌≤◌, min, List};
 ghost use Rattle.room_terrain.specs.declared.terrain.Ground.{Ground};
-ghost use Rattle.object_store.specs.Stores.{free_room};
+ghost use Rattle.room_table.specs.Stores.{free_room};
 ghost use Rattle.world_rules.specs.RoomParts.{controller_of, table_part};
 ghost use Rattle.world_rules.specs.Work.{harvested, live_work};
 ghost use Rattle.room_rules.specs.Calls.{IsReady, Keeps, KeepsTallies};

@@ -2,7 +2,8 @@
 use std::alloc::{AllocError, Global};
 use std::test::Fail;
 use world_io::{Disk, Failed, MemoryDisk, MemorySink, MemorySource};
-use world_run::{Refusal, Status, run_alone, tool_main};
+use world_run::run_alone;
+use world_tools::{Refusal, Status, tool_main};
 
 // The shortest module.
 const OPENING: &[u8] = b"\x00asm\x01\x00\x00\x00";

@@ -6,10 +6,10 @@ use Rattle.std.specs.FinMap.{get, insert, get-insert, same_map, nat_cmp-IsAntisy
 use Rattle.std.proofs.lemmas.Bool.{eqb-true, eqb-false, and_parts, and_from, not_from_false, both_ways}
 use Rattle.game_tables.specs.declared.kind.Kind.TheVariants.{Creep}
 use Rattle.room_terrain.specs.Geometry.{Mirrors}
-use Rattle.object_store.specs.declared.object.Object.{Object}
+use Rattle.room_table.specs.declared.object.Object.{Object}
 use Rattle.object_store.specs.declared.world.Room.{Room}
 use Rattle.object_store.specs.Stored.{Stored, HaveRisingTables, IsRoomNamed}
-use Rattle.object_store.specs.Tables.{IsRising, IsOnTile, find_object, first_on}
+use Rattle.room_table.specs.Tables.{IsRising, IsOnTile, find_object, first_on}
 use Rattle.world_rules.specs.World.{Placed, Frame, World, listed_room, world_of}
 use Rattle.world_rules.specs.Crossings.{Place, NamedTile, mirrored, place_of, beyond, is_taken, is_open_in, may_enter, with_place, with_object_on, crossed_to, crossed_by, room_named}
 use Rattle.world_rules.proofs.Lifting.{frame_stored}

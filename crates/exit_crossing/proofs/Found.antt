@@ -5,10 +5,10 @@ use Rattle.std.specs.Ordering.{nat_cmp}
 use Rattle.std.specs.Cmp.{nat_cmp_total, unsigned_tied}
 use Rattle.std.specs.FinMap.{find, get, get-from_entries}
 use Rattle.std.proofs.lemmas.Bool.{eq-eqb, eqb-true, eqb-false, ne_eqb}
-use Rattle.object_store.specs.declared.object.Object.{Object}
+use Rattle.room_table.specs.declared.object.Object.{Object}
 use Rattle.object_store.specs.declared.world.Room.{Room}
 use Rattle.object_store.specs.Stored.{Stored}
-use Rattle.object_store.specs.Tables.{find_object}
+use Rattle.room_table.specs.Tables.{find_object}
 use Rattle.world_rules.specs.World.{Placed, placed_from, listed_room, world_of}
 use Rattle.world_rules.proofs.Keys.{find_append}
 use Rattle.world_rules.proofs.Rooms.{tagged}

@@ -4,10 +4,10 @@ use Rattle.std.specs.List.{AllByRecursion}
 use Rattle.std.specs.Ordering.{nat_cmp, eq_by_cmp}
 use Rattle.std.specs.Cmp.{unsigned_tied}
 use Rattle.std.proofs.lemmas.Bool.{eq-eqb, eqb-true, eqb-false, ne_eqb}
-use Rattle.object_store.specs.declared.object.Object.{Object}
+use Rattle.room_table.specs.declared.object.Object.{Object}
 use Rattle.object_store.specs.declared.world.Room.{Room}
 use Rattle.object_store.specs.Stored.{HaveRisingTables}
-use Rattle.object_store.specs.Tables.{IsRising, IsOnTile, find_object, HasId}
+use Rattle.room_table.specs.Tables.{IsRising, IsOnTile, find_object, HasId}
 use Rattle.world_rules.proofs.TableParts.{tiles_new, tiles_filter}
 use Rattle.room_rules.specs.Crossed.{left_by, entered_by}
 use Rattle.exit_crossing.specs.Crossing.{AreIdsApart}

@@ -1,7 +1,7 @@
 -- What holds where a creep goes to a tile of another room.
 use Rattle.std.proofs.Common.{◌≡◌, List, Some, None, refl, sym, ap, ◌∙◌, option_map, slice_get}
 use Rattle.object_store.specs.declared.world.Room.{Room}
-use Rattle.object_store.specs.Tables.{find_object, HasNoId, IsOnTile}
+use Rattle.room_table.specs.Tables.{find_object, HasNoId, IsOnTile}
 use Rattle.world_rules.proofs.TableParts.{has_the_id}
 use Rattle.room_rules.specs.Crossed.{left_by}
 use Rattle.exit_crossing.specs.Crossing.{AreIdsApart}

@@ -8,10 +8,10 @@ use Rattle.room_terrain.specs.Tiles.{tile}
 use Rattle.room_terrain.specs.declared.name.RoomName.{RoomName}
 use Rattle.room_terrain.specs.declared.terrain.Ground.{Ground}
 use Rattle.room_terrain.specs.declared.terrain.Ground.TheVariants.{Plain, Wall, Swamp}
-use Rattle.object_store.specs.declared.object.Object.{Object}
+use Rattle.room_table.specs.declared.object.Object.{Object}
 use Rattle.object_store.specs.declared.world.Room.{Room}
 use Rattle.object_store.specs.Stored.{IsRoomNamed}
-use Rattle.object_store.specs.Tables.{Table, find_object, first_on}
+use Rattle.room_table.specs.Tables.{Table, find_object, first_on}
 use Rattle.world_rules.specs.Moves.{is_open_ground}
 use Rattle.exit_crossing.specs.declared.leaving.Crosser.{Crosser}
 use Rattle.exit_crossing.specs.declared.crossing.Landing.{Landing}

@@ -3,12 +3,12 @@ use Rattle.std.proofs.Common.{◌≡◌, ℕ, zero, suc, ◌<◌, ◌==◌, inl,
 use Rattle.std.specs.List.{AllByRecursion, Contains, filter}
 use Rattle.std.proofs.lemmas.Bool.{eq-eqb, ne_eqb}
 use Rattle.std.proofs.lemmas.List.Elements.{Contains-append_cases, Contains-append_left, Contains-append_right}
-use Rattle.object_store.specs.declared.object.Object.{Object}
+use Rattle.room_table.specs.declared.object.Object.{Object}
 use Rattle.object_store.specs.declared.world.Room.{Room}
 use Rattle.object_store.specs.Stored.{HaveRisingTables}
-use Rattle.object_store.specs.Tables.{Table, IsRising, find_object}
-use Rattle.object_store.proofs.Rising.{Rises}
-use Rattle.object_store.proofs.Moved.{Contains-head, Contains-later, first_or_later, none_within, Contains-filter, Contains-from_filter}
+use Rattle.room_table.specs.Tables.{Table, IsRising, find_object}
+use Rattle.room_table.proofs.Rising.{Rises}
+use Rattle.room_table.proofs.Moved.{Contains-head, Contains-later, first_or_later, none_within, Contains-filter, Contains-from_filter}
 use Rattle.world_rules.specs.Crossings.{is_crosser}
 use Rattle.world_rules.proofs.TableParts.{has_the_id}
 use Rattle.exit_crossing.specs.Crossing.{crosser_in, crossers_of}

@@ -3,8 +3,8 @@ use Rattle.std.proofs.Common.{◌≡◌, ℕ, zero, suc, ◌<◌, ◌≤◌, if�
 use Rattle.std.specs.List.{AllByRecursion}
 use Rattle.std.proofs.lemmas.Bool.{eq-eqb, ne_eqb}
 use Rattle.game_tables.specs.Kinds.{is_creep}
-use Rattle.object_store.specs.declared.object.Object.{Object}
-use Rattle.object_store.specs.Tables.{IsRising, IsOnTile, HasId, find_object, with_object}
+use Rattle.room_table.specs.declared.object.Object.{Object}
+use Rattle.room_table.specs.Tables.{IsRising, IsOnTile, HasId, find_object, with_object}
 use Rattle.world_rules.specs.Crossings.{still}
 use Rattle.exit_crossing.specs.inner.Resting.{rested_at, rested_to}
 

@@ -5,14 +5,14 @@ use Rattle.std.specs.Ordering.{nat_cmp, eq_by_cmp}
 use Rattle.std.specs.Cmp.{nat_cmp_total}
 use Rattle.std.specs.FinMap.{get, get-insert, get-remove}
 use Rattle.std.proofs.lemmas.Bool.{ltb-true}
-use Rattle.object_store.specs.declared.object.Object.{Object}
-use Rattle.object_store.proofs.Rising.{Rises, all_weaker, rises-filter}
-use Rattle.object_store.proofs.Keyed.{rises_from_objects, objects_from_rises}
+use Rattle.room_table.specs.declared.object.Object.{Object}
+use Rattle.room_table.proofs.Rising.{Rises, all_weaker, rises-filter}
+use Rattle.room_table.proofs.Keyed.{rises_from_objects, objects_from_rises}
 use Rattle.world_rules.specs.RoomParts.{RoomPart, table_part}
 use Rattle.world_rules.proofs.TableParts.{get_table_part, part_new, part_without}
 use Rattle.object_store.specs.declared.world.Room.{Room}
-use Rattle.object_store.specs.Tallies.{no_tallies}
-use Rattle.object_store.specs.Tables.{Table, IsRising, find_object, with_new, without}
+use Rattle.room_table.specs.Tallies.{no_tallies}
+use Rattle.room_table.specs.Tables.{Table, IsRising, find_object, with_new, without}
 use Rattle.object_store.specs.Lending.{with_table}
 
 abbrev id_of : Object → ℕ

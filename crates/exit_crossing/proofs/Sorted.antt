@@ -12,12 +12,12 @@ use Rattle.std.proofs.lemmas.List.Elements.{Contains-append_cases, All-from_recu
 use Rattle.std.proofs.lemmas.List.Kept.{AllPairs-cons}
 use Rattle.std.proofs.lemmas.List.Sorted.{IsPermutation-sym, Contains-permutation, sum_by-IsPermutation}
 use Rattle.game_tables.specs.Kinds.{is_creep}
-use Rattle.object_store.specs.declared.object.Object.{Object}
+use Rattle.room_table.specs.declared.object.Object.{Object}
 use Rattle.object_store.specs.declared.world.Room.{Room}
 use Rattle.object_store.specs.Stored.{Stored, HaveRisingTables}
-use Rattle.object_store.specs.Tables.{IsRising, find_object}
-use Rattle.object_store.proofs.Rising.{Rises, rises-filter}
-use Rattle.object_store.proofs.Moved.{Contains-head, Contains-later, first_or_later, none_within, all_from_within, Contains-filter, Contains-from_filter, count_head, strictly}
+use Rattle.room_table.specs.Tables.{IsRising, find_object}
+use Rattle.room_table.proofs.Rising.{Rises, rises-filter}
+use Rattle.room_table.proofs.Moved.{Contains-head, Contains-later, first_or_later, none_within, all_from_within, Contains-filter, Contains-from_filter, count_head, strictly}
 use Rattle.world_rules.specs.World.{Placed, world_of}
 use Rattle.world_rules.specs.Crossings.{is_crosser, is_edge, still, crossers as crossers_in_world}
 use Rattle.world_rules.proofs.Keys.{AreKeysOnce, once_of_sorted}

@@ -10,8 +10,8 @@ use Rattle.game_tables.specs.Kinds.{is_creep}
 use Rattle.game_tables.specs.Numbers.{kind_number}
 use Rattle.game_tables.specs.declared.kind.Kind.{Kind}
 use Rattle.game_tables.specs.declared.kind.Kind.TheVariants.{Source, Controller, Creep, Spawn, Extension, Storage, Container, Road, Pile, Site, Tower, Rampart, Wall, Tombstone}
-use Rattle.object_store.specs.declared.object.Object.{Object}
-use Rattle.object_store.specs.Tables.{find_object, first_on}
+use Rattle.room_table.specs.declared.object.Object.{Object}
+use Rattle.room_table.specs.Tables.{find_object, first_on}
 use Rattle.world_rules.specs.World.{Placed, World}
 use Rattle.world_rules.specs.Crossings.{Place, is_taken}
 use Rattle.world_rules.proofs.Keys.{AreKeysOnce, once_of_sorted}

@@ -6,10 +6,10 @@ use Rattle.std.proofs.lemmas.List.Elements.{recursion_from_All}
 use Rattle.std.proofs.lemmas.Map.Steps.{length-le_from_distinct_below}
 use Rattle.game_tables.specs.Kinds.{is_creep}
 use Rattle.room_terrain.specs.Tiles.{IsBorder}
-use Rattle.object_store.specs.declared.object.Object.{Object}
+use Rattle.room_table.specs.declared.object.Object.{Object}
 use Rattle.object_store.specs.declared.world.Room.{Room}
 use Rattle.object_store.specs.Stored.{Stored, HaveRisingTables}
-use Rattle.object_store.specs.Tables.{IsOnTile, find_object}
+use Rattle.room_table.specs.Tables.{IsOnTile, find_object}
 use Rattle.world_rules.specs.Moves.{is_open_ground}
 use Rattle.world_rules.specs.Rules.{IsWall}
 use Rattle.world_rules.specs.World.{world_of}

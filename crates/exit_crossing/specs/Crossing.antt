@@ -2,9 +2,9 @@
 use Rattle.std.specs.Prelude.{◌≡◌, ◌≢◌, ℕ, ◌<◌, ◌≤◌, true, List, map, Option, Some, None, slice_get}
 use Rattle.std.specs.List.{All, AllPairs, AllByRecursion, filter}
 use Rattle.game_tables.specs.Kinds.{is_creep}
-use Rattle.object_store.specs.declared.object.Object.{Object}
+use Rattle.room_table.specs.declared.object.Object.{Object}
 use Rattle.object_store.specs.declared.world.Room.{Room}
-use Rattle.object_store.specs.Tables.{Table, IsOnTile, HasId, find_object}
+use Rattle.room_table.specs.Tables.{Table, IsOnTile, HasId, find_object}
 use Rattle.object_store.specs.Stored.{Stored}
 use Rattle.world_rules.specs.Crossings.{is_crosser, still}
 use Rattle.exit_crossing.specs.declared.leaving.Crosser.{Crosser}

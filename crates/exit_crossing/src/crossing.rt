@@ -3,7 +3,7 @@ ghost use Rattle.std.specs.Prelude.{◌≡◌, ◌<◌, ◌≤◌, ℕ, map, len
 ghost use Rattle.std.specs.Prelude.{◌↔◌};
 ghost use Rattle.room_terrain.specs.declared.terrain.Ground.TheVariants.{Wall};
 ghost use Rattle.object_store.specs.declared.world.Room.{Room};
-ghost use Rattle.object_store.specs.Tables.{IsOnTile, HasNoId, find_object};
+ghost use Rattle.room_table.specs.Tables.{IsOnTile, HasNoId, find_object};
 ghost use Rattle.world_rules.specs.World.{world_of};
 ghost use Rattle.world_rules.specs.Crossings.{crossed_over};
 ghost use Rattle.world_rules.specs.Sound.{IsSound};

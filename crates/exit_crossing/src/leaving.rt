@@ -2,7 +2,7 @@
 ghost use Rattle.std.specs.Prelude.{◌≡◌, ◌<◌, ◌++◌, ℕ, Some, length, map, slice_get, IfOk, OnOk, OnErr};
 ghost use Rattle.std.specs.List.{AllByRecursion};
 ghost use Rattle.std.specs.List.Sorted.{IsPermutation, IsNonDecreasingBy};
-ghost use Rattle.object_store.specs.Tables.{IsOnTile, IsRising};
+ghost use Rattle.room_table.specs.Tables.{IsOnTile, IsRising};
 ghost use Rattle.object_store.specs.Stored.{Stored, HaveRisingTables};
 ghost use Rattle.object_store.specs.declared.world.Room.{Room};
 ghost use Rattle.world_rules.specs.World.{world_of};

@@ -4,8 +4,8 @@ use Rattle.std.specs.List.{find}
 use Rattle.game_tables.specs.Numbers.{kind_number}
 use Rattle.game_tables.specs.declared.kind.Kind.{Kind}
 use Rattle.game_tables.specs.declared.kind.Kind.TheVariants as kinds
-use Rattle.object_store.specs.declared.object.Object.{Object}
-use Rattle.object_store.specs.Tables.{IsRising, find_object, first_on}
+use Rattle.room_table.specs.declared.object.Object.{Object}
+use Rattle.room_table.specs.Tables.{IsRising, find_object, first_on}
 use Rattle.game_tables.specs.Kinds.{is_pile}
 use Rattle.world_rules.specs.Drops.{is_pile_on}
 use Rattle.world_rules.proofs.TableParts.{found_by_id}

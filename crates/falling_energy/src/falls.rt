@@ -2,7 +2,7 @@
 ghost use Rattle.std.specs.Prelude.{◌≡◌, ◌≤◌, ◌+◌, min, List};
 ghost use Rattle.std.specs.List.{find};
 ghost use Rattle.room_terrain.specs.declared.terrain.Ground.{Ground};
-ghost use Rattle.object_store.specs.Tables.{IsRising};
+ghost use Rattle.room_table.specs.Tables.{IsRising};
 ghost use Rattle.world_rules.specs.RoomParts.{table_part};
 ghost use Rattle.world_rules.specs.Drops.{fallen, is_pile_on, pile_bound, pile_of};
 ghost use Rattle.room_rules.specs.Calls.{IsReady, Keeps, KeepsTallies};

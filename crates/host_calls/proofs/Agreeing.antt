@@ -11,9 +11,9 @@ use Rattle.game_tables.specs.declared.code.Code.{Code}
 use Rattle.game_tables.specs.declared.code.Code.TheVariants.{Done}
 use Rattle.game_tables.specs.declared.kind.Part.{Part}
 use Rattle.object_store.specs.declared.account.Account.{Account}
-use Rattle.object_store.specs.declared.object.Object.{Object}
+use Rattle.room_table.specs.declared.object.Object.{Object}
 use Rattle.object_store.specs.Stored.{Stored}
-use Rattle.object_store.specs.Stores.{free_room}
+use Rattle.room_table.specs.Stores.{free_room}
 use Rattle.intent_book.specs.declared.intent.Intent.{Intent}
 use Rattle.wasm_store.specs.Memory.{Memory}
 use Rattle.world_rules.specs.World.{Placed, world_of}

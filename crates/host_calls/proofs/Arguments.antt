@@ -1,8 +1,8 @@
 -- How many arguments a call has, by its signature.
 use Rattle.std.proofs.Common.{◌≡◌, ℕ, zero, suc, List, [], ◌∷◌, length, ap, refl, Some}
 use Rattle.std.specs.Prelude.{option_map, slice_get}
-use Rattle.wasm_module.specs.declared.values.types.ValType.{ValType}
-use Rattle.wasm_module.specs.declared.host_sig.HostSig.{HostSig}
+use Rattle.wasm_values.specs.declared.types.ValType.{ValType}
+use Rattle.wasm_values.specs.declared.host_sig.HostSig.{HostSig}
 use Rattle.host_calls.specs.declared.call.Call.{Call}
 use Rattle.host_calls.specs.Calls.{AreSignatures, row}
 

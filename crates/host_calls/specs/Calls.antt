@@ -1,8 +1,8 @@
 -- The calls of a module to its host, each with a row of its own. A call's number is its place in the list.
 use Rattle.std.specs.Prelude.{◌≡◌, ℕ, List, [], ◌∷◌, codes, Option, Some, slice_get}
-use Rattle.wasm_module.specs.declared.values.types.ValType.{ValType}
-use Rattle.wasm_module.specs.declared.values.types.ValType.TheVariants.{I32, I64}
-use Rattle.wasm_module.specs.declared.host_sig.HostSig.{HostSig}
+use Rattle.wasm_values.specs.declared.types.ValType.{ValType}
+use Rattle.wasm_values.specs.declared.types.ValType.TheVariants.{I32, I64}
+use Rattle.wasm_values.specs.declared.host_sig.HostSig.{HostSig}
 use Rattle.host_calls.specs.declared.call.Call.{Call}
 use Rattle.host_calls.specs.declared.call.Call.TheVariants as call
 

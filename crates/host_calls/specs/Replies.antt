@@ -21,7 +21,7 @@ use Rattle.game_tables.specs.declared.code.Code.{Code}
 use Rattle.game_tables.specs.declared.code.Code.TheVariants.{Done, NotFound, Full, InvalidArgs}
 use Rattle.room_terrain.specs.Tiles.{ground_number}
 use Rattle.room_terrain.specs.declared.name.RoomName.{RoomName}
-use Rattle.object_store.specs.declared.object.Object.{Object}
+use Rattle.room_table.specs.declared.object.Object.{Object}
 use Rattle.world_rules.specs.World.{Placed}
 use Rattle.world_rules.specs.Checks.{Check, Scene, checks, first_failing, least_of}
 use Rattle.world_rules.specs.Sites.{Plan, removal_checks, site_checks}

@@ -43,7 +43,7 @@ impl Drop for Hosted {
 
 impl Model for Hosted {
     ghost use Rattle.std.specs.Coded.{codes};
-    ghost use Rattle.object_store.specs.Tallies.{tallies_code};
+    ghost use Rattle.room_table.specs.Tallies.{tallies_code};
     ghost use Rattle.hosted_tick.specs.Hosting.{AreLinked, Held, bytes_of};
 
     ghost Value = { Held };

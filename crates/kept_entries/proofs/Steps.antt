@@ -8,7 +8,7 @@ use Rattle.std.specs.List.Sorted.{IsNonDecreasingBy, IsStableByKey, IsStrictlySo
 use Rattle.std.proofs.lemmas.List.Elements.{All-from_recursion, recursion_from_All}
 use Rattle.std.proofs.lemmas.List.Filters.{All-dedup}
 use Rattle.std.proofs.lemmas.List.Sorted.{All-permutation, IsNonDecreasingBy-from_sort, IsPermutation-reverse}
-use Rattle.object_store.proofs.Rising.{all_filter}
+use Rattle.room_table.proofs.Rising.{all_filter}
 use Rattle.game_tables.specs.Actions.{action_number}
 use Rattle.game_tables.specs.declared.action.Action.{Action}
 use Rattle.intent_book.specs.declared.intent.Intent.{Intent}

@@ -2,7 +2,7 @@
 ghost use Rattle.std.specs.Prelude.{◌≡◌, [], List, map, length, replicate, IfOk, OnOk, Some};
 ghost use Rattle.std.specs.List.{filter};
 ghost use Rattle.room_terrain.specs.declared.terrain.Ground.{Ground};
-ghost use Rattle.object_store.specs.Tables.{find_object};
+ghost use Rattle.room_table.specs.Tables.{find_object};
 ghost use Rattle.world_rules.specs.World.{world_of};
 ghost use Rattle.world_rules.specs.Intents.{acts_for};
 ghost use Rattle.world_rules.specs.RoomParts.{table_part};

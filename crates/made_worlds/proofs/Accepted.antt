@@ -1,8 +1,8 @@
 -- Each text of the players' module is accepted.
 use Rattle.std.proofs.Common.{List, ℕ}
 use Rattle.byte_fields.specs.Front.{SpellsShortest}
-use Rattle.wasm_module.specs.sections.Limits.{WithinBytes}
-use Rattle.wasm_module.specs.sections.Sections.{Spells}
+use Rattle.wasm_module.specs.Limits.{WithinBytes}
+use Rattle.wasm_module.specs.Sections.{Spells}
 use Rattle.player_run.specs.Admission.{IsAccepted}
 use Rattle.world_gen.specs.PlayerModule.{player_module}
 use Rattle.made_worlds.proofs.Linked.{are_signatures, linked, signatures, the_program}

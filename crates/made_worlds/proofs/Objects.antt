@@ -6,8 +6,8 @@ use Rattle.std.proofs.lemmas.Option.{same_Some}
 use Rattle.std.proofs.lemmas.Bool.Decides.{nat_tests}
 use Rattle.game_tables.specs.Kinds.{is_controller, may_have_owner}
 use Rattle.object_store.specs.declared.account.Account.{Account}
-use Rattle.object_store.specs.declared.object.Object.{Object}
-use Rattle.object_store.specs.Tables.{IsOnTile, IsRising}
+use Rattle.room_table.specs.declared.object.Object.{Object}
+use Rattle.room_table.specs.Tables.{IsOnTile, IsRising}
 use Rattle.room_terrain.specs.Tiles.{IsBorder}
 use Rattle.world_rules.specs.Rules.{IsInRangeAs, IsOnWrongTile}
 use Rattle.world_form.proofs.Standing.{all_weaker}

@@ -1,8 +1,8 @@
 -- The shortest text of the players' module has at most 1 MiB.
 use Rattle.std.proofs.Common.{ℕ, ◌+◌, ◌^◌, ◌≤◌, List, arith, lit≤}
 use Rattle.byte_fields.specs.Front.{SpellsShortest}
-use Rattle.wasm_module.specs.sections.Limits.{WithinBytes}
-use Rattle.wasm_module.specs.sections.Sections.{Spells}
+use Rattle.wasm_module.specs.Limits.{WithinBytes}
+use Rattle.wasm_module.specs.Sections.{Spells}
 use Rattle.wasm_encode.specs.Encodable.{weight}
 use Rattle.wasm_encode.proofs.Exists.{encodable_text}
 use Rattle.world_gen.specs.PlayerModule.{again, both_fields, both_ids, delivers, direction, drops, either, field, harvests, has_room, host_calls, host_types, in_room, is_seen, look, loop_codes, of_kind, on_code, own, own_creep, player_module, seek, sign, source_sought, spawn_sought, steps, to_next, turn, turns, visit, when}

@@ -6,7 +6,7 @@ use Rattle.std.proofs.lemmas.List.FromFn.{length-map-range_with_len}
 use Rattle.std.proofs.lemmas.Option.{slice_get_past}
 use Rattle.byte_fields.specs.Front.{SpellsShortest}
 use Rattle.upload_stream.specs.Streams.{Upload, UploadList, stream_bytes}
-use Rattle.wasm_module.specs.sections.Sections.{Spells}
+use Rattle.wasm_module.specs.Sections.{Spells}
 use Rattle.wasm_encode.proofs.Whole.{whole_one}
 use Rattle.world_rules.proofs.Same.{same_lists}
 use Rattle.world_gen.specs.Generator.{players_of}

@@ -1,14 +1,14 @@
 -- The code of the players' module has the types of a function that takes and gives nothing.
 use Rattle.std.proofs.Common.{◌≡◌, ℕ, ◌<◌, ℤ, negsuc, List, [], ◌∷◌, ◌++◌, Option, Some, None, refl, lit<}
 use Rattle.std.specs.Prelude.{slice_get}
-use Rattle.wasm_module.specs.values.Syntax.{Op, Ops, next, call, drop_value, local_get, local_set, i32_const, i64_const, numeric}
-use Rattle.wasm_module.specs.values.View.{ops_of}
-use Rattle.wasm_module.specs.declared.values.types.ValType.{ValType}
-use Rattle.wasm_module.specs.declared.values.types.ValType.TheVariants.{I32, I64}
-use Rattle.wasm_validate.specs.typing.Context.{Context}
-use Rattle.wasm_module.specs.values.Opcodes.{meaning, meaning_in, opcodes}
-use Rattle.wasm_validate.specs.typing.Operations.{of_one, of_two, signature_of}
-use Rattle.wasm_validate.specs.typing.Typing.{HasType, Typed, br_typed, call_typed, drop_typed, i32_const_typed, i64_const_typed, if_typed, local_get_typed, local_set_typed, loop_typed, next_typed, none_typed, numeric_typed}
+use Rattle.wasm_values.specs.Syntax.{Op, Ops, next, call, drop_value, local_get, local_set, i32_const, i64_const, numeric}
+use Rattle.wasm_values.specs.View.{ops_of}
+use Rattle.wasm_values.specs.declared.types.ValType.{ValType}
+use Rattle.wasm_values.specs.declared.types.ValType.TheVariants.{I32, I64}
+use Rattle.wasm_typing.specs.Context.{Context}
+use Rattle.wasm_values.specs.Opcodes.{meaning, meaning_in, opcodes}
+use Rattle.wasm_typing.specs.Operations.{of_one, of_two, signature_of}
+use Rattle.wasm_typing.specs.Typing.{HasType, Typed, br_typed, call_typed, drop_typed, i32_const_typed, i64_const_typed, if_typed, local_get_typed, local_set_typed, loop_typed, next_typed, none_typed, numeric_typed}
 use Rattle.world_gen.specs.PlayerModule.{again, both_fields, both_ids, delivers, direction, drops, either, field, harvests, has_room, in_room, is_seen, look, of_kind, on_code, own, own_creep, seek, sign, source_sought, spawn_sought, steps, takes, to_next, turn, turns, visit, when}
 
 -- ---- operations on numbers

@@ -4,18 +4,19 @@ use Rattle.std.specs.Prelude.{slice_get}
 use Rattle.std.specs.List.{AllByRecursion}
 use Rattle.std.proofs.lemmas.List.Elements.{All-from_recursion}
 use Rattle.std.proofs.lemmas.Option.{same_Some}
-use Rattle.wasm_module.specs.sections.Entries.{Function}
-use Rattle.wasm_module.specs.sections.Limits.{IsWithin, WithinLocals, locals_of}
-use Rattle.wasm_module.specs.values.Syntax.{Ops, ops_nesting}
-use Rattle.wasm_module.specs.values.View.{ops_of}
-use Rattle.wasm_module.specs.declared.sections.codes.LocalRun.{LocalRun}
-use Rattle.wasm_module.specs.declared.sections.exports.Export.{Export}
-use Rattle.wasm_module.specs.declared.sections.imports.Import.{Import}
-use Rattle.wasm_module.specs.declared.values.types.ValType.{ValType}
-use Rattle.wasm_module.specs.declared.values.types.ValType.TheVariants.{I32, I64}
-use Rattle.wasm_validate.specs.typing.Context.{Context, function_context, module_context}
-use Rattle.wasm_validate.specs.modules.Floats.{HasNoFloat, ImportHasNoFloat, IsInteger, OpsHaveNoFloat, TypeHasNoFloat}
-use Rattle.wasm_validate.specs.modules.Modules.{Exists, IsFunction, IsValid, NamesDiffer}
+use Rattle.wasm_module.specs.Entries.{Function}
+use Rattle.wasm_module.specs.Limits.{IsWithin, WithinLocals, locals_of}
+use Rattle.wasm_values.specs.Syntax.{Ops, ops_nesting}
+use Rattle.wasm_values.specs.View.{ops_of}
+use Rattle.wasm_module.specs.declared.codes.LocalRun.{LocalRun}
+use Rattle.wasm_values.specs.declared.exports.Export.{Export}
+use Rattle.wasm_values.specs.declared.imports.Import.{Import}
+use Rattle.wasm_values.specs.declared.types.ValType.{ValType}
+use Rattle.wasm_values.specs.declared.types.ValType.TheVariants.{I32, I64}
+use Rattle.wasm_typing.specs.Context.{Context, function_context, module_context}
+use Rattle.wasm_typing.specs.Functions.{IsFunction}
+use Rattle.wasm_validate.specs.Floats.{HasNoFloat, ImportHasNoFloat, IsInteger, OpsHaveNoFloat, TypeHasNoFloat}
+use Rattle.wasm_validate.specs.Modules.{Exists, IsValid, NamesDiffer}
 use Rattle.world_gen.specs.PlayerModule.{again, both_fields, both_ids, delivers, direction, drops, either, field, harvests, has_room, host_calls, host_types, in_room, is_seen, look, loop_codes, loop_exports, of_kind, on_code, own, own_creep, player_module, seek, sign, source_sought, spawn_sought, steps, takes, to_next, turn, turns, visit, when}
 use Rattle.made_worlds.proofs.Typed.{IsPlayerContext, turns_typed}
 

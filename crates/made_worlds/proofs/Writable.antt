@@ -3,7 +3,7 @@ use Rattle.std.proofs.Common.{◌≡◌, ℕ, ◌+◌, ◌*◌, ◌<◌, ◌≤�
 use Rattle.std.specs.Prelude.{slice_get}
 use Rattle.std.specs.List.{AllByRecursion}
 use Rattle.object_store.specs.Stored.{HaveRisingTables, Stored}
-use Rattle.object_store.specs.Tables.{IsRising}
+use Rattle.room_table.specs.Tables.{IsRising}
 use Rattle.object_store.specs.declared.account.Account.{Account}
 use Rattle.object_store.specs.declared.world.Room.{Room}
 use Rattle.room_terrain.specs.Geometry.{Mirrors}

@@ -2,7 +2,7 @@
 use Rattle.std.specs.Prelude.{◌≡◌, ℕ, ◌-◌, ◌≤◌, List, length, min, Some, slice_get}
 use Rattle.byte_fields.specs.Front.{SpellsShortest}
 use Rattle.upload_stream.specs.Streams.{Upload, UploadList}
-use Rattle.wasm_module.specs.sections.Sections.{Spells}
+use Rattle.wasm_module.specs.Sections.{Spells}
 use Rattle.world_gen.specs.PlayerModule.{player_module}
 
 -- In tick 0 this player uploads the players' module, in a text than which none is shorter.

@@ -3,8 +3,8 @@
 #![tactic(auto)]
 
 ghost use Rattle.std.specs.Prelude.{◌≡◌, ℕ, List, IfOk, IfErr};
-ghost use Rattle.wasm_module.specs.sections.Limits.{IsWithin, WithinBytes};
-ghost use Rattle.wasm_module.specs.sections.Sections.{Spells, module_view};
+ghost use Rattle.wasm_module.specs.Limits.{IsWithin, WithinBytes};
+ghost use Rattle.wasm_module.specs.Sections.{Spells, module_view};
 
 use std::alloc::Global;
 use wasm_encode::encode;

@@ -10,12 +10,12 @@ use Rattle.std.proofs.lemmas.List.Elements.{All-from_recursion}
 use Rattle.room_terrain.specs.declared.name.RoomName.{RoomName}
 use Rattle.object_store.specs.declared.world.Room.{Room}
 use Rattle.object_store.specs.Lending.{with_table}
-use Rattle.object_store.specs.inner.Placed.{Among}
+use Rattle.room_table.specs.inner.Placed.{Among}
 use Rattle.object_store.specs.inner.Naming.{name_number, no_name, room_names, sort_number, AreByName, HasNumber}
 use Rattle.object_store.specs.Stored.{IsRoomNamed}
-use Rattle.object_store.specs.Tables.{Table}
-use Rattle.object_store.proofs.Placed.{among_place, among_insert, among_inserted}
-use Rattle.object_store.proofs.Rising.{parted, non_decreasing, all_weaker, all_insert, rises-insert, rises_by_same}
+use Rattle.room_table.specs.Tables.{Table}
+use Rattle.room_table.proofs.Placed.{among_place, among_insert, among_inserted}
+use Rattle.room_table.proofs.Rising.{parted, non_decreasing, all_weaker, all_insert, rises-insert, rises_by_same}
 
 some_is : {X : Type 0} {x y : X} → Some x ≡ Some y → x ≡ y
 some_is e = cc

@@ -2,10 +2,10 @@
 use Rattle.std.specs.Prelude.{ℕ, zero, suc, List, [], ◌∷◌}
 use Rattle.std.specs.Borrow.{Lends, MutBor, Fml}
 use Rattle.object_store.specs.declared.world.Room.{Room}
-use Rattle.object_store.specs.Tables.{Table}
+use Rattle.room_table.specs.Tables.{Table}
 use Rattle.object_store.specs.Stored.{Stored}
 use Rattle.object_store.specs.contracts.world.World as world
-use Rattle.object_store.specs.contracts.room_table.RoomTable as table
+use Rattle.room_table.specs.contracts.room_table.RoomTable as table
 
 -- the rooms with these objects in the room of an index
 abbrev pub with_table : ℕ → Table → List Room → List Room

@@ -5,7 +5,7 @@ use Rattle.std.specs.List.{AllByRecursion, find}
 use Rattle.object_store.specs.declared.account.Account.{Account}
 use Rattle.object_store.specs.declared.world.Room.{Room}
 use Rattle.room_terrain.specs.declared.name.RoomName.{RoomName}
-use Rattle.object_store.specs.Tables.{IsRising}
+use Rattle.room_table.specs.Tables.{IsRising}
 
 -- a tick, the rooms by their index, and the accounts in rising player
 pub record Stored : Type 0 where

@@ -9,7 +9,7 @@ ghost use Rattle.object_store.specs.Lending.{LendsTable};
 ghost use Rattle.object_store.specs.inner.Naming.{HasNumber, room_names, sort_number, AreByName, IsPlaceOf};
 
 use crate::account::Account;
-use crate::room_table::RoomTable;
+use room_table::RoomTable;
 use room_terrain::{RoomName, Terrain};
 use std::alloc::{AllocError, Global};
 use std::marker::Model;
@@ -61,7 +61,7 @@ impl Model for World {
     ghost use Rattle.object_store.specs.Stored.{Stored, AreRising};
     ghost use Rattle.object_store.specs.inner.Naming.{room_names, AreByName};
     ghost use Rattle.std.specs.Coded.{codes};
-    ghost use Rattle.object_store.specs.Tallies.{tallies_code};
+    ghost use Rattle.room_table.specs.Tallies.{tallies_code};
 
     ghost Value = { Stored };
 

@@ -1,6 +1,6 @@
 -- What each answer of a host keeps, a run keeps.
 use Rattle.std.proofs.Common.{ℕ, ℤ, List, Option}
-use Rattle.wasm_module.specs.values.Syntax.{Ops}
+use Rattle.wasm_values.specs.Syntax.{Ops}
 use Rattle.wasm_store.specs.Memory.{Memory}
 use Rattle.wasm_steps.specs.Program.{Function, Program, Store}
 use Rattle.wasm_steps.specs.Steps.{Meaning, State, Step, Calls, calls_own, calls_host, step_leaves, step_plain, step_block, step_loop, step_then, step_else, step_br, step_br_if, step_no_br_if, step_br_table, step_return, step_call, step_call_indirect}

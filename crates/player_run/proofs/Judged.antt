@@ -1,13 +1,13 @@
 -- Bytes have one judgement.
 use Rattle.std.proofs.Common.{◌≡◌, ◌≢◌, ℕ, List, refl, sym, subst, All, Result, Ok, Err, IfErr}
-use Rattle.wasm_module.specs.values.Syntax.{Ops}
-use Rattle.wasm_module.specs.sections.Sections.{Syntax, Spells}
-use Rattle.wasm_module.specs.sections.Limits.{IsTooLarge, IsWithin, PassesFirst}
-use Rattle.wasm_module.specs.declared.sections.module.Limit.{Limit}
-use Rattle.wasm_module.specs.declared.sections.module.Limit.TheVariants as limits
+use Rattle.wasm_values.specs.Syntax.{Ops}
+use Rattle.wasm_module.specs.Sections.{Syntax, Spells}
+use Rattle.wasm_module.specs.Limits.{IsTooLarge, IsWithin, PassesFirst}
+use Rattle.wasm_module.specs.declared.module.Limit.{Limit}
+use Rattle.wasm_module.specs.declared.module.Limit.TheVariants as limits
 use Rattle.wasm_module.proofs.OnceModule.{module_once}
-use Rattle.wasm_validate.specs.modules.Floats.{HasNoFloat}
-use Rattle.wasm_validate.specs.modules.Modules.{IsValid}
+use Rattle.wasm_validate.specs.Floats.{HasNoFloat}
+use Rattle.wasm_validate.specs.Modules.{IsValid}
 use Rattle.wasm_link.specs.Linking.{Fits, FirstNot, IsFault, IsKnown, IsLinked, IsOfKind, Link, spans}
 use Rattle.wasm_link.specs.declared.fault.LinkFault.{LinkFault}
 use Rattle.wasm_link.specs.declared.fault.LinkFault.TheVariants as fault

@@ -1,13 +1,13 @@
 -- A module links to the calls in one way.
 use Rattle.std.proofs.Common.{◌≡◌, ℕ, ◌+◌, ◌-◌, ◌<◌, inl, inr, List, length, ap, sym, ◌∙◌, subst, arith, Some, slice_get, All}
 use Rattle.std.proofs.lemmas.Option.{slice_get_past}
-use Rattle.wasm_module.specs.values.Syntax.{Ops}
-use Rattle.wasm_module.specs.sections.Sections.{Syntax}
-use Rattle.wasm_module.specs.declared.sections.exports.ExportDesc.{ExportDesc}
-use Rattle.wasm_module.specs.declared.sections.exports.ExportDesc.TheVariants as export
-use Rattle.wasm_module.specs.declared.host_sig.HostSig.{HostSig}
-use Rattle.wasm_validate.specs.typing.Context.{imported_func}
-use Rattle.wasm_validate.specs.modules.Modules.{IsValid}
+use Rattle.wasm_values.specs.Syntax.{Ops}
+use Rattle.wasm_module.specs.Sections.{Syntax}
+use Rattle.wasm_values.specs.declared.exports.ExportDesc.{ExportDesc}
+use Rattle.wasm_values.specs.declared.exports.ExportDesc.TheVariants as export
+use Rattle.wasm_values.specs.declared.host_sig.HostSig.{HostSig}
+use Rattle.wasm_typing.specs.Context.{imported_func}
+use Rattle.wasm_validate.specs.Modules.{IsValid}
 use Rattle.std.specs.List.{filter_map}
 use Rattle.wasm_steps.specs.Program.{Program}
 use Rattle.wasm_link.specs.Linking.{HasLoop, IsLinked, IsOfKind, IsProgram, Link}

@@ -1,15 +1,15 @@
 -- Bytes that are refused are refused for one reason, unless memory is wanted.
 use Rattle.std.proofs.Common.{◌≡◌, ◌≢◌, ℕ, ◌<◌, inl, inr, List, [], ◌∷◌, get_or, refl, sym, ap, subst, ◌∙◌, arith, All}
 use Rattle.std.proofs.lemmas.Bool.{cases_lt}
-use Rattle.wasm_module.specs.values.Syntax.{Ops}
-use Rattle.wasm_module.specs.sections.Sections.{Syntax, Spells}
-use Rattle.wasm_module.specs.sections.Limits.{IsTooLarge, WithinBytes}
-use Rattle.wasm_module.specs.declared.host_sig.HostSig.{HostSig}
-use Rattle.wasm_module.specs.declared.sections.module.Limit.{Limit}
-use Rattle.wasm_module.specs.declared.sections.module.Limit.TheVariants as limits
+use Rattle.wasm_values.specs.Syntax.{Ops}
+use Rattle.wasm_module.specs.Sections.{Syntax, Spells}
+use Rattle.wasm_module.specs.Limits.{IsTooLarge, WithinBytes}
+use Rattle.wasm_values.specs.declared.host_sig.HostSig.{HostSig}
+use Rattle.wasm_module.specs.declared.module.Limit.{Limit}
+use Rattle.wasm_module.specs.declared.module.Limit.TheVariants as limits
 use Rattle.wasm_module.proofs.OnceModule.{module_once}
-use Rattle.wasm_validate.specs.modules.Floats.{HasNoFloat}
-use Rattle.wasm_validate.specs.modules.Modules.{IsValid}
+use Rattle.wasm_validate.specs.Floats.{HasNoFloat}
+use Rattle.wasm_validate.specs.Modules.{IsValid}
 use Rattle.wasm_link.specs.Linking.{IsFault, IsKnown, IsOfKind}
 use Rattle.wasm_link.specs.declared.fault.LinkFault.{LinkFault}
 use Rattle.wasm_link.specs.declared.fault.LinkFault.TheVariants as fault

@@ -1,8 +1,8 @@
 -- Two lists of signatures of the same calls.
 use Rattle.std.proofs.Common.{◌≡◌, ℕ, suc, zero, List, length, [], subst, All, ◌∷◌, refl, ap, sym, ◌∙◌, Option, Some, None, slice_get}
-use Rattle.wasm_module.specs.declared.host_sig.HostSig.{HostSig}
-use Rattle.wasm_module.specs.declared.sections.imports.Import.{Import}
-use Rattle.wasm_module.specs.declared.values.types.FuncType.{FuncType}
+use Rattle.wasm_values.specs.declared.host_sig.HostSig.{HostSig}
+use Rattle.wasm_values.specs.declared.imports.Import.{Import}
+use Rattle.wasm_values.specs.declared.types.FuncType.{FuncType}
 use Rattle.wasm_link.specs.Linking.{Names, IsKnown, IsOfKind}
 use Rattle.wasm_link.proofs.Each.{all_at, all_from, not_found}
 use Rattle.host_calls.specs.declared.call.Call.{Call}

@@ -1,12 +1,12 @@
 -- Whether the bytes of an upload are a module that a player may have, and why not.
 use Rattle.std.specs.Prelude.{ℕ, List}
-use Rattle.wasm_module.specs.values.Syntax.{Ops}
-use Rattle.wasm_module.specs.sections.Sections.{Syntax, Spells}
-use Rattle.wasm_module.specs.sections.Limits.{WithinBytes, IsWithin, IsTooLarge}
-use Rattle.wasm_module.specs.declared.host_sig.HostSig.{HostSig}
-use Rattle.wasm_module.specs.declared.sections.module.Limit.{Limit}
-use Rattle.wasm_validate.specs.modules.Floats.{HasNoFloat}
-use Rattle.wasm_validate.specs.modules.Modules.{IsValid}
+use Rattle.wasm_values.specs.Syntax.{Ops}
+use Rattle.wasm_module.specs.Sections.{Syntax, Spells}
+use Rattle.wasm_module.specs.Limits.{WithinBytes, IsWithin, IsTooLarge}
+use Rattle.wasm_values.specs.declared.host_sig.HostSig.{HostSig}
+use Rattle.wasm_module.specs.declared.module.Limit.{Limit}
+use Rattle.wasm_validate.specs.Floats.{HasNoFloat}
+use Rattle.wasm_validate.specs.Modules.{IsValid}
 use Rattle.wasm_link.specs.Linking.{Link, IsFault, IsLinked}
 use Rattle.wasm_link.specs.declared.fault.LinkFault.{LinkFault}
 use Rattle.wasm_link.specs.declared.fault.LinkFault.TheVariants as fault

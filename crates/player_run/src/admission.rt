@@ -1,9 +1,9 @@
 // The judgement of uploads.
 ghost use Rattle.std.specs.Prelude.{◌≡◌, ◌≢◌, ◌⊎◌, ℕ, List, IfOk, IfErr};
-ghost use Rattle.wasm_module.specs.sections.Limits.{IsWithin, WithinBytes};
-ghost use Rattle.wasm_module.specs.sections.Sections.{Spells, module_view};
-ghost use Rattle.wasm_validate.specs.modules.Floats.{HasNoFloat};
-ghost use Rattle.wasm_validate.specs.modules.Modules.{IsValid};
+ghost use Rattle.wasm_module.specs.Limits.{IsWithin, WithinBytes};
+ghost use Rattle.wasm_module.specs.Sections.{Spells, module_view};
+ghost use Rattle.wasm_validate.specs.Floats.{HasNoFloat};
+ghost use Rattle.wasm_validate.specs.Modules.{IsValid};
 ghost use Rattle.wasm_link.specs.Kept.{link_view};
 ghost use Rattle.wasm_link.specs.Linking.{Link};
 ghost use Rattle.player_run.specs.Admission.{Accepts, IsRefused};

@@ -8,7 +8,7 @@ use Rattle.std.proofs.lemmas.List.Sums.{sum_by-cons}
 use Rattle.object_store.specs.declared.account.Account.{Account}
 use Rattle.object_store.specs.declared.world.Room.{Room}
 use Rattle.object_store.specs.Stored.{Stored, AreRising}
-use Rattle.object_store.specs.Tables.{Table}
+use Rattle.room_table.specs.Tables.{Table}
 use Rattle.world_rules.specs.declared.rule.Rule.TheVariants as rules
 use Rattle.world_rules.specs.Rules.{Broken, HasEarlierName, HasOpenCorner, IsRoom}
 use Rattle.world_rules.specs.World.{Frame, ListedRoom, listed_room, listing_of, world_listed}

@@ -9,7 +9,7 @@ use Rattle.object_store.specs.declared.account.Account.{Account}
 use Rattle.object_store.specs.declared.world.Room.{Room}
 use Rattle.object_store.specs.Lending.{with_table}
 use Rattle.object_store.specs.Stored.{Stored, HasAccount, find_account, with_account}
-use Rattle.object_store.specs.Tables.{Table}
+use Rattle.room_table.specs.Tables.{Table}
 use Rattle.rule_check.proofs.Minima.{all_at}
 use Rattle.record_follows.specs.Follows.{account_after, room_after}
 use Rattle.record_follows.specs.inner.Parts.{AreFirst, first_mapped, noted, with_accounts}

@@ -7,7 +7,7 @@ use Rattle.changed_rules.specs.Census.{ArePlaced}
 use Rattle.object_store.specs.declared.world.Room.{Room}
 use Rattle.object_store.specs.Lending.{with_table}
 use Rattle.object_store.specs.Stored.{Stored}
-use Rattle.object_store.specs.Tables.{Table}
+use Rattle.room_table.specs.Tables.{Table}
 use Rattle.record_follows.specs.Follows.{room_after}
 use Rattle.record_follows.specs.inner.Parts.{with_rooms}
 

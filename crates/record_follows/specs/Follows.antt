@@ -4,7 +4,7 @@ use Rattle.std.specs.List.{AllByRecursion, find}
 use Rattle.object_store.specs.declared.account.Account.{Account}
 use Rattle.object_store.specs.declared.world.Room.{Room}
 use Rattle.object_store.specs.Stored.{Stored, HasAccount, find_account}
-use Rattle.object_store.specs.Tables.{Table}
+use Rattle.room_table.specs.Tables.{Table}
 use Rattle.player_run.specs.Admission.{IsAccepted}
 use Rattle.rule_check.specs.Kept.{KeepsObjectRules}
 use Rattle.tick_journal.specs.declared.entries.UploadEntry.{UploadEntry}

@@ -5,7 +5,7 @@ ghost use Rattle.std.specs.List.{AllByRecursion};
 ghost use Rattle.changed_rules.specs.Census.{ArePlaced};
 ghost use Rattle.object_store.specs.declared.world.Room.{Room};
 ghost use Rattle.object_store.specs.Stored.{HasAccount};
-ghost use Rattle.object_store.specs.Tables.{Table};
+ghost use Rattle.room_table.specs.Tables.{Table};
 ghost use Rattle.record_follows.specs.Follows.{room_after};
 ghost use Rattle.record_follows.specs.inner.Parts.{AreFirst, noted, with_accounts, with_rooms};
 

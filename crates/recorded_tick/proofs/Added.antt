@@ -3,7 +3,7 @@ use Rattle.std.proofs.Common.{◌≡◌, ℕ, ◌+◌, ◌<◌, List, [], ◌∷
 use Rattle.std.proofs.lemmas.List.{take_more, length-take}
 use Rattle.object_store.specs.declared.account.Account.{Account}
 use Rattle.object_store.specs.declared.world.Room.{Room}
-use Rattle.object_store.specs.Tables.{Table}
+use Rattle.room_table.specs.Tables.{Table}
 use Rattle.recorded_tick.specs.Recording.{AreChangedAccounts, AreChangedRooms}
 use Rattle.recorded_tick.specs.inner.Steps.{AddsAccount, AddsTable}
 

@@ -7,7 +7,7 @@ use Rattle.game_tables.specs.Limits.{most_memory, most_players, most_rooms}
 use Rattle.object_store.specs.declared.account.Account.{Account}
 use Rattle.object_store.specs.declared.world.Room.{Room}
 use Rattle.object_store.specs.Stored.{AreRising, HasAccount, Stored}
-use Rattle.object_store.specs.Tables.{IsOnTile, IsRising, Table}
+use Rattle.room_table.specs.Tables.{IsOnTile, IsRising, Table}
 use Rattle.player_run.specs.Admission.{IsAccepted}
 use Rattle.rule_check.specs.Kept.{KeepsObjectRules}
 use Rattle.world_rules.specs.Rules.{Broken}

@@ -4,7 +4,7 @@ use Rattle.std.specs.List.{AllByRecursion, find}
 use Rattle.std.specs.Option.{IfSome}
 use Rattle.game_tables.specs.Limits.{most_memory}
 use Rattle.object_store.specs.Stored.{Stored, find_account}
-use Rattle.object_store.specs.Tables.{IsOnTile, IsRising, Table}
+use Rattle.room_table.specs.Tables.{IsOnTile, IsRising, Table}
 use Rattle.object_store.specs.declared.account.Account.{Account}
 use Rattle.object_store.specs.declared.world.Room.{Room}
 use Rattle.world_rules.specs.Sound.{IsSound, IsSoundRoom}

@@ -2,9 +2,9 @@
 use Rattle.std.proofs.Common.{◌≡◌, ℕ, suc, ◌+◌, ◌<◌, List, [], ◌∷◌, map, length, Some, slice_get, refl, sym, ap, ◌∙◌, arith}
 use Rattle.std.specs.List.{AllByRecursion}
 use Rattle.std.proofs.lemmas.List.{length-map}
-use Rattle.object_store.proofs.Keyed.{rises_from_accounts}
-use Rattle.object_store.proofs.Rising.{Rises}
-use Rattle.object_store.specs.Tables.{Table, without_spare}
+use Rattle.object_store.proofs.Accounts.{rises_from_accounts}
+use Rattle.room_table.proofs.Rising.{Rises}
+use Rattle.room_table.specs.Tables.{Table, without_spare}
 use Rattle.object_store.specs.declared.account.Account.{Account}
 use Rattle.object_store.specs.declared.world.Room.{Room}
 use Rattle.object_store.specs.Stored.{AreRising, Stored}

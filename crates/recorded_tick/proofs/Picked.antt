@@ -2,8 +2,8 @@
 use Rattle.std.proofs.Common.{◌≡◌, ℕ, ◌<◌, ◌==◌, ◌⊎◌, Bool, cond, List, [], ◌∷◌, map, Option, Some, None, unwrap_or, inl, inr, refl, sym, ap, subst, ◌∙◌, arith}
 use Rattle.std.specs.List.{AllByRecursion, find}
 use Rattle.std.proofs.lemmas.Bool.{eq-eqb, ne_eqb}
-use Rattle.object_store.proofs.Rising.{Rises}
-use Rattle.object_store.specs.Tables.{Table, without_spare}
+use Rattle.room_table.proofs.Rising.{Rises}
+use Rattle.room_table.specs.Tables.{Table, without_spare}
 use Rattle.object_store.specs.declared.account.Account.{Account}
 use Rattle.object_store.specs.declared.world.Room.{Room}
 use Rattle.tick_journal.specs.TickForms.{IsRisingBy}

@@ -7,10 +7,10 @@ use Rattle.game_tables.specs.Kinds.{is_in_rules}
 use Rattle.game_tables.specs.declared.kind.Kind.{Kind}
 use Rattle.game_tables.specs.declared.kind.Kind.TheVariants.{Source, Controller, Creep, Spawn, Extension, Storage, Container, Road, Pile, Site, Tower, Rampart, Wall, Tombstone}
 use Rattle.game_tables.specs.declared.kind.Part.{Part}
-use Rattle.object_store.specs.declared.object.Object.{Object}
+use Rattle.room_table.specs.declared.object.Object.{Object}
 use Rattle.object_store.specs.declared.world.Room.{Room}
 use Rattle.object_store.specs.Stored.{Stored}
-use Rattle.object_store.specs.Tables.{IsOnTile, IsRising, Table, without_spare}
+use Rattle.room_table.specs.Tables.{IsOnTile, IsRising, Table, without_spare}
 use Rattle.world_rules.specs.Rules.{IsInRangeAs}
 use Rattle.world_rules.specs.Sound.{IsSound}
 use Rattle.room_rules.proofs.Rooms.{all_at, all_found}

@@ -7,7 +7,7 @@ use Rattle.intent_book.specs.declared.player_run.PlayerRun.{PlayerRun}
 use Rattle.object_store.specs.declared.account.Account.{Account}
 use Rattle.object_store.specs.declared.world.Room.{Room}
 use Rattle.object_store.specs.Stored.{Stored}
-use Rattle.object_store.specs.Tables.{Table, without_spare}
+use Rattle.room_table.specs.Tables.{Table, without_spare}
 use Rattle.tick_journal.specs.BaseForms.{world_as_read}
 use Rattle.tick_journal.specs.Contents.{run_entry}
 use Rattle.tick_journal.specs.declared.entries.UploadEntry.{UploadEntry}

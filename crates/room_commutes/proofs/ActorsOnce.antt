@@ -11,7 +11,7 @@ use Rattle.game_tables.specs.Actions.{action_number}
 use Rattle.game_tables.specs.declared.action.Action.{Action}
 use Rattle.game_tables.specs.declared.action.Action.TheVariants.{Move}
 use Rattle.room_terrain.specs.declared.direction.Direction.{Direction}
-use Rattle.object_store.specs.declared.object.Object.{Object}
+use Rattle.room_table.specs.declared.object.Object.{Object}
 use Rattle.intent_book.specs.declared.intent.Intent.{Intent}
 use Rattle.world_rules.specs.World.{World}
 use Rattle.world_rules.specs.Intents.{names_tile, object_at, may_act, acts_for, has_actor, kept, entries_of, is_in, those_in}

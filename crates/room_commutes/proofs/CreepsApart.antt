@@ -6,7 +6,7 @@ use Rattle.std.specs.FinMap.{get, values, entries, entries_sorted, get-entries, 
 use Rattle.std.proofs.lemmas.Bool.{eqb-true, eq-eqb, and_parts, or_from, false_from_ne_true}
 use Rattle.game_tables.specs.declared.kind.Kind.{Kind}
 use Rattle.game_tables.specs.declared.kind.Kind.TheVariants.{Road}
-use Rattle.object_store.specs.declared.object.Object.{Object}
+use Rattle.room_table.specs.declared.object.Object.{Object}
 use Rattle.game_tables.specs.Kinds.{is_creep}
 use Rattle.world_rules.specs.RoomParts.{RoomPart}
 use Rattle.world_rules.specs.Steps.{each}

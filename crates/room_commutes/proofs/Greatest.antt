@@ -5,7 +5,7 @@ use Rattle.std.specs.List.{AllPairs, Contains, filter, list_any, list_all}
 use Rattle.std.proofs.lemmas.Bool.{eqb-true, eq-eqb, ltb-true, ltb-false, and_from, and_parts, false_from_ne_true}
 use Rattle.std.proofs.lemmas.List.Elements.{Contains-get_or}
 use Rattle.std.proofs.lemmas.List.Kept.{AllPairs-filter}
-use Rattle.object_store.specs.declared.object.Object.{Object}
+use Rattle.room_table.specs.declared.object.Object.{Object}
 use Rattle.world_rules.specs.Movement.{Mover, meet, winners, has_mover, is_creep_on, may_move, sets_of, movers}
 use Rattle.room_commutes.specs.Allowed.{AreCreepsOnce, IsLeast, IsAllowed}
 use Rattle.room_commutes.proofs.Members.{Has, has_contained, contains_has, any_has, has_any, all_has, has_all, filter_has, has_filter, append_left, append_right, append_cases, all_of_has, pairs_first, pairs_later, has_map, map_has}

@@ -3,7 +3,7 @@ use Rattle.std.proofs.Common.{◌≡◌, ◌≢◌, ◌⊎◌, inl, inr, ℕ, �
 use Rattle.std.specs.Option.{option_or}
 use Rattle.std.specs.FinMap.{get}
 use Rattle.std.proofs.lemmas.Bool.{eq-eqb, eqb-true, ne_eqb}
-use Rattle.object_store.specs.declared.object.Object.{Object}
+use Rattle.room_table.specs.declared.object.Object.{Object}
 use Rattle.world_rules.specs.World.{Placed, Frame, World, alone}
 use Rattle.world_rules.specs.RoomParts.{RoomPart, part_of, with_part, in_frame, in_room}
 use Rattle.world_rules.specs.RuleBook.{IsNew, StaysInRoom}

@@ -6,7 +6,7 @@ use Rattle.std.specs.List.{list_any}
 use Rattle.std.specs.FinMap.{FinMap, get, entries, entries_sorted, get-entries, get-insert, get-from_entries, is_sorted, same_map, nat_cmp-IsAntisymmetric}
 use Rattle.std.specs.FinMap.Entries.{below_all}
 use Rattle.game_tables.specs.Kinds.{is_creep}
-use Rattle.object_store.specs.declared.object.Object.{Object}
+use Rattle.room_table.specs.declared.object.Object.{Object}
 use Rattle.world_rules.specs.World.{Placed, World}
 use Rattle.world_rules.specs.Crossings.{Place, mirrored, place_of, beyond, is_taken, is_open_in, may_enter, with_place, with_object_on, crossed_to, crossed_by, crossed_over, still, rested, all_rested}
 use Rattle.world_rules.proofs.Keys.{find_mapped, entries_of_sorted}

@@ -4,7 +4,7 @@ use Rattle.std.specs.List.{flat_map, sum_by}
 use Rattle.std.proofs.lemmas.List.Sums.{sum_by-cons, sum_by-append}
 use Rattle.std.proofs.lemmas.List.Sorted.{sum_by-IsPermutation}
 use Rattle.world_rules.specs.RuleBook.{Harm}
-use Rattle.object_store.specs.Tallies.{most_sum}
+use Rattle.room_table.specs.Tallies.{most_sum}
 use Rattle.world_rules.specs.Tick.{total_for, sums_of}
 
 module _ (part : Harm → List (ℕ × ℕ)) (id : ℕ) where

@@ -14,8 +14,8 @@ use Rattle.game_tables.specs.declared.action.Action.TheVariants as actions
 use Rattle.game_tables.specs.declared.kind.Kind.{Kind}
 use Rattle.game_tables.specs.declared.kind.Kind.TheVariants.{Pile}
 use Rattle.object_store.specs.Stored.{Stored}
-use Rattle.object_store.specs.Stores.{free_room}
-use Rattle.object_store.specs.declared.object.Object.{Object}
+use Rattle.room_table.specs.Stores.{free_room}
+use Rattle.room_table.specs.declared.object.Object.{Object}
 use Rattle.intent_book.specs.declared.intent.Intent.{Intent}
 use Rattle.world_rules.specs.World.{Placed, world_of}
 use Rattle.world_rules.specs.RoomParts.{RoomPart, controller_of}

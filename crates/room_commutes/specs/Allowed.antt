@@ -1,7 +1,7 @@
 -- What is said of would-be movers.
 use Rattle.std.specs.Prelude.{◌≡◌, ◌≢◌, ◌≤◌, true, List, Option, Some}
 use Rattle.std.specs.List.{AllPairs, Contains}
-use Rattle.object_store.specs.declared.object.Object.{Object}
+use Rattle.room_table.specs.declared.object.Object.{Object}
 use Rattle.intent_book.specs.declared.intent.Intent.{Intent}
 use Rattle.world_rules.specs.Movement.{Mover, meet, winners, may_move}
 

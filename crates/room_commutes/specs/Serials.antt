@@ -1,7 +1,7 @@
 -- The ids of a world and of a room's part, as they are between ticks.
 use Rattle.std.specs.Prelude.{◌≡◌, ℕ, ◌+◌, ◌*◌, ◌^◌, ◌<◌, Some}
 use Rattle.std.specs.FinMap.{get}
-use Rattle.object_store.specs.declared.object.Object.{Object}
+use Rattle.room_table.specs.declared.object.Object.{Object}
 use Rattle.world_rules.specs.World.{Placed, Frame, World}
 use Rattle.world_rules.specs.RoomParts.{RoomPart}
 

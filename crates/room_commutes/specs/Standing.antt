@@ -1,7 +1,7 @@
 -- Who stands where.
 use Rattle.std.specs.Prelude.{◌≡◌, ◌≢◌, ℕ, ◌==◌, ◌&&◌, Bool, true, false, Option, Some}
 use Rattle.std.specs.FinMap.{get}
-use Rattle.object_store.specs.declared.object.Object.{Object}
+use Rattle.room_table.specs.declared.object.Object.{Object}
 use Rattle.game_tables.specs.Kinds.{is_creep}
 use Rattle.world_rules.specs.World.{Placed, World}
 use Rattle.world_rules.specs.RoomParts.{RoomPart}

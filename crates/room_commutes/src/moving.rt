@@ -2,7 +2,7 @@
 ghost use Rattle.std.specs.Prelude.{◌≡◌, ◌↔◌, ℕ, false, List, Option};
 ghost use Rattle.std.specs.List.{AllPairs, Contains, filter_map};
 ghost use Rattle.game_tables.specs.declared.action.Action.TheVariants.{Move};
-ghost use Rattle.object_store.specs.declared.object.Object.{Object};
+ghost use Rattle.room_table.specs.declared.object.Object.{Object};
 ghost use Rattle.intent_book.specs.declared.intent.Intent.{Intent};
 ghost use Rattle.world_rules.specs.World.{World};
 ghost use Rattle.world_rules.specs.Intents.{kept, entries_of, those_in};

@@ -2,7 +2,7 @@
 ghost use Rattle.std.specs.Prelude.{◌≡◌, ℕ, Option};
 ghost use Rattle.std.specs.Option.{option_and_then};
 ghost use Rattle.std.specs.FinMap.{get};
-ghost use Rattle.object_store.specs.declared.object.Object.{Object};
+ghost use Rattle.room_table.specs.declared.object.Object.{Object};
 ghost use Rattle.world_rules.specs.RoomParts.{RoomPart};
 ghost use Rattle.world_rules.specs.Steps.{each};
 ghost use Rattle.room_commutes.specs.Standing.{AreKeyed, KeepsIds};

@@ -4,8 +4,8 @@ use Rattle.std.specs.FinMap.{get}
 use Rattle.game_tables.specs.Levels.{total_for_next}
 use Rattle.game_tables.specs.declared.action.Action.TheVariants.{ClaimController, Upgrade, Reserve, AttackController}
 use Rattle.intent_book.specs.declared.intent.Intent.{Intent}
-use Rattle.object_store.specs.Tallies.{sum_with}
-use Rattle.object_store.specs.declared.object.Object.{Object}
+use Rattle.room_table.specs.Tallies.{sum_with}
+use Rattle.room_table.specs.declared.object.Object.{Object}
 use Rattle.world_rules.specs.RoomParts.{RoomPart}
 use Rattle.world_rules.specs.Changes.{with_object}
 use Rattle.world_rules.specs.Checks.{parties}

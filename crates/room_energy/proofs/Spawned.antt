@@ -13,7 +13,7 @@ use Rattle.game_tables.specs.declared.kind.Kind.{Kind}
 use Rattle.game_tables.specs.declared.kind.Kind.TheVariants.{Spawn, Extension, Site}
 use Rattle.game_tables.specs.declared.kind.Part.{Part}
 use Rattle.intent_book.specs.declared.intent.Intent.{Intent}
-use Rattle.object_store.specs.declared.object.Object.{Object}
+use Rattle.room_table.specs.declared.object.Object.{Object}
 use Rattle.world_rules.specs.RoomParts.{RoomPart}
 use Rattle.world_rules.specs.Changes.{put, with_new, with_object, without}
 use Rattle.world_rules.specs.Checks.{all_hold, holds_of, standing_at}

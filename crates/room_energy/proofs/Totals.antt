@@ -7,7 +7,7 @@ use Rattle.std.specs.FinMap.{FinMap, find, put, get, insert, remove, entries, va
 use Rattle.std.specs.FinMap.Entries.{below_all, by_order, is_sorted-put}
 use Rattle.std.proofs.lemmas.Bool.{eq-eqb, eqb-true}
 use Rattle.std.proofs.lemmas.List.Sums.{sum_by-cons}
-use Rattle.object_store.specs.declared.object.Object.{Object}
+use Rattle.room_table.specs.declared.object.Object.{Object}
 use Rattle.world_rules.proofs.Keys.{once_of_sorted}
 
 -- the energy of the objects of a list, and of a map

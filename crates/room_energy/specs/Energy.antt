@@ -7,8 +7,8 @@ use Rattle.game_tables.specs.declared.action.Action.{Action}
 use Rattle.game_tables.specs.declared.action.Action.TheVariants.{DropLoad, Dismantle, Harvest, Repair, Build}
 use Rattle.game_tables.specs.declared.action.Action.TheVariants.{Upgrade, SpawnCreep}
 use Rattle.game_tables.specs.declared.kind.Kind.{Kind}
-use Rattle.object_store.specs.Stores.{building_of, free_room}
-use Rattle.object_store.specs.declared.object.Object.{Object}
+use Rattle.room_table.specs.Stores.{building_of, free_room}
+use Rattle.room_table.specs.declared.object.Object.{Object}
 use Rattle.intent_book.specs.declared.intent.Intent.{Intent}
 use Rattle.world_rules.specs.RoomParts.{RoomPart, controller_of}
 use Rattle.world_rules.specs.Changes.{with_object}

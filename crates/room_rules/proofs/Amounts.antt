@@ -11,9 +11,9 @@ use Rattle.game_tables.specs.declared.kind.Kind.{Kind}
 use Rattle.game_tables.specs.declared.kind.Kind.TheVariants.{Source, Creep, Spawn, Extension, Storage, Container, Road, Pile}
 use Rattle.game_tables.specs.declared.kind.Part.{Part}
 use Rattle.game_tables.specs.declared.kind.Part.TheVariants.{Carry}
-use Rattle.object_store.specs.Controllers.{level_of}
-use Rattle.object_store.specs.Stores.{capacity_as}
-use Rattle.object_store.specs.declared.object.Object.{Object}
+use Rattle.room_table.specs.Controllers.{level_of}
+use Rattle.room_table.specs.Stores.{capacity_as}
+use Rattle.room_table.specs.declared.object.Object.{Object}
 use Rattle.world_rules.specs.Loads.{with_less, with_more}
 use Rattle.room_rules.specs.Within.{Stage, between, moved, summed, settled, within, IsCreepMoved, IsCreepWithin, IsInRangeIn}
 

@@ -9,9 +9,9 @@ use Rattle.game_tables.specs.declared.action.Action.TheVariants.{Build}
 use Rattle.game_tables.specs.declared.kind.Kind.{Kind}
 use Rattle.game_tables.specs.declared.kind.Kind.TheVariants.{Creep}
 use Rattle.intent_book.specs.declared.intent.Intent.{Intent}
-use Rattle.object_store.specs.Stores.{building_of}
-use Rattle.object_store.specs.Tables.{first_on}
-use Rattle.object_store.specs.declared.object.Object.{Object}
+use Rattle.room_table.specs.Stores.{building_of}
+use Rattle.room_table.specs.Tables.{first_on}
+use Rattle.room_table.specs.declared.object.Object.{Object}
 use Rattle.world_rules.specs.RoomParts.{RoomPart}
 use Rattle.world_rules.specs.Changes.{with_object, without, with_new, next_id}
 use Rattle.world_rules.specs.Checks.{is_in_the_way}

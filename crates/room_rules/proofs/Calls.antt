@@ -4,10 +4,10 @@ use Rattle.std.specs.Option.{unwrap_or}
 use Rattle.std.proofs.lemmas.Bool.{eqb-true}
 use Rattle.std.specs.Cmp.{nat_cmp_total, unsigned_tied}
 use Rattle.std.specs.FinMap.{get, remove, get-remove}
-use Rattle.object_store.specs.declared.object.Object.{Object}
-use Rattle.object_store.specs.declared.tally.Tally.{Tally}
-use Rattle.object_store.specs.Tables.{Table, IsOnTile, HasId, HasNoId, find_object, with_new, with_object, without, removed}
-use Rattle.object_store.specs.Tallies.{no_tally, tally_of}
+use Rattle.room_table.specs.declared.object.Object.{Object}
+use Rattle.room_table.specs.declared.tally.Tally.{Tally}
+use Rattle.room_table.specs.Tables.{Table, IsOnTile, HasId, HasNoId, find_object, with_new, with_object, without, removed}
+use Rattle.room_table.specs.Tallies.{no_tally, tally_of}
 use Rattle.room_rules.specs.Calls.{IsReady, Keeps, KeepsTallies}
 use Rattle.world_rules.proofs.TableParts.{absent_new, absent_replaced, absent_without, get_table_part, part_without, tiles_filter, tiles_replaced}
 use Rattle.world_rules.specs.RoomParts.{RoomPart, table_part}

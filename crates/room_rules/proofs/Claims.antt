@@ -8,9 +8,9 @@ use Rattle.game_tables.specs.declared.action.Action.TheVariants.{ClaimController
 use Rattle.game_tables.specs.declared.kind.Kind.{Kind}
 use Rattle.game_tables.specs.declared.kind.Kind.TheVariants.{Controller, Creep}
 use Rattle.intent_book.specs.declared.intent.Intent.{Intent}
-use Rattle.object_store.specs.Controllers.{is_another, is_anothers}
-use Rattle.object_store.specs.Tallies.{sum_with}
-use Rattle.object_store.specs.declared.object.Object.{Object}
+use Rattle.room_table.specs.Controllers.{is_another, is_anothers}
+use Rattle.room_table.specs.Tallies.{sum_with}
+use Rattle.room_table.specs.declared.object.Object.{Object}
 use Rattle.world_rules.specs.RoomParts.{RoomPart}
 use Rattle.world_rules.specs.Checks.{is_free_for}
 use Rattle.world_rules.specs.Claims.{claimed, claimed_by, claimed_for, controller_aged_as, controller_attacked, controller_hurt, controllers_aged, downgraded, full_time, hurt_by, live_claim, owned_aged, progressed, refreshed, reservation_aged, reserved, reserved_by, risen, ticks_reserved, upgraded, upgraded_by, work_taken, worked_on}

@@ -8,11 +8,11 @@ use Rattle.game_tables.specs.Kinds.{clash, is_controller, is_creep, is_pile, is_
 use Rattle.game_tables.specs.declared.kind.Kind.{Kind}
 use Rattle.game_tables.specs.declared.kind.Kind.TheVariants.{Creep, Pile}
 use Rattle.room_terrain.specs.Tiles.{IsBorder}
-use Rattle.object_store.specs.declared.object.Object.{Object}
+use Rattle.room_table.specs.declared.object.Object.{Object}
 use Rattle.object_store.specs.declared.world.Room.{Room}
-use Rattle.object_store.specs.Tables.{IsRising, find_object, first_on, with_new, without}
+use Rattle.room_table.specs.Tables.{IsRising, find_object, first_on, with_new, without}
 use Rattle.object_store.specs.Stored.{Stored}
-use Rattle.object_store.proofs.Rising.{all_filter, all_weaker}
+use Rattle.room_table.proofs.Rising.{all_filter, all_weaker}
 use Rattle.world_rules.specs.World.{Placed, Frame, listed_room, world_of}
 use Rattle.world_rules.specs.RoomParts.{RoomPart}
 use Rattle.world_rules.specs.Changes.{without as without_in_part}

@@ -10,7 +10,7 @@ use Rattle.game_tables.specs.declared.action.Action.TheVariants.{DropLoad}
 use Rattle.game_tables.specs.declared.kind.Kind.{Kind}
 use Rattle.game_tables.specs.declared.kind.Kind.TheVariants.{Creep, Pile}
 use Rattle.intent_book.specs.declared.intent.Intent.{Intent}
-use Rattle.object_store.specs.declared.object.Object.{Object}
+use Rattle.room_table.specs.declared.object.Object.{Object}
 use Rattle.game_tables.specs.Kinds.{clash, is_creep, is_pile, is_source, is_controller}
 use Rattle.world_rules.specs.RoomParts.{RoomPart}
 use Rattle.world_rules.specs.Changes.{put, with_object, next_id}

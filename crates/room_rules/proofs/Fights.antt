@@ -6,8 +6,8 @@ use Rattle.game_tables.specs.declared.action.Action.TheVariants.{Dismantle, Suic
 use Rattle.game_tables.specs.declared.kind.Kind.{Kind}
 use Rattle.game_tables.specs.declared.kind.Kind.TheVariants.{Creep}
 use Rattle.intent_book.specs.declared.intent.Intent.{Intent}
-use Rattle.object_store.specs.Stores.{free_room}
-use Rattle.object_store.specs.declared.object.Object.{Object}
+use Rattle.room_table.specs.Stores.{free_room}
+use Rattle.room_table.specs.declared.object.Object.{Object}
 use Rattle.world_rules.specs.RoomParts.{RoomPart, controller_of}
 use Rattle.world_rules.specs.Changes.{with_object}
 use Rattle.world_rules.specs.Checks.{acting, may_take_effect}

@@ -18,8 +18,8 @@ use Rattle.room_terrain.specs.declared.terrain.Ground.TheVariants.{Wall, Plain, 
 use Rattle.room_terrain.specs.Geometry.{dx, dy}
 use Rattle.room_terrain.specs.Tiles.{tile}
 use Rattle.intent_book.specs.declared.intent.Intent.{Intent}
-use Rattle.object_store.specs.declared.object.Object.{Object}
-use Rattle.object_store.specs.Tables.{IsOnTile, is_obstructed}
+use Rattle.room_table.specs.declared.object.Object.{Object}
+use Rattle.room_table.specs.Tables.{IsOnTile, is_obstructed}
 use Rattle.world_rules.specs.RoomParts.{RoomPart}
 use Rattle.world_rules.specs.Checks.{may_take_effect}
 use Rattle.world_rules.specs.Movement.{Mover, has_mover, is_creep_on, winners, movers, stepped, worn_as}

@@ -14,9 +14,9 @@ use Rattle.game_tables.specs.declared.kind.Kind.{Kind}
 use Rattle.game_tables.specs.declared.kind.Kind.TheVariants.{Creep}
 use Rattle.game_tables.specs.declared.kind.Part.{Part}
 use Rattle.game_tables.specs.declared.kind.Part.TheVariants.{Carry}
-use Rattle.object_store.specs.declared.object.Object.{Object}
+use Rattle.room_table.specs.declared.object.Object.{Object}
 use Rattle.object_store.specs.declared.world.Room.{Room}
-use Rattle.object_store.specs.Tables.{IsRising, IsOnTile, find_object}
+use Rattle.room_table.specs.Tables.{IsRising, IsOnTile, find_object}
 use Rattle.world_rules.proofs.Keys.{keyed}
 use Rattle.world_rules.proofs.TableParts.{get_table_part}
 use Rattle.room_rules.specs.Within.{Stage, between, moved, summed, settled, within, IsInRangeIn}

@@ -5,7 +5,7 @@ use Rattle.game_tables.specs.Bodies.{load_room}
 use Rattle.game_tables.specs.Kinds.{hits_max, is_building, is_controller, is_creep, is_source}
 use Rattle.game_tables.specs.declared.kind.Kind.{Kind}
 use Rattle.game_tables.specs.declared.kind.Kind.TheVariants.{Creep, Spawn, Extension, Storage, Container, Road, Pile}
-use Rattle.object_store.specs.declared.object.Object.{Object}
+use Rattle.room_table.specs.declared.object.Object.{Object}
 use Rattle.world_rules.specs.RoomParts.{RoomPart}
 use Rattle.world_rules.specs.RuleBook.{Sums}
 use Rattle.world_rules.specs.Changes.{with_object, without}

@@ -10,9 +10,9 @@ use Rattle.game_tables.specs.Numbers.{kind_number}
 use Rattle.game_tables.specs.declared.action.Action.TheVariants.{Build}
 use Rattle.game_tables.specs.declared.kind.Kind.{Kind}
 use Rattle.game_tables.specs.declared.kind.Kind.TheVariants.{Controller, Spawn, Extension, Storage, Container, Road, Site}
-use Rattle.object_store.specs.Controllers.{is_owned_room}
-use Rattle.object_store.specs.Stores.{building_of, site_kinds}
-use Rattle.object_store.specs.declared.object.Object.{Object}
+use Rattle.room_table.specs.Controllers.{is_owned_room}
+use Rattle.room_table.specs.Stores.{building_of, site_kinds}
+use Rattle.room_table.specs.declared.object.Object.{Object}
 use Rattle.world_rules.specs.RoomParts.{RoomPart, controller_of}
 use Rattle.world_rules.specs.Checks.{would_obstruct}
 use Rattle.world_rules.specs.Rules.{IsFrom1To, IsOnWrongTile, IsProgress}

@@ -8,9 +8,9 @@ use Rattle.std.proofs.lemmas.Bool.{both_ways, eqb-true, ltb-true, ltb-false}
 use Rattle.std.proofs.Math.Bool.{and_comm}
 use Rattle.game_tables.specs.declared.kind.Kind.{Kind}
 use Rattle.game_tables.specs.declared.kind.Kind.TheVariants.{Creep}
-use Rattle.object_store.specs.declared.object.Object.{Object}
+use Rattle.room_table.specs.declared.object.Object.{Object}
 use Rattle.object_store.specs.declared.world.Room.{Room}
-use Rattle.object_store.specs.Tables.{IsOnTile}
+use Rattle.room_table.specs.Tables.{IsOnTile}
 use Rattle.object_store.specs.Stored.{Stored}
 use Rattle.world_rules.specs.declared.rule.Rule.TheVariants as rules
 use Rattle.game_tables.specs.Kinds.{clash, is_creep, is_pile, stands_fixed, is_controller, may_have_owner, obstructs}

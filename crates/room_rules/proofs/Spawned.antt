@@ -17,9 +17,9 @@ use Rattle.room_terrain.specs.Tiles.{tile, IsEdge}
 use Rattle.room_terrain.specs.declared.terrain.Ground.{Ground}
 use Rattle.room_terrain.specs.declared.terrain.Ground.TheVariants.{Wall}
 use Rattle.intent_book.specs.declared.intent.Intent.{Intent}
-use Rattle.object_store.specs.Controllers.{controller_among, is_anothers}
-use Rattle.object_store.specs.declared.object.Object.{Object}
-use Rattle.object_store.specs.Tables.{is_site_free, first_on, is_obstructed, is_on}
+use Rattle.room_table.specs.Controllers.{controller_among, is_anothers}
+use Rattle.room_table.specs.declared.object.Object.{Object}
+use Rattle.room_table.specs.Tables.{is_site_free, first_on, is_obstructed, is_on}
 use Rattle.world_rules.specs.World.{Placed}
 use Rattle.world_rules.specs.RoomParts.{RoomPart}
 use Rattle.world_rules.specs.Changes.{next_id, put, with_new, with_object, without}

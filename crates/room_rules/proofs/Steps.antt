@@ -5,9 +5,9 @@ use Rattle.std.proofs.lemmas.Bool.{ltb-true}
 use Rattle.game_tables.specs.declared.kind.Kind.{Kind}
 use Rattle.game_tables.specs.declared.kind.Kind.TheVariants.{Source, Creep, Spawn, Container, Road, Pile}
 use Rattle.game_tables.specs.Kinds.{full_timer, is_creep, is_controller, is_source, source_capacity, renewal_ticks, pile_decay}
-use Rattle.object_store.specs.declared.object.Object.{Object}
+use Rattle.room_table.specs.declared.object.Object.{Object}
 use Rattle.world_rules.specs.RoomParts.{RoomPart, controller_of}
-use Rattle.object_store.specs.Controllers.{is_owned_room, is_taken}
+use Rattle.room_table.specs.Controllers.{is_owned_room, is_taken}
 use Rattle.world_rules.specs.Upkeep.{aged, aged_as, filled, filled_as, gone, recovered_as, recovered, decays, decay_hits, weathered, standing_or_gone, weathered_as, buildings_decayed, source_renewed, renewed_as, renewed, decayed_as, decayed}
 use Rattle.world_rules.specs.Spawns.{held_by}
 use Rattle.game_tables.specs.Bodies.{live_count}

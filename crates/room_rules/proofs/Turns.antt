@@ -5,7 +5,7 @@ use Rattle.std.specs.Ordering.{nat_cmp, eq_by_cmp}
 use Rattle.std.specs.Cmp.{unsigned_tied}
 use Rattle.std.specs.FinMap.{find, get, entries, keys, get-entries}
 use Rattle.std.proofs.lemmas.Bool.{eqb-true}
-use Rattle.object_store.specs.declared.object.Object.{Object}
+use Rattle.room_table.specs.declared.object.Object.{Object}
 use Rattle.world_rules.specs.RoomParts.{RoomPart}
 use Rattle.world_rules.specs.Steps.{by_object, over_ids, over_objects}
 use Rattle.room_commutes.proofs.Members.{Has}

@@ -3,10 +3,10 @@ use Rattle.std.specs.Prelude.{◌≡◌, ◌≢◌, ℕ, ◌+◌, ◌-◌, ◌*�
 use Rattle.std.specs.List.{AllByRecursion, AllPairs}
 use Rattle.game_tables.specs.Kinds.{clash, is_creep}
 use Rattle.game_tables.specs.Bodies.{most_parts}
-use Rattle.object_store.specs.declared.object.Object.{Object}
-use Rattle.object_store.specs.Tables.{Table, IsOnTile, HasId, HasNoId}
-use Rattle.object_store.specs.Tallies.{sum_with, tally_of}
-use Rattle.object_store.specs.declared.tally.Tally.{Tally}
+use Rattle.room_table.specs.declared.object.Object.{Object}
+use Rattle.room_table.specs.Tables.{Table, IsOnTile, HasId, HasNoId}
+use Rattle.room_table.specs.Tallies.{sum_with, tally_of}
+use Rattle.room_table.specs.declared.tally.Tally.{Tally}
 use Rattle.intent_book.specs.declared.intent.Intent.{Intent}
 use Rattle.world_rules.specs.RuleBook.{Harm, Sums}
 use Rattle.world_rules.specs.Tick.{total_for}

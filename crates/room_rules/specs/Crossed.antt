@@ -3,9 +3,9 @@ use Rattle.std.specs.Prelude.{◌≡◌, ◌≢◌, ℕ, ◌-◌, ◌≤◌, tru
 use Rattle.game_tables.specs.Kinds.{is_creep}
 use Rattle.game_tables.specs.declared.kind.Kind.TheVariants.{Creep}
 use Rattle.room_terrain.specs.Tiles.{IsBorder}
-use Rattle.object_store.specs.declared.object.Object.{Object}
+use Rattle.room_table.specs.declared.object.Object.{Object}
 use Rattle.object_store.specs.declared.world.Room.{Room}
-use Rattle.object_store.specs.Tables.{find_object, first_on, removed, with_new}
+use Rattle.room_table.specs.Tables.{find_object, first_on, removed, with_new}
 use Rattle.object_store.specs.Stored.{Stored}
 use Rattle.world_rules.specs.Rules.{IsWall}
 

@@ -2,7 +2,7 @@
 use Rattle.std.specs.Prelude.{◌≡◌, ℕ, ◌≤◌, ◌==◌, Bool, true, Option, Some, None, slice_get}
 use Rattle.object_store.specs.declared.world.Room.{Room}
 use Rattle.std.specs.List.{count_by}
-use Rattle.object_store.specs.Tables.{IsRising}
+use Rattle.room_table.specs.Tables.{IsRising}
 use Rattle.object_store.specs.Stored.{Stored, AreRising}
 use Rattle.world_rules.specs.World.{world_of}
 use Rattle.world_rules.specs.RuleBook.{Follows}

@@ -5,7 +5,7 @@ use Rattle.game_tables.specs.Fields.{most_energy, most_timer, most_extra}
 use Rattle.game_tables.specs.Kinds.{hits_max}
 use Rattle.game_tables.specs.declared.kind.Kind.{Kind}
 use Rattle.game_tables.specs.declared.kind.Kind.TheVariants.{Controller, Creep}
-use Rattle.object_store.specs.declared.object.Object.{Object}
+use Rattle.room_table.specs.declared.object.Object.{Object}
 use Rattle.world_rules.specs.Rules.{IsFrom1To, IsController, IsCreep, IsInRangeAs}
 
 -- How far a tick is: between ticks; once controllers have lost time and before crossings; once loads fell and

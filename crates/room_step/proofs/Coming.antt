@@ -5,10 +5,10 @@ use Rattle.std.specs.FinMap.{get-empty}
 use Rattle.std.specs.Ordering.{nat_cmp}
 use Rattle.std.proofs.lemmas.List.{length_push, length-map, length-take-le, map_push, take_all, take_more}
 use Rattle.room_terrain.specs.declared.terrain.Ground.{Ground}
-use Rattle.object_store.specs.declared.tally.Tally.{Tally}
+use Rattle.room_table.specs.declared.tally.Tally.{Tally}
 use Rattle.object_store.specs.declared.world.Room.{Room}
-use Rattle.object_store.specs.Tables.{Table, IsRising, HasNoId, find_object}
-use Rattle.object_store.specs.Tallies.{no_tallies, no_tally, tally_of}
+use Rattle.room_table.specs.Tables.{Table, IsRising, HasNoId, find_object}
+use Rattle.room_table.specs.Tallies.{no_tallies, no_tally, tally_of}
 use Rattle.intent_book.specs.declared.intent.Intent.{Intent}
 use Rattle.kept_entries.specs.declared.entries.Entry.{Entry}
 use Rattle.world_rules.specs.RoomParts.{RoomPart, table_part}

@@ -4,7 +4,7 @@ use Rattle.std.specs.List.{AllByRecursion, filter}
 use Rattle.std.proofs.lemmas.List.{length-map}
 use Rattle.game_tables.specs.declared.action.Action.TheVariants.{Move}
 use Rattle.room_terrain.specs.declared.terrain.Ground.{Ground}
-use Rattle.object_store.specs.Tables.{Table}
+use Rattle.room_table.specs.Tables.{Table}
 use Rattle.intent_book.specs.declared.intent.Intent.{Intent}
 use Rattle.kept_entries.specs.declared.entries.Entry.{Entry}
 use Rattle.kept_entries.specs.Turns.{in_turn}

@@ -9,7 +9,7 @@ use Rattle.kept_entries.specs.Split.{AreSplit}
 use Rattle.object_store.specs.declared.account.Account.{Account}
 use Rattle.object_store.specs.declared.world.Room.{Room}
 use Rattle.object_store.specs.Stored.{Stored, HaveRisingTables}
-use Rattle.object_store.specs.Tables.{IsOnTile, IsRising}
+use Rattle.room_table.specs.Tables.{IsOnTile, IsRising}
 use Rattle.world_rules.specs.World.{World, world_of}
 use Rattle.world_rules.specs.Crossings.{crossers}
 use Rattle.world_rules.specs.Intents.{is_in, names_tile, those_in}

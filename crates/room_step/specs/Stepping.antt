@@ -2,7 +2,7 @@
 use Rattle.std.specs.Prelude.{◌≡◌, ℕ, ◌≤◌, ◌==◌, if◌then◌else◌, Bool, true, List}
 use Rattle.std.specs.List.{AllByRecursion}
 use Rattle.room_terrain.specs.declared.terrain.Ground.{Ground}
-use Rattle.object_store.specs.Tables.{Table, IsOnTile, IsRising}
+use Rattle.room_table.specs.Tables.{Table, IsOnTile, IsRising}
 use Rattle.intent_book.specs.declared.intent.Intent.{Intent}
 use Rattle.world_rules.specs.RoomParts.{table_part}
 use Rattle.world_rules.specs.RoomTick.{room_tick}

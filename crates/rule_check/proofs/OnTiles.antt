@@ -9,8 +9,8 @@ use Rattle.std.proofs.lemmas.Option.{same_Some, slice_get_within, get_or_from_sl
 use Rattle.game_tables.specs.declared.kind.Kind.{Kind}
 use Rattle.game_tables.specs.Kinds.{obstructs, is_creep, is_pile, stands_fixed, clash}
 use Rattle.room_terrain.specs.Tiles.{tile}
-use Rattle.object_store.specs.declared.object.Object.{Object}
-use Rattle.object_store.specs.Tables.{IsOnTile}
+use Rattle.room_table.specs.declared.object.Object.{Object}
+use Rattle.room_table.specs.Tables.{IsOnTile}
 use Rattle.rule_check.specs.declared.shared.Taken.{Taken}
 use Rattle.rule_check.specs.inner.Taken.{taken_with, clash_with, any_on, taken_on, nothing}
 use Rattle.rule_check.specs.inner.Checks.{IsLeast}

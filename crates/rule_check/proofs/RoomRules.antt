@@ -4,7 +4,7 @@ use Rattle.std.specs.List.{count_by}
 use Rattle.std.specs.Option.{is_some}
 use Rattle.game_tables.specs.Kinds.{is_controller}
 use Rattle.room_terrain.specs.declared.terrain.Ground.{Ground}
-use Rattle.object_store.specs.declared.object.Object.{Object}
+use Rattle.room_table.specs.declared.object.Object.{Object}
 use Rattle.world_rules.specs.Rules.{IsInRangeAs, IsOnWrongTile}
 use Rattle.rule_check.specs.Kept.{IsBlocked, KeepsRoomRules}
 use Rattle.rule_check.specs.inner.Checks.{IsLeast, AnyObject}

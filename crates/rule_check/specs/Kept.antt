@@ -3,10 +3,10 @@ use Rattle.std.specs.Prelude.{◌≡◌, ◌≢◌, ℕ, ◌<◌, List, Bool, tr
 use Rattle.std.specs.List.{AllByRecursion, count_by}
 use Rattle.game_tables.specs.Kinds.{clash, is_controller}
 use Rattle.room_terrain.specs.declared.terrain.Ground.{Ground}
-use Rattle.object_store.specs.declared.object.Object.{Object}
+use Rattle.room_table.specs.declared.object.Object.{Object}
 use Rattle.object_store.specs.declared.world.Room.{Room}
 use Rattle.object_store.specs.Stored.{Stored}
-use Rattle.object_store.specs.Tables.{IsOnTile}
+use Rattle.room_table.specs.Tables.{IsOnTile}
 use Rattle.world_rules.specs.declared.rule.Rule.{Rule}
 use Rattle.world_rules.specs.declared.rule.Rule.TheVariants.{Counts, RoomTwice, Corner, Serial, IdTwice, Tile}
 use Rattle.world_rules.specs.declared.rule.Rule.TheVariants.{Shared, Owner, Controllers, Range, PlayerTwice}

@@ -1,7 +1,7 @@
 // Whether a stored world keeps the rules.
 ghost use Rattle.std.specs.Prelude.{◌≡◌, map, MatchBool, IfOk};
 ghost use Rattle.std.specs.List.{AllByRecursion};
-ghost use Rattle.object_store.specs.Tables.{IsOnTile, IsRising};
+ghost use Rattle.room_table.specs.Tables.{IsOnTile, IsRising};
 ghost use Rattle.object_store.specs.Stored.{HaveRisingTables};
 ghost use Rattle.world_rules.specs.World.{listed_room, listing_of};
 ghost use Rattle.rule_check.specs.Kept.{AreOnTiles, KeepsAllButCounts, KeepsObjectRules, is_of_objects};

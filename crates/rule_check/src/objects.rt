@@ -1,7 +1,7 @@
 // Rules that each object keeps by itself.
 ghost use Rattle.std.specs.Prelude.{MatchBool};
 ghost use Rattle.std.specs.List.{AllByRecursion};
-ghost use Rattle.object_store.specs.declared.object.Object.{Object};
+ghost use Rattle.room_table.specs.declared.object.Object.{Object};
 ghost use Rattle.rule_check.specs.inner.Checks.{IsLeast, AnyOf, AnyObject};
 ghost use Rattle.rule_check.specs.Views.{IsOrdered};
 ghost use Rattle.rule_check.specs.declared.view.RoomView.{RoomView};

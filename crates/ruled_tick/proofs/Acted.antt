@@ -7,12 +7,12 @@ use Rattle.std.proofs.lemmas.Bool.{eq-eqb, eqb-true}
 use Rattle.std.proofs.Math.Seq.{drop-cons}
 use Rattle.std.proofs.lemmas.List.{length-set, length_push, map_push, take_more}
 use Rattle.std.proofs.lemmas.Option.{slice_get-map, slice_get_within, get_or_from_slice_get}
-use Rattle.object_store.specs.declared.tally.Tally.{Tally}
+use Rattle.room_table.specs.declared.tally.Tally.{Tally}
 use Rattle.object_store.specs.declared.world.Room.{Room}
-use Rattle.object_store.specs.Tables.{Table}
-use Rattle.object_store.specs.Tallies.{no_tallies, no_tally, tally_of}
+use Rattle.room_table.specs.Tables.{Table}
+use Rattle.room_table.specs.Tallies.{no_tallies, no_tally, tally_of}
 use Rattle.object_store.specs.Stored.{Stored}
-use Rattle.object_store.proofs.Moved.{count_head}
+use Rattle.room_table.proofs.Moved.{count_head}
 use Rattle.kept_entries.specs.declared.entries.Entry.{Entry}
 use Rattle.kept_entries.specs.Turns.{placed}
 use Rattle.world_rules.specs.World.{World, ListedRoom, listed_room, world_listed, world_of}

@@ -3,7 +3,7 @@ use Rattle.std.proofs.Common.{◌≡◌, ℕ, ◌+◌, ◌^◌, ◌<◌, ◌≤�
 use Rattle.std.proofs.lemmas.Bool.{eqb-true, eqb-false, ne_eqb}
 use Rattle.std.proofs.lemmas.List.{get_or_default, length-set, length-take-le, take_more}
 use Rattle.std.proofs.lemmas.List.Sums.{count_by-le-length, sum_by-append}
-use Rattle.object_store.proofs.Moved.{count_head}
+use Rattle.room_table.proofs.Moved.{count_head}
 use Rattle.kept_entries.specs.declared.entries.Entry.{Entry}
 use Rattle.ruled_tick.specs.inner.Entered.{many_in, AreCounts}
 

@@ -7,7 +7,7 @@ use Rattle.std.proofs.lemmas.Bool.{eqb-true}
 use Rattle.std.proofs.lemmas.Option.{slice_get_within}
 use Rattle.intent_book.specs.declared.intent.Intent.{Intent}
 use Rattle.object_store.specs.declared.world.Room.{Room}
-use Rattle.object_store.specs.Tables.{Table, HasNoId, find_object}
+use Rattle.room_table.specs.Tables.{Table, HasNoId, find_object}
 use Rattle.object_store.specs.Stored.{Stored}
 use Rattle.world_rules.specs.World.{Frame, listed_room, world_of}
 use Rattle.world_rules.specs.RoomParts.{RoomPart, in_room, objects_in, part_at, part_of}

@@ -7,9 +7,9 @@ use Rattle.std.specs.FinMap.{find, from_entries, get-from_entries, same_map, nat
 use Rattle.std.proofs.lemmas.List.{length-map}
 use Rattle.std.proofs.lemmas.Option.{slice_get-get_or, slice_get-map, slice_get_within, get_or_from_slice_get}
 use Rattle.intent_book.specs.declared.intent.Intent.{Intent}
-use Rattle.object_store.specs.declared.object.Object.{Object}
+use Rattle.room_table.specs.declared.object.Object.{Object}
 use Rattle.object_store.specs.declared.world.Room.{Room}
-use Rattle.object_store.specs.Tables.{IsOnTile}
+use Rattle.room_table.specs.Tables.{IsOnTile}
 use Rattle.object_store.specs.Stored.{Stored}
 use Rattle.game_tables.specs.Kinds.{is_creep}
 use Rattle.world_rules.specs.World.{Placed, Frame, World, framed_from, listed_room, placed_from, world_of}

@@ -8,9 +8,9 @@ use Rattle.std.proofs.lemmas.Bool.{eqb-true}
 use Rattle.std.proofs.lemmas.Option.{slice_get-map}
 use Rattle.game_tables.specs.Kinds.{is_creep}
 use Rattle.intent_book.specs.declared.intent.Intent.{Intent}
-use Rattle.object_store.specs.declared.object.Object.{Object}
+use Rattle.room_table.specs.declared.object.Object.{Object}
 use Rattle.object_store.specs.declared.world.Room.{Room}
-use Rattle.object_store.specs.Tables.{Table, IsRising, IsOnTile, HasId}
+use Rattle.room_table.specs.Tables.{Table, IsRising, IsOnTile, HasId}
 use Rattle.object_store.specs.Stored.{Stored}
 use Rattle.world_rules.specs.World.{Placed, listed_room, placed_from, world_of}
 use Rattle.room_terrain.specs.declared.terrain.Ground.{Ground}
@@ -29,7 +29,7 @@ use Rattle.world_rules.proofs.Lifting.{AreIdsOnce, found_in_room, found_in_table
 use Rattle.world_rules.proofs.Orderly.{book_orderly}
 use Rattle.world_rules.proofs.Parts.{only}
 use Rattle.world_rules.proofs.TableParts.{find_keyed}
-use Rattle.object_store.specs.Tallies.{tally_of}
+use Rattle.room_table.specs.Tallies.{tally_of}
 use Rattle.room_rules.specs.Calls.{AreActorsOnce, AreSumsOf}
 use Rattle.room_rules.specs.Within.{between, within, moved as stage_moved}
 use Rattle.room_rules.specs.RoomRules.{KeepsRoomRules, is_player}

@@ -4,7 +4,7 @@ use Rattle.std.specs.List.{AllByRecursion}
 use Rattle.std.proofs.lemmas.List.{take_all}
 use Rattle.intent_book.specs.declared.intent.Intent.{Intent}
 use Rattle.object_store.specs.declared.world.Room.{Room}
-use Rattle.object_store.specs.Tables.{IsOnTile}
+use Rattle.room_table.specs.Tables.{IsOnTile}
 use Rattle.object_store.specs.Stored.{Stored}
 use Rattle.kept_entries.specs.declared.entries.Entry.{Entry}
 use Rattle.kept_entries.specs.Turns.{in_turn, placed, placed_in, AreKept}

@@ -4,9 +4,9 @@ use Rattle.std.specs.List.{flat_map}
 use Rattle.std.proofs.lemmas.List.Sums.{sum_by-append}
 use Rattle.room_terrain.specs.declared.terrain.Ground.{Ground}
 use Rattle.intent_book.specs.declared.intent.Intent.{Intent}
-use Rattle.object_store.specs.declared.tally.Tally.{Tally}
-use Rattle.object_store.specs.Tables.{Table, IsRising, HasId, HasNoId}
-use Rattle.object_store.specs.Tallies.{most_sum, no_tally, sum_with, tally_of}
+use Rattle.room_table.specs.declared.tally.Tally.{Tally}
+use Rattle.room_table.specs.Tables.{Table, IsRising, HasId, HasNoId}
+use Rattle.room_table.specs.Tallies.{most_sum, no_tally, sum_with, tally_of}
 use Rattle.world_rules.specs.RoomParts.{RoomPart, table_part}
 use Rattle.world_rules.specs.RuleBook.{Harm, Follows}
 use Rattle.world_rules.specs.Tick.{book, sums_of, total_for}

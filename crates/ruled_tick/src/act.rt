@@ -4,7 +4,7 @@ ghost use Rattle.std.specs.Prelude.{IfOk};
 ghost use Rattle.object_store.specs.declared.world.Room.{Room};
 ghost use Rattle.world_rules.specs.RoomParts.{table_part};
 ghost use Rattle.world_rules.specs.Tick.{book};
-ghost use Rattle.object_store.specs.Tables.{AreTalliesOf};
+ghost use Rattle.room_table.specs.Tables.{AreTalliesOf};
 ghost use Rattle.room_rules.specs.Calls.{IsHarmedBy, IsReady, Keeps};
 ghost use Rattle.ruled_tick.specs.inner.Entered.{many_in, wanted_spare, widened, widened_table, AreCounts};
 ghost use Rattle.ruled_tick.specs.inner.Entered.{IsGained, IsRuled, IsRuledIn};

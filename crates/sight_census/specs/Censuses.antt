@@ -2,7 +2,7 @@
 use Rattle.std.specs.Prelude.{ℕ, ◌-◌, ◌^◌, ◌==◌, ◌&&◌, min, if◌then◌else◌, Bool, List, map}
 use Rattle.std.specs.List.{count_by}
 use Rattle.game_tables.specs.Kinds.{is_controller}
-use Rattle.object_store.specs.declared.object.Object.{Object}
+use Rattle.room_table.specs.declared.object.Object.{Object}
 use Rattle.world_rules.specs.Sites.{count_of}
 use Rattle.world_rules.specs.Spawns.{held_by}
 use Rattle.visible_view.specs.Sights.{SeenRoom, Sight}

@@ -14,9 +14,9 @@ use Rattle.game_tables.specs.declared.action.Action.TheVariants.{DropLoad, Trans
 use Rattle.game_tables.specs.declared.kind.Kind.{Kind}
 use Rattle.game_tables.specs.declared.kind.Kind.TheVariants as kinds
 use Rattle.game_tables.specs.Levels.{total_for_next}
-use Rattle.object_store.specs.Tallies.{sum_with}
-use Rattle.object_store.specs.Stores.{building_of, free_room}
-use Rattle.object_store.specs.declared.object.Object.{Object}
+use Rattle.room_table.specs.Tallies.{sum_with}
+use Rattle.room_table.specs.Stores.{building_of, free_room}
+use Rattle.room_table.specs.declared.object.Object.{Object}
 use Rattle.intent_book.specs.declared.intent.Intent.{Intent}
 use Rattle.world_rules.specs.Intents.{names_tile}
 use Rattle.world_rules.specs.RoomParts.{RoomPart, controller_of}

@@ -9,8 +9,8 @@ use Rattle.game_tables.specs.Kinds.{pile_decay, renewal_ticks}
 use Rattle.game_tables.specs.Kinds.{full_timer, is_building, is_creep, is_site, source_capacity}
 use Rattle.game_tables.specs.declared.kind.Kind.{Kind}
 use Rattle.game_tables.specs.declared.kind.Kind.TheVariants as kinds
-use Rattle.object_store.specs.Controllers.{is_owned_room, is_taken}
-use Rattle.object_store.specs.declared.object.Object.{Object}
+use Rattle.room_table.specs.Controllers.{is_owned_room, is_taken}
+use Rattle.room_table.specs.declared.object.Object.{Object}
 use Rattle.intent_book.specs.declared.intent.Intent.{Intent}
 use Rattle.world_rules.specs.RoomParts.{RoomPart, controller_of}
 use Rattle.world_rules.specs.RuleBook.{Step, Sums}

@@ -7,7 +7,7 @@ use Rattle.std.specs.Cmp.{nat_cmp_total, unsigned_tied}
 use Rattle.std.specs.FinMap.{get, keys, get-insert}
 use Rattle.std.proofs.lemmas.Bool.{eqb-true}
 use Rattle.game_tables.specs.Kinds.{is_creep}
-use Rattle.object_store.specs.declared.object.Object.{Object}
+use Rattle.room_table.specs.declared.object.Object.{Object}
 use Rattle.world_rules.specs.Crossings.{Place, all_rested, beyond, crossed, crossed_by, crossed_over, crossed_to, crossers, may_enter, rested, still, with_object_on, with_place}
 use Rattle.world_rules.specs.RoomParts.{RoomPart, in_every_room, in_frame, in_room, in_rooms, part_of}
 use Rattle.world_rules.specs.RuleBook.{Step, Sums}

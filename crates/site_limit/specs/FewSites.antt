@@ -1,7 +1,7 @@
 -- How many sites players have.
 use Rattle.std.specs.Prelude.{ℕ, ◌==◌, ◌&&◌, Bool}
 use Rattle.game_tables.specs.Kinds.{is_site}
-use Rattle.object_store.specs.declared.object.Object.{Object}
+use Rattle.room_table.specs.declared.object.Object.{Object}
 use Rattle.intent_book.specs.declared.intent.Intent.{Intent}
 use Rattle.object_store.specs.Stored.{Stored}
 use Rattle.world_rules.specs.Intents.{names_tile}

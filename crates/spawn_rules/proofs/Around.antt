@@ -4,7 +4,7 @@ use Rattle.std.specs.List.{cons_option, filter_map, find}
 use Rattle.std.specs.Option.{is_some}
 use Rattle.room_terrain.specs.declared.direction.Direction.{Direction}
 use Rattle.room_terrain.specs.declared.direction.Direction.TheVariants.{Top, TopRight, Right, BottomRight, Bottom, BottomLeft, Left, TopLeft}
-use Rattle.object_store.specs.declared.object.Object.{Object}
+use Rattle.room_table.specs.declared.object.Object.{Object}
 use Rattle.world_rules.specs.RoomParts.{RoomPart}
 use Rattle.world_rules.specs.Moves.{direction_of, directions, tile_towards}
 use Rattle.world_rules.specs.Spawns.{is_free_for_creep, tile_for}

@@ -6,8 +6,8 @@ use Rattle.std.proofs.lemmas.Bool.{both_ways, cases_lt, leb-true, ne_eqb}
 use Rattle.room_terrain.specs.declared.terrain.Ground.{Ground}
 use Rattle.game_tables.specs.Numbers.{kind_number}
 use Rattle.game_tables.specs.declared.kind.Kind.{Kind}
-use Rattle.object_store.specs.Stores.{site_kinds}
-use Rattle.object_store.specs.Tables.{Table, IsOnTile, removed, with_new}
+use Rattle.room_table.specs.Stores.{site_kinds}
+use Rattle.room_table.specs.Tables.{Table, IsOnTile, removed, with_new}
 use Rattle.intent_book.specs.declared.intent.Intent.{Intent}
 use Rattle.world_rules.specs.RoomParts.{RoomPart, table_part}
 use Rattle.world_rules.specs.Changes.{with_new as new_in_part, without as without_in_part}

@@ -3,9 +3,9 @@ use Rattle.std.proofs.Common.{◌≡◌, ℕ, ◌+◌, ◌-◌, ◌*◌, ◌^◌
 use Rattle.std.specs.List.{filter}
 use Rattle.room_terrain.specs.declared.terrain.Ground.{Ground}
 use Rattle.game_tables.specs.declared.kind.Kind.TheVariants.{Spawn}
-use Rattle.object_store.specs.declared.object.Object.{Object}
-use Rattle.object_store.specs.Tables.{Table, IsOnTile, IsRising, HasNoId, find_object, with_new, with_object}
-use Rattle.object_store.proofs.Rising.{all_filter, rises-replaced}
+use Rattle.room_table.specs.declared.object.Object.{Object}
+use Rattle.room_table.specs.Tables.{Table, IsOnTile, IsRising, HasNoId, find_object, with_new, with_object}
+use Rattle.room_table.proofs.Rising.{all_filter, rises-replaced}
 use Rattle.world_rules.specs.RoomParts.{table_part}
 use Rattle.world_rules.specs.Changes.{with_new as new_in_part, with_object as with_in_part}
 use Rattle.world_rules.specs.Spawns.{hatched_as, hatched_on, newborn, tile_for}

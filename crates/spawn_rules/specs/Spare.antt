@@ -3,7 +3,7 @@ use Rattle.std.specs.Prelude.{ℕ, ◌==◌, Bool, List, length}
 use Rattle.std.specs.List.{filter}
 use Rattle.game_tables.specs.Numbers.{kind_number}
 use Rattle.game_tables.specs.declared.kind.Kind.TheVariants.{Spawn}
-use Rattle.object_store.specs.declared.object.Object.{Object}
+use Rattle.room_table.specs.declared.object.Object.{Object}
 
 abbrev pub is_spawn : Object → Bool
 is_spawn object = kind_number object.kind == kind_number Spawn

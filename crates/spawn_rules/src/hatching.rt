@@ -2,7 +2,7 @@
 ghost use Rattle.std.specs.Prelude.{◌≡◌, ◌+◌, ◌<◌, Option, IfSome, Some};
 ghost use Rattle.std.specs.Option.{is_some};
 ghost use Rattle.game_tables.specs.declared.kind.Kind.TheVariants.{Spawn};
-ghost use Rattle.object_store.specs.Tables.{find_object};
+ghost use Rattle.room_table.specs.Tables.{find_object};
 ghost use Rattle.world_rules.specs.RoomParts.{table_part};
 ghost use Rattle.world_rules.specs.Moves.{direction_of};
 ghost use Rattle.world_rules.specs.Spawns.{hatched, hatched_as, hatched_on, is_free_for_creep, newborn};

@@ -3,7 +3,7 @@ ghost use Rattle.std.specs.Prelude.{◌≡◌, ◌<◌, ◌≤◌, List, Some, l
 ghost use Rattle.std.specs.FinMap.{values};
 ghost use Rattle.std.specs.List.{AllByRecursion};
 ghost use Rattle.room_terrain.specs.declared.terrain.Ground.{Ground};
-ghost use Rattle.object_store.specs.Tables.{IsOnTile};
+ghost use Rattle.room_table.specs.Tables.{IsOnTile};
 ghost use Rattle.world_rules.specs.RoomParts.{table_part};
 ghost use Rattle.world_rules.specs.Checks.{all_hold, standing_at};
 ghost use Rattle.world_rules.specs.Spawns.{begun_with, creep_begun, paid, payers, spawn_checks, those_of};

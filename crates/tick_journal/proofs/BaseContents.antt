@@ -8,7 +8,7 @@ use Rattle.byteorder.specs.Endian.{little_bytes}
 use Rattle.object_store.specs.declared.account.Account.{Account}
 use Rattle.object_store.specs.declared.world.Room.{Room}
 use Rattle.object_store.specs.Stored.{Stored}
-use Rattle.object_store.specs.Tables.{Table, without_spare}
+use Rattle.room_table.specs.Tables.{Table, without_spare}
 use Rattle.room_terrain.specs.Names.{IsInRange, IsSideInRange}
 use Rattle.room_terrain.specs.Tiles.{ground_number}
 use Rattle.room_terrain.specs.declared.name.RoomName.{RoomName}

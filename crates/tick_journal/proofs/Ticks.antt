@@ -4,7 +4,7 @@ use Rattle.std.proofs.lemmas.List.{append-nil, length-map}
 use Rattle.std.specs.List.{AllByRecursion}
 use Rattle.byte_fields.specs.Front.{Begins, BeginsNone}
 use Rattle.byteorder.specs.Endian.{little_bytes}
-use Rattle.object_store.specs.Tables.{Table, without_spare}
+use Rattle.room_table.specs.Tables.{Table, without_spare}
 use Rattle.object_store.specs.declared.account.Account.{Account}
 use Rattle.world_bytes.specs.Forms.{HasRoomForm, SpellsRoom, account_bytes, room_bytes}
 use Rattle.world_bytes.specs.inner.Rows.{Leads, LeadsNone}

@@ -6,7 +6,7 @@ use Rattle.room_terrain.specs.Names.{IsInRange}
 use Rattle.object_store.specs.declared.account.Account.{Account}
 use Rattle.object_store.specs.declared.world.Room.{Room}
 use Rattle.object_store.specs.Stored.{Stored}
-use Rattle.object_store.specs.Tables.{without_spare}
+use Rattle.room_table.specs.Tables.{without_spare}
 use Rattle.world_bytes.specs.Forms.{HasRoomForm}
 use Rattle.tick_journal.specs.Accounts.{HasAccountsForm}
 use Rattle.tick_journal.specs.Contents.{base_content}

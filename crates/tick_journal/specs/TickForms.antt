@@ -7,7 +7,7 @@ use Rattle.intent_book.specs.declared.intent.Intent.{Intent}
 use Rattle.intent_book.specs.declared.player_run.RunOutcome.{RunOutcome}
 use Rattle.intent_book.specs.declared.player_run.RunOutcome.TheVariants.{Finished, Trapped, Spent}
 use Rattle.intent_book.specs.declared.refusal.Refusal.TheVariants as refusals
-use Rattle.object_store.specs.Tables.{Table, without_spare}
+use Rattle.room_table.specs.Tables.{Table, without_spare}
 use Rattle.world_bytes.specs.Forms.{HasIntentForm, HasRoomForm}
 use Rattle.tick_journal.specs.Accounts.{HasAccountsForm}
 use Rattle.tick_journal.specs.Contents.{tick_content}

@@ -3,9 +3,9 @@ use Rattle.std.proofs.Common.{◌≡◌, ℕ, ◌*◌, ◌≤◌, ◌||◌, Bool
 use Rattle.std.specs.List.{filter}
 use Rattle.std.proofs.lemmas.List.Sums.{length-filter}
 use Rattle.game_tables.specs.Kinds.{is_building, is_creep}
-use Rattle.object_store.specs.declared.object.Object.{Object}
-use Rattle.object_store.specs.Tables.{Table}
-use Rattle.object_store.specs.Tallies.{tally_of}
+use Rattle.room_table.specs.declared.object.Object.{Object}
+use Rattle.room_table.specs.Tables.{Table}
+use Rattle.room_table.specs.Tallies.{tally_of}
 use Rattle.world_rules.specs.RuleBook.{Sums}
 use Rattle.room_rules.specs.Calls.{AreSumsOf, IsReadyFor}
 use Rattle.upkeep_rules.specs.Falling.{many_fighters, may_fall}

@@ -3,7 +3,7 @@ use Rattle.std.proofs.Common.{◌≡◌, ◌≢◌, ℕ, ◌-◌, ◌==◌, max,
 use Rattle.game_tables.specs.Kinds.{renewal_ticks, pile_decay}
 use Rattle.game_tables.specs.declared.kind.Kind.{Kind}
 use Rattle.game_tables.specs.declared.kind.Kind.TheVariants.{Source, Controller, Creep, Pile}
-use Rattle.object_store.specs.declared.object.Object.{Object}
+use Rattle.room_table.specs.declared.object.Object.{Object}
 use Rattle.world_rules.specs.Claims.{controller_aged_as, downgraded, owned_aged, reservation_aged}
 use Rattle.world_rules.specs.Upkeep.{recovered_as, renewed_as, decayed_as, source_renewed, pile_decayed}
 use Rattle.world_rules.proofs.Each.{KeepsIds}

@@ -5,8 +5,8 @@ use Rattle.game_tables.specs.Bodies.{load_room}
 use Rattle.game_tables.specs.Kinds.{full_timer, is_building, is_creep}
 use Rattle.game_tables.specs.declared.kind.Kind.{Kind}
 use Rattle.game_tables.specs.declared.kind.Kind.TheVariants.{Creep, Pile}
-use Rattle.object_store.specs.declared.object.Object.{Object}
-use Rattle.object_store.specs.declared.tally.Tally.{Tally}
+use Rattle.room_table.specs.declared.object.Object.{Object}
+use Rattle.room_table.specs.declared.tally.Tally.{Tally}
 use Rattle.world_rules.specs.RoomParts.{RoomPart}
 use Rattle.world_rules.specs.RuleBook.{Sums}
 use Rattle.world_rules.specs.Changes.{with_object}

@@ -4,9 +4,9 @@ use Rattle.std.specs.List.{cons_option, filter_map}
 use Rattle.std.specs.FinMap.{get, from_entries}
 use Rattle.std.proofs.lemmas.Bool.{cases_eq, eq-eqb, ne_eqb}
 use Rattle.room_terrain.specs.declared.terrain.Ground.{Ground}
-use Rattle.object_store.specs.declared.object.Object.{Object}
-use Rattle.object_store.specs.Tables.{Table, IsRising, HasNoId, find_object}
-use Rattle.object_store.specs.Tallies.{Tallies}
+use Rattle.room_table.specs.declared.object.Object.{Object}
+use Rattle.room_table.specs.Tables.{Table, IsRising, HasNoId, find_object}
+use Rattle.room_table.specs.Tallies.{Tallies}
 use Rattle.world_rules.specs.RoomParts.{RoomPart, table_part}
 use Rattle.world_rules.specs.Steps.{each}
 use Rattle.world_rules.proofs.Each.{KeepsIds, each_is_at_once, kept}

@@ -6,12 +6,12 @@ use Rattle.std.proofs.lemmas.Bool.{both_ways}
 use Rattle.std.proofs.lemmas.List.{append-nil, length-append}
 use Rattle.std.proofs.lemmas.List.Elements.{filter_map-append}
 use Rattle.std.proofs.lemmas.Option.{get_or_from_slice_get, slice_get_within}
-use Rattle.object_store.specs.declared.object.Object.{Object}
+use Rattle.room_table.specs.declared.object.Object.{Object}
 use Rattle.std.specs.FinMap.{remove}
-use Rattle.object_store.specs.Tables.{Table, IsRising, IsOnTile, find_object, removed, with_object, without}
-use Rattle.object_store.specs.Tallies.{Tallies}
-use Rattle.object_store.proofs.Keyed.{rises_from_objects}
-use Rattle.object_store.proofs.Rising.{find-at, remove-at, set-at}
+use Rattle.room_table.specs.Tables.{Table, IsRising, IsOnTile, find_object, removed, with_object, without}
+use Rattle.room_table.specs.Tallies.{Tallies}
+use Rattle.room_table.proofs.Keyed.{rises_from_objects}
+use Rattle.room_table.proofs.Rising.{find-at, remove-at, set-at}
 use Rattle.upkeep_rules.specs.declared.pass.Step.{Step}
 use Rattle.upkeep_rules.specs.inner.Passed.{left_by, IsPassedTo}
 use Rattle.upkeep_rules.proofs.Lefts.{left-id, left_stays}

@@ -4,8 +4,8 @@ use Rattle.std.specs.List.{AllByRecursion}
 use Rattle.std.proofs.lemmas.Bool.{ne_eqb}
 use Rattle.std.proofs.lemmas.List.Sums.{count_by-le-length}
 use Rattle.game_tables.specs.Kinds.{is_building, is_creep}
-use Rattle.object_store.specs.declared.object.Object.{Object}
-use Rattle.object_store.specs.Tables.{Table, IsOnTile, HasNoId, find_object}
+use Rattle.room_table.specs.declared.object.Object.{Object}
+use Rattle.room_table.specs.Tables.{Table, IsOnTile, HasNoId, find_object}
 use Rattle.world_rules.specs.Upkeep.{decays}
 use Rattle.room_rules.specs.Calls.{IsReadyFor}
 use Rattle.upkeep_rules.specs.Falling.{may_fall, may_leave}

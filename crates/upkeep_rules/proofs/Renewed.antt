@@ -5,9 +5,9 @@ use Rattle.game_tables.specs.Kinds.{source_capacity}
 use Rattle.game_tables.specs.declared.kind.Kind.{Kind}
 use Rattle.game_tables.specs.declared.kind.Kind.TheVariants.{Source}
 use Rattle.room_terrain.specs.declared.terrain.Ground.{Ground}
-use Rattle.object_store.specs.Controllers.{controller_among, is_taken}
-use Rattle.object_store.specs.declared.object.Object.{Object}
-use Rattle.object_store.specs.Tables.{Table, IsOnTile, IsRising}
+use Rattle.room_table.specs.Controllers.{controller_among, is_taken}
+use Rattle.room_table.specs.declared.object.Object.{Object}
+use Rattle.room_table.specs.Tables.{Table, IsOnTile, IsRising}
 use Rattle.world_rules.specs.RoomParts.{table_part}
 use Rattle.world_rules.specs.Steps.{each}
 use Rattle.world_rules.specs.Upkeep.{decays, renewed, renewed_as, source_renewed}

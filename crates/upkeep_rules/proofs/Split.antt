@@ -4,10 +4,10 @@ use Rattle.std.specs.List.{AllByRecursion, filter}
 use Rattle.std.proofs.lemmas.Bool.{cases_eq, eq-eqb, eqb-true, ne_eqb, lt-ltb, lt-leb, le-ltb, le-leb, ltb-true}
 use Rattle.std.proofs.lemmas.List.{append-nil, length-append}
 use Rattle.std.proofs.lemmas.List.Elements.{filter-append}
-use Rattle.object_store.specs.declared.object.Object.{Object}
-use Rattle.object_store.specs.Tables.{IsRising, HasNoId, find_object, with_object, with_new}
-use Rattle.object_store.proofs.Keyed.{objects_from_rises, rises_from_objects}
-use Rattle.object_store.proofs.Rising.{all_both, all_filter, all_weaker, rises-filter}
+use Rattle.room_table.specs.declared.object.Object.{Object}
+use Rattle.room_table.specs.Tables.{IsRising, HasNoId, find_object, with_object, with_new}
+use Rattle.room_table.proofs.Keyed.{objects_from_rises, rises_from_objects}
+use Rattle.room_table.proofs.Rising.{all_both, all_filter, all_weaker, rises-filter}
 use Rattle.upkeep_rules.specs.inner.Worn.{place_past, place_behind}
 
 abbrev id_of : Object → ℕ

@@ -8,12 +8,12 @@ use Rattle.std.proofs.lemmas.Bool.{cases_eq, ne_eqb}
 use Rattle.std.proofs.lemmas.List.{length-append}
 use Rattle.std.proofs.lemmas.List.Elements.{filter-append}
 use Rattle.room_terrain.specs.declared.terrain.Ground.{Ground}
-use Rattle.object_store.specs.declared.object.Object.{Object}
-use Rattle.object_store.specs.declared.tally.Tally.{Tally}
-use Rattle.object_store.specs.Tables.{Table, IsOnTile, IsRising, HasId, HasNoId, find_object, removed, with_object, with_new, without}
-use Rattle.object_store.specs.Tallies.{no_tally, tally_of}
-use Rattle.object_store.proofs.Keyed.{objects_from_rises, rises_from_objects}
-use Rattle.object_store.proofs.Rising.{all_both, all_filter, all_weaker, rises-replaced}
+use Rattle.room_table.specs.declared.object.Object.{Object}
+use Rattle.room_table.specs.declared.tally.Tally.{Tally}
+use Rattle.room_table.specs.Tables.{Table, IsOnTile, IsRising, HasId, HasNoId, find_object, removed, with_object, with_new, without}
+use Rattle.room_table.specs.Tallies.{no_tally, tally_of}
+use Rattle.room_table.proofs.Keyed.{objects_from_rises, rises_from_objects}
+use Rattle.room_table.proofs.Rising.{all_both, all_filter, all_weaker, rises-replaced}
 use Rattle.world_rules.specs.RoomParts.{RoomPart, table_part}
 use Rattle.world_rules.specs.RuleBook.{Sums}
 use Rattle.world_rules.specs.Changes.{with_object as with_in_part, without as without_in_part}

@@ -2,7 +2,7 @@
 use Rattle.std.specs.Prelude.{ℕ, ◌*◌, ◌&&◌, ◌||◌, nat_lt, List}
 use Rattle.game_tables.specs.Kinds.{is_building, is_creep}
 use Rattle.std.specs.List.{count_by}
-use Rattle.object_store.specs.declared.object.Object.{Object}
+use Rattle.room_table.specs.declared.object.Object.{Object}
 use Rattle.world_rules.specs.Upkeep.{decays}
 
 -- how many containers and roads hold energy, which falls when they are gone

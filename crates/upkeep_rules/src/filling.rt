@@ -2,7 +2,7 @@
 ghost use Rattle.std.specs.Prelude.{◌≡◌, ◌<◌, min, List, length};
 ghost use Rattle.std.specs.List.{AllByRecursion};
 ghost use Rattle.room_terrain.specs.declared.terrain.Ground.{Ground};
-ghost use Rattle.object_store.specs.Tables.{IsOnTile, IsRising};
+ghost use Rattle.room_table.specs.Tables.{IsOnTile, IsRising};
 ghost use Rattle.world_rules.specs.RoomParts.{table_part};
 ghost use Rattle.world_rules.specs.Upkeep.{filled, spawn_capacity};
 ghost use Rattle.world_rules.specs.Spawns.{held_by};

@@ -2,8 +2,8 @@
 ghost use Rattle.std.specs.Prelude.{◌≡◌, List};
 ghost use Rattle.std.specs.List.{AllByRecursion};
 ghost use Rattle.room_terrain.specs.declared.terrain.Ground.{Ground};
-ghost use Rattle.object_store.specs.Tables.{IsOnTile};
-ghost use Rattle.object_store.specs.Tallies.{no_tallies};
+ghost use Rattle.room_table.specs.Tables.{IsOnTile};
+ghost use Rattle.room_table.specs.Tallies.{no_tallies};
 ghost use Rattle.world_rules.specs.RoomParts.{table_part};
 ghost use Rattle.world_rules.specs.RuleBook.{Sums};
 ghost use Rattle.world_rules.specs.Claims.{controllers_aged};

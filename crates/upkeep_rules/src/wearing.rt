@@ -3,9 +3,9 @@ ghost use Rattle.std.specs.Prelude.{◌≡◌, ◌<◌, ◌≤◌, ◌+◌, true
 ghost use Rattle.std.specs.List.{count_by};
 ghost use Rattle.room_terrain.specs.declared.terrain.Ground.{Ground};
 ghost use Rattle.game_tables.specs.declared.kind.Kind.TheVariants.{Creep};
-ghost use Rattle.object_store.specs.declared.object.Object.{Object};
-ghost use Rattle.object_store.specs.Tables.{IsOnTile, IsRising};
-ghost use Rattle.object_store.specs.Tallies.{no_tally};
+ghost use Rattle.room_table.specs.declared.object.Object.{Object};
+ghost use Rattle.room_table.specs.Tables.{IsOnTile, IsRising};
+ghost use Rattle.room_table.specs.Tallies.{no_tally};
 ghost use Rattle.upkeep_rules.specs.declared.wearing.Wear.TheVariants.{Strike, Unload, Age, Weather};
 ghost use Rattle.world_rules.specs.RoomParts.{table_part};
 ghost use Rattle.world_rules.specs.RuleBook.{Sums};

@@ -11,20 +11,20 @@ use Rattle.std.proofs.lemmas.Map.Steps.{length-le_from_distinct_below}
 use Rattle.game_tables.specs.declared.kind.Kind.{Kind}
 use Rattle.game_tables.specs.declared.kind.Kind.TheVariants.{Source, Controller, Creep, Spawn, Extension, Storage, Container, Road, Pile, Site, Tower, Rampart, Wall, Tombstone}
 use Rattle.game_tables.specs.Limits.{most_rooms}
-use Rattle.object_store.specs.declared.object.Object.{Object}
+use Rattle.room_table.specs.declared.object.Object.{Object}
 use Rattle.object_store.specs.declared.world.Room.{Room}
 use Rattle.object_store.specs.Stored.{Stored}
-use Rattle.object_store.proofs.Rising.{Rises}
+use Rattle.room_table.proofs.Rising.{Rises}
 use Rattle.world_rules.specs.declared.rule.Rule.TheVariants.{Range, Shared}
 use Rattle.game_tables.specs.Kinds.{is_creep, is_pile, stands_fixed, clash}
 use Rattle.world_rules.specs.Rules.{Stands, IsInRangeAs}
-use Rattle.object_store.specs.Tables.{IsOnTile}
+use Rattle.room_table.specs.Tables.{IsOnTile}
 use Rattle.world_rules.specs.Sound.{IsSound, IsSoundRoom}
 use Rattle.world_rules.specs.World.{Placed, World, placed, placed_from, listed_room, listing_of, world_of}
 use Rattle.world_rules.proofs.Entries.{Entries}
 use Rattle.visible_view.specs.inner.Gathered.{is_seen, from_each, room_if_seen}
 use Rattle.visible_view.specs.Sights.{SeenRoom}
-use Rattle.object_store.proofs.Moved.{all_from_within}
+use Rattle.room_table.proofs.Moved.{all_from_within}
 use Rattle.visible_view.proofs.Seen.{rises_from_sorted, entry_at, moved, stands, counted_at, counted_stored, counts_entry}
 
 -- ---- what may share a tile

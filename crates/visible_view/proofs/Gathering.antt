@@ -7,10 +7,10 @@ use Rattle.std.specs.Prelude.{slice_get}
 use Rattle.std.proofs.lemmas.List.{map-append, append-nil, length-append}
 use Rattle.std.proofs.lemmas.List.Folds.{find-append}
 use Rattle.std.proofs.lemmas.List.Sums.{sum_by-cons, sum_by_push}
-use Rattle.object_store.specs.declared.object.Object.{Object}
+use Rattle.room_table.specs.declared.object.Object.{Object}
 use Rattle.object_store.specs.declared.world.Room.{Room}
 use Rattle.object_store.proofs.Accounts.{all_push}
-use Rattle.object_store.proofs.Rising.{Rises, all_weaker}
+use Rattle.room_table.proofs.Rising.{Rises, all_weaker}
 use Rattle.game_tables.specs.Kinds.{is_building, is_controller, is_creep, is_site}
 use Rattle.visible_view.specs.Sights.{SeenRoom, gives_sight}
 use Rattle.visible_view.specs.inner.Gathered.{shown_room, is_controller_of, is_seen, is_site_of, from_each, kept_objects, objects_if_seen, room_if_seen, controllers_at, sites_at, KeepsRoomIf, IsAdded, IsGathered}

@@ -5,8 +5,8 @@ use Rattle.std.specs.List.{AllByRecursion, cons_option, filter, filter_map}
 use Rattle.std.specs.Option.{unwrap_or}
 use Rattle.std.specs.List.Sorted.{IsPartitionPoint}
 use Rattle.std.proofs.lemmas.Option.{slice_get-map, slice_get_within}
-use Rattle.object_store.specs.declared.standing.Standing.{Standing}
-use Rattle.object_store.proofs.Rising.{Rises, absent_there}
+use Rattle.room_table.specs.declared.standing.Standing.{Standing}
+use Rattle.room_table.proofs.Rising.{Rises, absent_there}
 use Rattle.world_rules.specs.World.{Placed, shown}
 use Rattle.world_roster.specs.Rosters.{id_in}
 use Rattle.visible_view.specs.Fields.{place_by, place_of}

@@ -14,11 +14,11 @@ use Rattle.std.proofs.lemmas.List.Folds.{list_any-append}
 use Rattle.std.proofs.lemmas.List.Sums.{sum_by-append, sum_by-cons}
 use Rattle.std.proofs.lemmas.List.Sorted.{IsPermutation-cons, IsPermutation-middle, IsPermutation-refl, IsPermutation-trans, length_permutation, list_any-IsPermutation, sum_by-IsPermutation}
 use Rattle.object_store.specs.declared.account.Account.{Account}
-use Rattle.object_store.specs.declared.object.Object.{Object}
+use Rattle.room_table.specs.declared.object.Object.{Object}
 use Rattle.object_store.specs.declared.world.Room.{Room}
 use Rattle.object_store.specs.Stored.{Stored}
-use Rattle.object_store.proofs.Rising.{Rises}
-use Rattle.object_store.specs.declared.standing.Standing.{Standing}
+use Rattle.room_table.proofs.Rising.{Rises}
+use Rattle.room_table.specs.declared.standing.Standing.{Standing}
 use Rattle.world_rules.specs.World.{Placed, World, shown, placed, placed_from, listed_room, listing_of, world_of, framed_from}
 use Rattle.world_rules.proofs.Lifting.{frames_stored}
 use Rattle.world_rules.specs.Rules.{Stands}
@@ -30,7 +30,7 @@ use Rattle.world_roster.specs.Rosters.{shown_entry}
 use Rattle.world_roster.proofs.Known.{find_as}
 use Rattle.visible_view.specs.inner.Gathered.{shown_room, controllers_at, is_controller_of, is_flagged, is_seen, is_site_of, from_each, room_if_seen, sites_at}
 use Rattle.visible_view.specs.declared.gather.RoomInView.{RoomInView}
-use Rattle.object_store.proofs.Moved.{all_from_within, find_only}
+use Rattle.room_table.proofs.Moved.{all_from_within, find_only}
 use Rattle.game_tables.specs.Kinds.{is_building, is_controller, is_creep}
 
 -- ---- the entries of a map that is made of entries whose keys stand once

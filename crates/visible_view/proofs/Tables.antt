@@ -9,8 +9,8 @@ use Rattle.std.specs.FinMap.{find, values, entries, entries_sorted, get-from_ent
 use Rattle.std.specs.FinMap.Entries.{below_all, same_entries}
 use Rattle.std.proofs.lemmas.Bool.{cases_eq, eq-eqb, ne_eqb}
 use Rattle.object_store.specs.declared.account.Account.{Account}
-use Rattle.object_store.specs.declared.object.Object.{Object}
-use Rattle.object_store.specs.declared.standing.Standing.{Standing}
+use Rattle.room_table.specs.declared.object.Object.{Object}
+use Rattle.room_table.specs.declared.standing.Standing.{Standing}
 use Rattle.object_store.specs.declared.world.Room.{Room}
 use Rattle.object_store.specs.Stored.{Stored}
 use Rattle.world_rules.specs.World.{Placed, World, shown, placed, listing_of, world_of}

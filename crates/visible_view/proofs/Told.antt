@@ -8,16 +8,16 @@ use Rattle.std.proofs.lemmas.Bool.{cases_eq, eq-eqb, eqb-true, ltb-true, ne_eqb}
 use Rattle.std.proofs.lemmas.List.Elements.{All-from_recursion}
 use Rattle.object_store.specs.declared.account.Account.{Account}
 use Rattle.object_store.specs.Stored.{find_account}
-use Rattle.object_store.specs.declared.object.Object.{Object}
-use Rattle.object_store.proofs.Rising.{Rises, absent_there}
+use Rattle.room_table.specs.declared.object.Object.{Object}
+use Rattle.room_table.proofs.Rising.{Rises, absent_there}
 use Rattle.world_rules.specs.World.{Placed}
 use Rattle.game_tables.specs.Kinds.{is_controller}
-use Rattle.object_store.specs.Controllers.{controller_among}
+use Rattle.room_table.specs.Controllers.{controller_among}
 use Rattle.visible_view.specs.Sights.{SeenRoom, Sight}
 use Rattle.visible_view.specs.Fields.{objects_at, place_by, room_at}
 use Rattle.visible_view.specs.inner.Gathered.{shown_room, index_in, HaveTables}
 use Rattle.visible_view.specs.declared.gather.RoomInView.{RoomInView}
-use Rattle.object_store.proofs.Moved.{found_within}
+use Rattle.room_table.proofs.Moved.{found_within}
 
 pub found_player : (player : ℕ) (accounts : List Account) (account : Account) → find_account player accounts ≡ Some account → account.player ≡ player
 found_player player accounts account is = eqb-true account.player player (found_within (λ (a : Account). a.player == player) accounts account is).1

@@ -9,8 +9,8 @@ use Rattle.game_tables.specs.declared.kind.Kind.{Kind}
 use Rattle.game_tables.specs.declared.kind.Kind.TheVariants.{Creep}
 use Rattle.room_terrain.specs.Tiles.{tile}
 use Rattle.room_terrain.specs.declared.terrain.Ground.{Ground}
-use Rattle.object_store.specs.declared.object.Object.{Object}
-use Rattle.object_store.specs.Stores.{capacity_as}
+use Rattle.room_table.specs.declared.object.Object.{Object}
+use Rattle.room_table.specs.Stores.{capacity_as}
 use Rattle.world_rules.specs.World.{Placed}
 use Rattle.visible_view.specs.Sights.{SeenRoom, Sight}
 

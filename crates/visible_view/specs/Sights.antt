@@ -7,7 +7,7 @@ use Rattle.game_tables.specs.Kinds.{is_building, is_controller, is_creep, is_sit
 use Rattle.room_terrain.specs.declared.name.RoomName.{RoomName}
 use Rattle.room_terrain.specs.declared.terrain.Ground.{Ground}
 use Rattle.object_store.specs.declared.account.Account.{Account}
-use Rattle.object_store.specs.declared.object.Object.{Object}
+use Rattle.room_table.specs.declared.object.Object.{Object}
 use Rattle.world_rules.specs.World.{Frame, Placed, World}
 
 -- The object is one by which the player sees its room.

@@ -2,7 +2,7 @@
 ghost use Rattle.std.specs.Prelude.{◌≡◌, ◌<◌, ◌≤◌, length, map, slice_get, option_map};
 ghost use Rattle.std.specs.FinMap.{entries};
 ghost use Rattle.std.specs.List.Sorted.{IsPartitionPoint};
-ghost use Rattle.object_store.proofs.Rising.{Rises};
+ghost use Rattle.room_table.proofs.Rising.{Rises};
 ghost use Rattle.world_rules.specs.World.{shown};
 ghost use Rattle.world_roster.specs.Rosters.{id_in, shown_entry};
 ghost use Rattle.visible_view.specs.inner.Places.{all_of, id_at, objects_of};

@@ -2,9 +2,9 @@
 use Rattle.std.proofs.Common.{◌≡◌, ℕ, ◌+◌, ◌<◌, ◌≤◌, ◌≢◌, List, [], ◌∷◌, ◌++◌, length, length-append, refl, ap, sym, ◌∙◌, subst, arith, Option, Some, None}
 use Rattle.std.proofs.lemmas.Bool.Decides.{nat_tests}
 use native.Mathlib.Decide.{dec_le}
-use Rattle.wasm_module.specs.values.Spelling.{Then, SpellsEach, each_none, each_next, SpellsBytes}
-use Rattle.wasm_module.specs.sections.Sections.{Section, SpellsSection, AreOrdered, ordered_end, ordered_custom, ordered_part, content_of, Holds}
-use Rattle.wasm_module.proofs.Opcodes.{SpellsNothing}
+use Rattle.wasm_values.specs.Spelling.{Then, SpellsEach, each_none, each_next, SpellsBytes}
+use Rattle.wasm_module.specs.Sections.{Section, SpellsSection, AreOrdered, ordered_end, ordered_custom, ordered_part, content_of, Holds}
+use Rattle.wasm_values.proofs.Opcodes.{SpellsNothing}
 use Rattle.wasm_encode.specs.inner.Parts.{SpellsPart, part_absent, part_present}
 
 -- The contents of sections by their numbers.

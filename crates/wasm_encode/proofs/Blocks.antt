@@ -2,16 +2,16 @@
 use Rattle.std.proofs.Common.{◌≡◌, ℕ, suc, ◌≤◌, List, [], ◌∷◌, ◌++◌, length, length-append, refl, ap, sym, ◌∙◌, subst, arith, map, Option}
 use Rattle.std.proofs.lemmas.List.{append-nil}
 use Rattle.byte_fields.specs.Front.{SpellsShortest}
-use Rattle.wasm_module.specs.values.Spelling.{SpellsU32, Then, SpellsEach, each_none, each_next}
-use Rattle.wasm_module.specs.values.Syntax.{Op, Ops, no_ops, if_else, load, store, float_memory, numeric, float_plain}
-use Rattle.wasm_module.specs.values.Values.{SpellsBlockType}
-use Rattle.wasm_module.specs.values.Instructions.{SpellsOp, SpellsOps, spells_none, spells_next, SpellsExpression}
-use Rattle.wasm_module.specs.values.View.{ops_of, instr_view, instrs_view, items_view}
-use Rattle.wasm_module.specs.declared.values.types.ValType.{ValType}
-use Rattle.wasm_module.specs.declared.values.instr.Instr.{Instr}
-use Rattle.wasm_module.specs.declared.values.instr.Instrs.{Instrs}
-use Rattle.wasm_module.proofs.Views.{view_instrs}
-use Rattle.wasm_module.proofs.Opcodes.{SpellsNothing}
+use Rattle.wasm_values.specs.Spelling.{SpellsU32, Then, SpellsEach, each_none, each_next}
+use Rattle.wasm_values.specs.Syntax.{Op, Ops, no_ops, if_else, load, store, float_memory, numeric, float_plain}
+use Rattle.wasm_values.specs.Values.{SpellsBlockType}
+use Rattle.wasm_values.specs.Instructions.{SpellsOp, SpellsOps, spells_none, spells_next, SpellsExpression}
+use Rattle.wasm_values.specs.View.{ops_of, instr_view, instrs_view, items_view}
+use Rattle.wasm_values.specs.declared.types.ValType.{ValType}
+use Rattle.wasm_values.specs.declared.instr.Instr.{Instr}
+use Rattle.wasm_values.specs.declared.instr.Instrs.{Instrs}
+use Rattle.wasm_values.proofs.Views.{view_instrs}
+use Rattle.wasm_values.proofs.Opcodes.{SpellsNothing}
 use Rattle.wasm_encode.specs.inner.Gains.{IsSpelled, Gains}
 use Rattle.wasm_encode.specs.inner.Parts.{SpellsBranches, branches_one, branches_two}
 use Rattle.wasm_encode.proofs.Shortest.{gains_then, second_spelled, joined}

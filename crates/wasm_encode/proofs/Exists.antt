@@ -2,26 +2,26 @@
 use Rattle.std.proofs.Common.{◌≡◌, ℕ, ◌+◌, ◌*◌, ◌^◌, ◌<◌, ◌≤◌, List, [], ◌∷◌, ◌++◌, length, length-append, refl, arith, All, Bool, true, false, Option, Some, None}
 use Rattle.std.specs.Prelude.{sum_by}
 use Rattle.std.specs.Str.{IsUtf8}
-use Rattle.wasm_module.specs.values.Spelling.{SpellsU32, Then, SpellsMark, SpellsList, SpellsBytes}
-use Rattle.wasm_module.specs.values.Syntax.{Op, Ops, unreachable, nop, block, loop, if_else, br, br_if, br_table, return, call, call_indirect, drop_value, select, local_get, local_set, local_tee, global_get, global_set, load, store, memory_size, memory_grow, i32_const, i64_const, numeric, float_memory, float_const, float_plain, no_ops, next}
-use Rattle.wasm_module.specs.values.Values.{SpellsName, SpellsValType, spells_i32, spells_i64, spells_f32, spells_f64, SpellsBlockType, spells_no_result, spells_one_result, result_none, result_one, SpellsResult, SpellsFuncType, SpellsBounds, SpellsTableType, SpellsMutable, spells_constant, spells_variable, SpellsGlobalType, SpellsImportDesc, SpellsImport, SpellsExportDesc, SpellsExport}
-use Rattle.wasm_module.specs.values.Instructions.{SpellsOp, SpellsOps, IsMemory, is_load, is_store, is_float_memory, spells_unreachable, spells_nop, spells_return, spells_drop, spells_select, spells_memory, spells_memory_size, spells_memory_grow, spells_f32_const, spells_f64_const, spells_numeric, spells_float_plain, spells_none, spells_next, SpellsExpression}
-use Rattle.wasm_module.specs.sections.Entries.{Global, SpellsGlobal, Elements, SpellsElement, SpellsLocalRun, Function, SpellsCode, Data, SpellsSegment}
-use Rattle.wasm_module.specs.sections.Sections.{Syntax, SpellsStart, Spells}
-use Rattle.wasm_module.specs.declared.values.types.ValType.{ValType}
-use Rattle.wasm_module.specs.declared.values.types.ValType.TheVariants.{I32, I64, F32, F64}
-use Rattle.wasm_module.specs.declared.values.types.FuncType.{FuncType}
-use Rattle.wasm_module.specs.declared.values.types.Bounds.{Bounds}
-use Rattle.wasm_module.specs.declared.values.types.GlobalType.{GlobalType}
-use Rattle.wasm_module.specs.declared.sections.imports.Import.{Import}
-use Rattle.wasm_module.specs.declared.sections.imports.ImportDesc.{ImportDesc}
-use Rattle.wasm_module.specs.declared.sections.imports.ImportDesc.TheVariants as import
-use Rattle.wasm_module.specs.declared.sections.exports.Export.{Export}
-use Rattle.wasm_module.specs.declared.sections.exports.ExportDesc.{ExportDesc}
-use Rattle.wasm_module.specs.declared.sections.exports.ExportDesc.TheVariants as export
-use Rattle.wasm_module.specs.declared.sections.codes.LocalRun.{LocalRun}
-use Rattle.wasm_module.specs.declared.values.instr.FloatBytes.{FloatBytes}
-use Rattle.wasm_module.specs.declared.values.instr.FloatBytes.TheVariants.{Four, Eight}
+use Rattle.wasm_values.specs.Spelling.{SpellsU32, Then, SpellsMark, SpellsList, SpellsBytes}
+use Rattle.wasm_values.specs.Syntax.{Op, Ops, unreachable, nop, block, loop, if_else, br, br_if, br_table, return, call, call_indirect, drop_value, select, local_get, local_set, local_tee, global_get, global_set, load, store, memory_size, memory_grow, i32_const, i64_const, numeric, float_memory, float_const, float_plain, no_ops, next}
+use Rattle.wasm_values.specs.Values.{SpellsName, SpellsValType, spells_i32, spells_i64, spells_f32, spells_f64, SpellsBlockType, spells_no_result, spells_one_result, result_none, result_one, SpellsResult, SpellsFuncType, SpellsBounds, SpellsTableType, SpellsMutable, spells_constant, spells_variable, SpellsGlobalType, SpellsImportDesc, SpellsImport, SpellsExportDesc, SpellsExport}
+use Rattle.wasm_values.specs.Instructions.{SpellsOp, SpellsOps, IsMemory, is_load, is_store, is_float_memory, spells_unreachable, spells_nop, spells_return, spells_drop, spells_select, spells_memory, spells_memory_size, spells_memory_grow, spells_f32_const, spells_f64_const, spells_numeric, spells_float_plain, spells_none, spells_next, SpellsExpression}
+use Rattle.wasm_module.specs.Entries.{Global, SpellsGlobal, Elements, SpellsElement, SpellsLocalRun, Function, SpellsCode, Data, SpellsSegment}
+use Rattle.wasm_module.specs.Sections.{Syntax, SpellsStart, Spells}
+use Rattle.wasm_values.specs.declared.types.ValType.{ValType}
+use Rattle.wasm_values.specs.declared.types.ValType.TheVariants.{I32, I64, F32, F64}
+use Rattle.wasm_values.specs.declared.types.FuncType.{FuncType}
+use Rattle.wasm_values.specs.declared.types.Bounds.{Bounds}
+use Rattle.wasm_values.specs.declared.types.GlobalType.{GlobalType}
+use Rattle.wasm_values.specs.declared.imports.Import.{Import}
+use Rattle.wasm_values.specs.declared.imports.ImportDesc.{ImportDesc}
+use Rattle.wasm_values.specs.declared.imports.ImportDesc.TheVariants as import
+use Rattle.wasm_values.specs.declared.exports.Export.{Export}
+use Rattle.wasm_values.specs.declared.exports.ExportDesc.{ExportDesc}
+use Rattle.wasm_values.specs.declared.exports.ExportDesc.TheVariants as export
+use Rattle.wasm_module.specs.declared.codes.LocalRun.{LocalRun}
+use Rattle.wasm_values.specs.declared.instr.FloatBytes.{FloatBytes}
+use Rattle.wasm_values.specs.declared.instr.FloatBytes.TheVariants.{Four, Eight}
 use Rattle.wasm_encode.specs.inner.Gains.{IsSpelled}
 use Rattle.wasm_encode.specs.inner.Parts.{SpellsBranches, branches_two, SpellsPart, part_absent, StartPart}
 use Rattle.wasm_encode.specs.Encodable.{IsU32, IsFloat, AreLimits, IsInstruction, AreInstructions, IsImported, IsExported, op_weight, ops_weight, weight, IsEncodable}

@@ -1,10 +1,10 @@
 -- How many instructions stand in one another: what a writer goes down.
 use Rattle.std.proofs.Common.{◌≡◌, ℕ, zero, suc, ◌+◌, ◌<◌, List, [], ◌∷◌, length, get_or, ap, sym, ◌∙◌, arith}
-use Rattle.wasm_module.specs.values.Syntax.{Op, Ops, no_ops, next, block, loop, if_else}
-use Rattle.wasm_module.specs.values.View.{instr_view, instrs_view, items_view}
-use Rattle.wasm_module.specs.declared.values.instr.Instr.{Instr}
-use Rattle.wasm_module.specs.declared.values.instr.Instrs.{Instrs}
-use Rattle.wasm_module.proofs.Views.{view_instrs}
+use Rattle.wasm_values.specs.Syntax.{Op, Ops, no_ops, next, block, loop, if_else}
+use Rattle.wasm_values.specs.View.{instr_view, instrs_view, items_view}
+use Rattle.wasm_values.specs.declared.instr.Instr.{Instr}
+use Rattle.wasm_values.specs.declared.instr.Instrs.{Instrs}
+use Rattle.wasm_values.proofs.Views.{view_instrs}
 
 abbrev mutual
   pub op_height : Op → ℕ

@@ -8,8 +8,8 @@ use Rattle.byte_fields.proofs.Texts.{text_some}
 use Rattle.byte_fields.proofs.Unsigned.{unsigned_range}
 use Rattle.byte_fields.proofs.Signed.{signed_text, signed_range, IsWithin, same_left}
 use Rattle.byteorder.specs.Endian.{little_bytes}
-use Rattle.wasm_module.proofs.Opcodes.{SpellsLittle}
-use Rattle.wasm_module.specs.values.Spelling.{SpellsU32, SpellsBytes, SpellsSized}
+use Rattle.wasm_values.proofs.Opcodes.{SpellsLittle}
+use Rattle.wasm_values.specs.Spelling.{SpellsU32, SpellsBytes, SpellsSized}
 use Rattle.wasm_encode.specs.inner.Gains.{IsSpelled, Gains}
 use Rattle.wasm_encode.proofs.Shortest.{then_least}
 

@@ -3,8 +3,8 @@ use Rattle.std.proofs.Common.{◌≡◌, ℕ, ◌<◌, ◌≤◌, List, [], ◌�
 use native.Mathlib.Decide.{dec_le}
 use Rattle.byte_fields.specs.Front.{SpellsShortest}
 use Rattle.byte_fields.proofs.Written.{unsigned_shortest_one}
-use Rattle.wasm_module.specs.values.Spelling.{SpellsU32, Then, SpellsMark, SpellsEach, each_none, each_next, SpellsList, SpellsBytes, SpellsSized}
-use Rattle.wasm_module.proofs.Opcodes.{SpellsNothing}
+use Rattle.wasm_values.specs.Spelling.{SpellsU32, Then, SpellsMark, SpellsEach, each_none, each_next, SpellsList, SpellsBytes, SpellsSized}
+use Rattle.wasm_values.proofs.Opcodes.{SpellsNothing}
 use Rattle.wasm_encode.specs.inner.Parts.{SpellsPart, part_absent, part_present}
 use Rattle.wasm_encode.proofs.Numbers.{unsigned_less}
 use Rattle.wasm_encode.proofs.Tagged.{IsTagged}

@@ -2,26 +2,26 @@
 use Rattle.std.proofs.Common.{◌≡◌, ℕ, ℤ, ◌≤◌, List, [], ◌∷◌, ◌++◌, length, length-append, refl, ap, sym, ◌∙◌, subst, arith, Bool, Option, Some, None}
 use Rattle.byte_fields.specs.Leb.{SpellsSigned}
 use Rattle.byte_fields.proofs.WrittenSigned.{signed_shortest_one}
-use Rattle.wasm_module.specs.values.Spelling.{SpellsU32, Then, SpellsMark, SpellsList, SpellsBytes}
-use Rattle.wasm_module.specs.values.Syntax.{Op, Ops, unreachable, nop, block, loop, if_else, br, br_if, br_table, return, call, call_indirect, drop_value, select, local_get, local_set, local_tee, global_get, global_set, load, store, memory_size, memory_grow, i32_const, i64_const, numeric, float_memory, float_const, float_plain, no_ops, next}
-use Rattle.wasm_module.specs.values.Values.{SpellsName, SpellsValType, spells_i32, spells_i64, spells_f32, spells_f64, SpellsBlockType, spells_no_result, spells_one_result, result_none, result_one, SpellsResult, SpellsFuncType, SpellsBounds, SpellsTableType, SpellsMutable, spells_constant, spells_variable, SpellsGlobalType, SpellsImportDesc, SpellsImport, SpellsExportDesc, SpellsExport}
-use Rattle.wasm_module.specs.values.Instructions.{SpellsOp, SpellsOps, spells_none, spells_next, SpellsExpression}
-use Rattle.wasm_module.specs.sections.Entries.{Global, SpellsGlobal, Elements, SpellsElement, SpellsLocalRun, Function, SpellsCode, Data, SpellsSegment}
-use Rattle.wasm_module.specs.sections.Sections.{SpellsStart}
-use Rattle.wasm_module.specs.declared.values.types.ValType.{ValType}
-use Rattle.wasm_module.specs.declared.values.types.FuncType.{FuncType}
-use Rattle.wasm_module.specs.declared.values.types.Bounds.{Bounds}
-use Rattle.wasm_module.specs.declared.values.types.GlobalType.{GlobalType}
-use Rattle.wasm_module.specs.declared.sections.imports.Import.{Import}
-use Rattle.wasm_module.specs.declared.sections.imports.ImportDesc.{ImportDesc}
-use Rattle.wasm_module.specs.declared.sections.imports.ImportDesc.TheVariants as import
-use Rattle.wasm_module.specs.declared.sections.exports.Export.{Export}
-use Rattle.wasm_module.specs.declared.sections.exports.ExportDesc.{ExportDesc}
-use Rattle.wasm_module.specs.declared.sections.exports.ExportDesc.TheVariants as export
-use Rattle.wasm_module.specs.declared.sections.codes.LocalRun.{LocalRun}
-use Rattle.wasm_module.specs.declared.values.instr.FloatBytes.{FloatBytes}
-use Rattle.wasm_module.specs.declared.values.instr.FloatBytes.TheVariants.{Four, Eight}
-use Rattle.wasm_module.proofs.Opcodes.{SpellsLittle}
+use Rattle.wasm_values.specs.Spelling.{SpellsU32, Then, SpellsMark, SpellsList, SpellsBytes}
+use Rattle.wasm_values.specs.Syntax.{Op, Ops, unreachable, nop, block, loop, if_else, br, br_if, br_table, return, call, call_indirect, drop_value, select, local_get, local_set, local_tee, global_get, global_set, load, store, memory_size, memory_grow, i32_const, i64_const, numeric, float_memory, float_const, float_plain, no_ops, next}
+use Rattle.wasm_values.specs.Values.{SpellsName, SpellsValType, spells_i32, spells_i64, spells_f32, spells_f64, SpellsBlockType, spells_no_result, spells_one_result, result_none, result_one, SpellsResult, SpellsFuncType, SpellsBounds, SpellsTableType, SpellsMutable, spells_constant, spells_variable, SpellsGlobalType, SpellsImportDesc, SpellsImport, SpellsExportDesc, SpellsExport}
+use Rattle.wasm_values.specs.Instructions.{SpellsOp, SpellsOps, spells_none, spells_next, SpellsExpression}
+use Rattle.wasm_module.specs.Entries.{Global, SpellsGlobal, Elements, SpellsElement, SpellsLocalRun, Function, SpellsCode, Data, SpellsSegment}
+use Rattle.wasm_module.specs.Sections.{SpellsStart}
+use Rattle.wasm_values.specs.declared.types.ValType.{ValType}
+use Rattle.wasm_values.specs.declared.types.FuncType.{FuncType}
+use Rattle.wasm_values.specs.declared.types.Bounds.{Bounds}
+use Rattle.wasm_values.specs.declared.types.GlobalType.{GlobalType}
+use Rattle.wasm_values.specs.declared.imports.Import.{Import}
+use Rattle.wasm_values.specs.declared.imports.ImportDesc.{ImportDesc}
+use Rattle.wasm_values.specs.declared.imports.ImportDesc.TheVariants as import
+use Rattle.wasm_values.specs.declared.exports.Export.{Export}
+use Rattle.wasm_values.specs.declared.exports.ExportDesc.{ExportDesc}
+use Rattle.wasm_values.specs.declared.exports.ExportDesc.TheVariants as export
+use Rattle.wasm_module.specs.declared.codes.LocalRun.{LocalRun}
+use Rattle.wasm_values.specs.declared.instr.FloatBytes.{FloatBytes}
+use Rattle.wasm_values.specs.declared.instr.FloatBytes.TheVariants.{Four, Eight}
+use Rattle.wasm_values.proofs.Opcodes.{SpellsLittle}
 use Rattle.wasm_encode.specs.inner.Parts.{SpellsBranches, branches_one, branches_two, TypesPart, ImportsPart, FuncsPart, TablesPart, MemoriesPart, GlobalsPart, ExportsPart, StartPart, ElementsPart, CodesPart, SegmentsPart}
 use Rattle.wasm_encode.proofs.Types.{open_tagged, closed_tagged, import_func_tagged, import_table_tagged, import_memory_tagged, import_global_tagged, export_func_tagged, export_table_tagged, export_memory_tagged, export_global_tagged}
 use Rattle.wasm_encode.proofs.Ops.{unreachable_tagged, nop_tagged, return_tagged, drop_tagged, select_tagged, br_tagged, br_if_tagged, call_tagged, local_get_tagged, local_set_tagged, local_tee_tagged, global_get_tagged, global_set_tagged, br_table_tagged, call_indirect_tagged, memory_size_tagged, memory_grow_tagged, i32_const_tagged, i64_const_tagged, f32_const_tagged, f64_const_tagged, load_tagged, store_tagged, float_memory_tagged, numeric_tagged, float_plain_tagged, block_tagged, loop_tagged, if_tagged}

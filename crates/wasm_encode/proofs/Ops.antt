@@ -2,13 +2,13 @@
 use Rattle.std.proofs.Common.{◌≡◌, ℕ, ℤ, List, [], ◌∷◌, ◌++◌, refl, Option}
 use Rattle.byteorder.specs.Endian.{little_bytes}
 use Rattle.byte_fields.specs.Leb.{SpellsSigned}
-use Rattle.wasm_module.specs.declared.values.types.ValType.{ValType}
-use Rattle.wasm_module.specs.declared.values.instr.FloatBytes.TheVariants.{Four, Eight}
-use Rattle.wasm_module.specs.values.Spelling.{SpellsU32, Then, SpellsMark, SpellsList}
-use Rattle.wasm_module.specs.values.Values.{SpellsBlockType}
-use Rattle.wasm_module.specs.values.Syntax.{Op, Ops, unreachable, nop, block, loop, if_else, br, br_if, br_table, return, call, call_indirect, drop_value, select, local_get, local_set, local_tee, global_get, global_set, load, store, memory_size, memory_grow, i32_const, i64_const, numeric, float_memory, float_const, float_plain}
-use Rattle.wasm_module.specs.values.Instructions.{SpellsOp, SpellsExpression, spells_unreachable, spells_nop, spells_block, spells_loop, spells_if, spells_if_else, spells_br, spells_br_if, spells_br_table, spells_return, spells_call, spells_call_indirect, spells_drop, spells_select, spells_local_get, spells_local_set, spells_local_tee, spells_global_get, spells_global_set, spells_memory, spells_memory_size, spells_memory_grow, spells_i32_const, spells_i64_const, spells_f32_const, spells_f64_const, spells_numeric, spells_float_plain, is_load, is_store, is_float_memory, IsLoad, IsStore, IsFloatMemory, IsNumeric, IsFloatPlain}
-use Rattle.wasm_module.proofs.Opcodes.{SpellsNothing, SpellsLittle}
+use Rattle.wasm_values.specs.declared.types.ValType.{ValType}
+use Rattle.wasm_values.specs.declared.instr.FloatBytes.TheVariants.{Four, Eight}
+use Rattle.wasm_values.specs.Spelling.{SpellsU32, Then, SpellsMark, SpellsList}
+use Rattle.wasm_values.specs.Values.{SpellsBlockType}
+use Rattle.wasm_values.specs.Syntax.{Op, Ops, unreachable, nop, block, loop, if_else, br, br_if, br_table, return, call, call_indirect, drop_value, select, local_get, local_set, local_tee, global_get, global_set, load, store, memory_size, memory_grow, i32_const, i64_const, numeric, float_memory, float_const, float_plain}
+use Rattle.wasm_values.specs.Instructions.{SpellsOp, SpellsExpression, spells_unreachable, spells_nop, spells_block, spells_loop, spells_if, spells_if_else, spells_br, spells_br_if, spells_br_table, spells_return, spells_call, spells_call_indirect, spells_drop, spells_select, spells_local_get, spells_local_set, spells_local_tee, spells_global_get, spells_global_set, spells_memory, spells_memory_size, spells_memory_grow, spells_i32_const, spells_i64_const, spells_f32_const, spells_f64_const, spells_numeric, spells_float_plain, is_load, is_store, is_float_memory, IsLoad, IsStore, IsFloatMemory, IsNumeric, IsFloatPlain}
+use Rattle.wasm_values.proofs.Opcodes.{SpellsNothing, SpellsLittle}
 use Rattle.wasm_encode.specs.inner.Parts.{SpellsBranches, branches_one, branches_two}
 use Rattle.wasm_encode.proofs.Tagged.{IsTagged}
 

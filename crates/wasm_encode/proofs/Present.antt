@@ -2,8 +2,8 @@
 use Rattle.std.proofs.Common.{◌≡◌, ℕ, List, [], ◌∷◌, ◌++◌, length, map, refl, ap, sym, ◌∙◌, subst, arith, append_assoc, Option, Some, None}
 use Rattle.std.proofs.lemmas.List.{append-nil}
 use Rattle.byte_fields.specs.Front.{SpellsShortest}
-use Rattle.wasm_module.specs.values.Spelling.{SpellsU32, SpellsBytes, SpellsSized}
-use Rattle.wasm_module.specs.sections.Sections.{SpellsStart}
+use Rattle.wasm_values.specs.Spelling.{SpellsU32, SpellsBytes, SpellsSized}
+use Rattle.wasm_module.specs.Sections.{SpellsStart}
 use Rattle.wasm_encode.specs.inner.Gains.{IsSpelled, Gains}
 use Rattle.wasm_encode.specs.inner.Parts.{SpellsPart, part_absent, part_present}
 use Rattle.wasm_encode.proofs.Numbers.{sized_shortest}

@@ -9,7 +9,7 @@ use native.Mathlib.Decide.{dec_le}
 use Rattle.byte_fields.specs.Leb.{unsigned_last, unsigned_more, SpellsSigned, signed_last, signed_negative, signed_more}
 use Rattle.byte_fields.proofs.Signed.{IsWithin, half_more}
 use Rattle.byte_fields.proofs.WrittenSigned.{within_less}
-use Rattle.wasm_module.specs.values.Spelling.{SpellsU32, Then, SpellsMark, SpellsEach, each_none, each_next, SpellsList, SpellsBytes, SpellsSized}
+use Rattle.wasm_values.specs.Spelling.{SpellsU32, Then, SpellsMark, SpellsEach, each_none, each_next, SpellsList, SpellsBytes, SpellsSized}
 use Rattle.wasm_encode.specs.inner.Parts.{SpellsPart, part_present}
 use Rattle.wasm_encode.specs.Encodable.{IsU32, IsSigned}
 use Rattle.wasm_encode.proofs.Numbers.{unsigned_less}

@@ -5,17 +5,17 @@ use Rattle.byte_fields.specs.Front.{SpellsShortest}
 use Rattle.byte_fields.specs.Leb.{unsigned_last}
 use Rattle.byte_fields.proofs.Texts.{text_some}
 use Rattle.byte_fields.proofs.Unsigned.{unsigned_text}
-use Rattle.wasm_module.specs.values.Spelling.{SpellsU32, Then, SpellsEach, each_none, each_next, SpellsBytes}
-use Rattle.wasm_module.specs.values.Values.{SpellsName, SpellsValType, spells_i32, spells_i64, spells_f32, spells_f64, SpellsBlockType, spells_no_result, spells_one_result, SpellsResult, IsResult, result_none, result_one, SpellsBounds, spells_open, spells_closed, SpellsMutable, spells_constant, spells_variable, SpellsImportDesc, imports_func, imports_table, imports_memory, imports_global, SpellsExportDesc, exports_func, exports_table, exports_memory, exports_global, SpellsTableType, SpellsGlobalType}
-use Rattle.wasm_module.specs.declared.values.types.ValType.{ValType}
-use Rattle.wasm_module.specs.declared.values.types.ValType.TheVariants.{I32, I64, F32, F64}
-use Rattle.wasm_module.specs.declared.values.types.Bounds.{Bounds}
-use Rattle.wasm_module.specs.declared.values.types.GlobalType.{GlobalType}
-use Rattle.wasm_module.specs.declared.sections.imports.ImportDesc.{ImportDesc}
-use Rattle.wasm_module.specs.declared.sections.imports.ImportDesc.TheVariants as import
-use Rattle.wasm_module.specs.declared.sections.exports.ExportDesc.{ExportDesc}
-use Rattle.wasm_module.specs.declared.sections.exports.ExportDesc.TheVariants as export
-use Rattle.wasm_module.proofs.Spelled.{open_bounds, closed_bounds}
+use Rattle.wasm_values.specs.Spelling.{SpellsU32, Then, SpellsEach, each_none, each_next, SpellsBytes}
+use Rattle.wasm_values.specs.Values.{SpellsName, SpellsValType, spells_i32, spells_i64, spells_f32, spells_f64, SpellsBlockType, spells_no_result, spells_one_result, SpellsResult, IsResult, result_none, result_one, SpellsBounds, spells_open, spells_closed, SpellsMutable, spells_constant, spells_variable, SpellsImportDesc, imports_func, imports_table, imports_memory, imports_global, SpellsExportDesc, exports_func, exports_table, exports_memory, exports_global, SpellsTableType, SpellsGlobalType}
+use Rattle.wasm_values.specs.declared.types.ValType.{ValType}
+use Rattle.wasm_values.specs.declared.types.ValType.TheVariants.{I32, I64, F32, F64}
+use Rattle.wasm_values.specs.declared.types.Bounds.{Bounds}
+use Rattle.wasm_values.specs.declared.types.GlobalType.{GlobalType}
+use Rattle.wasm_values.specs.declared.imports.ImportDesc.{ImportDesc}
+use Rattle.wasm_values.specs.declared.imports.ImportDesc.TheVariants as import
+use Rattle.wasm_values.specs.declared.exports.ExportDesc.{ExportDesc}
+use Rattle.wasm_values.specs.declared.exports.ExportDesc.TheVariants as export
+use Rattle.wasm_values.proofs.Spelled.{open_bounds, closed_bounds}
 use Rattle.wasm_encode.specs.inner.Gains.{IsSpelled, Gains}
 use Rattle.wasm_encode.proofs.Tagged.{IsTagged}
 

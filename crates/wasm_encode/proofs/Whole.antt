@@ -1,17 +1,17 @@
 -- A module is its opening and its parts.
 use Rattle.std.proofs.Common.{◌≡◌, ℕ, ◌+◌, ◌≤◌, List, [], ◌++◌, length, length-append, refl, ap, sym, ◌∙◌, subst, arith, Option, None}
 use Rattle.byte_fields.specs.Front.{SpellsShortest}
-use Rattle.wasm_module.specs.values.Spelling.{SpellsU32, Then, SpellsList}
-use Rattle.wasm_module.specs.values.Syntax.{Ops}
-use Rattle.wasm_module.specs.values.Values.{SpellsFuncType, SpellsImport, SpellsTableType, SpellsBounds, SpellsExport}
-use Rattle.wasm_module.specs.values.Instructions.{SpellsExpression}
-use Rattle.wasm_module.specs.sections.Entries.{Global, SpellsGlobal, Elements, SpellsElement, Function, SpellsCode, Data, SpellsSegment}
-use Rattle.wasm_module.specs.sections.Sections.{Syntax, Section, SpellsStart, AreOf, opening, Spells}
-use Rattle.wasm_module.specs.declared.values.types.FuncType.{FuncType}
-use Rattle.wasm_module.specs.declared.values.types.Bounds.{Bounds}
-use Rattle.wasm_module.specs.declared.sections.imports.Import.{Import}
-use Rattle.wasm_module.specs.declared.sections.exports.Export.{Export}
-use Rattle.wasm_module.proofs.Opcodes.{SpellsNothing}
+use Rattle.wasm_values.specs.Spelling.{SpellsU32, Then, SpellsList}
+use Rattle.wasm_values.specs.Syntax.{Ops}
+use Rattle.wasm_values.specs.Values.{SpellsFuncType, SpellsImport, SpellsTableType, SpellsBounds, SpellsExport}
+use Rattle.wasm_values.specs.Instructions.{SpellsExpression}
+use Rattle.wasm_module.specs.Entries.{Global, SpellsGlobal, Elements, SpellsElement, Function, SpellsCode, Data, SpellsSegment}
+use Rattle.wasm_module.specs.Sections.{Syntax, Section, SpellsStart, AreOf, opening, Spells}
+use Rattle.wasm_values.specs.declared.types.FuncType.{FuncType}
+use Rattle.wasm_values.specs.declared.types.Bounds.{Bounds}
+use Rattle.wasm_values.specs.declared.imports.Import.{Import}
+use Rattle.wasm_values.specs.declared.exports.Export.{Export}
+use Rattle.wasm_values.proofs.Opcodes.{SpellsNothing}
 use Rattle.wasm_encode.specs.inner.Gains.{IsSpelled, Gains}
 use Rattle.wasm_encode.specs.inner.Parts.{TypesPart, ImportsPart, FuncsPart, TablesPart, MemoriesPart, GlobalsPart, ExportsPart, StartPart, ElementsPart, CodesPart, SegmentsPart}
 use Rattle.wasm_encode.proofs.Shortest.{gains_then, first_spelled, second_spelled}

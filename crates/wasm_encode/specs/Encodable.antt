@@ -4,19 +4,19 @@
 use Rattle.std.specs.Prelude.{◌≡◌, ℕ, ◌+◌, ◌-◌, ◌*◌, ◌^◌, ◌<◌, ℤ, pos, ◌+ℤ◌, ◌<ℤ◌, ◌≤ℤ◌, length, sum_by, All}
 use Rattle.std.specs.Prelude.{Some}
 use Rattle.std.specs.Str.{IsUtf8}
-use Rattle.wasm_module.specs.values.Syntax.{Op, Ops, block, loop, if_else, br, br_if, br_table, call}
-use Rattle.wasm_module.specs.values.Syntax.{call_indirect, local_get, local_set, local_tee, global_get}
-use Rattle.wasm_module.specs.values.Syntax.{global_set, load, store, i32_const, i64_const, numeric}
-use Rattle.wasm_module.specs.values.Syntax.{float_memory, float_const, float_plain, no_ops, next}
-use Rattle.wasm_module.specs.values.Instructions.{IsLoad, IsStore, IsFloatMemory, IsNumeric, IsFloatPlain}
-use Rattle.wasm_module.specs.sections.Sections.{Syntax}
-use Rattle.wasm_module.specs.declared.values.types.Bounds.{Bounds}
-use Rattle.wasm_module.specs.declared.sections.imports.ImportDesc.{ImportDesc}
-use Rattle.wasm_module.specs.declared.sections.imports.ImportDesc.TheVariants as import
-use Rattle.wasm_module.specs.declared.sections.exports.ExportDesc.{ExportDesc}
-use Rattle.wasm_module.specs.declared.sections.exports.ExportDesc.TheVariants as export
-use Rattle.wasm_module.specs.declared.values.instr.FloatBytes.{FloatBytes}
-use Rattle.wasm_module.specs.declared.values.instr.FloatBytes.TheVariants.{Four, Eight}
+use Rattle.wasm_values.specs.Syntax.{Op, Ops, block, loop, if_else, br, br_if, br_table, call}
+use Rattle.wasm_values.specs.Syntax.{call_indirect, local_get, local_set, local_tee, global_get}
+use Rattle.wasm_values.specs.Syntax.{global_set, load, store, i32_const, i64_const, numeric}
+use Rattle.wasm_values.specs.Syntax.{float_memory, float_const, float_plain, no_ops, next}
+use Rattle.wasm_values.specs.Instructions.{IsLoad, IsStore, IsFloatMemory, IsNumeric, IsFloatPlain}
+use Rattle.wasm_module.specs.Sections.{Syntax}
+use Rattle.wasm_values.specs.declared.types.Bounds.{Bounds}
+use Rattle.wasm_values.specs.declared.imports.ImportDesc.{ImportDesc}
+use Rattle.wasm_values.specs.declared.imports.ImportDesc.TheVariants as import
+use Rattle.wasm_values.specs.declared.exports.ExportDesc.{ExportDesc}
+use Rattle.wasm_values.specs.declared.exports.ExportDesc.TheVariants as export
+use Rattle.wasm_values.specs.declared.instr.FloatBytes.{FloatBytes}
+use Rattle.wasm_values.specs.declared.instr.FloatBytes.TheVariants.{Four, Eight}
 
 -- A number of 32 bits.
 abbrev pub IsU32 : ℕ → Type 0

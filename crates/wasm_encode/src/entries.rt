@@ -1,9 +1,9 @@
 // Writers of the entries of lists.
 ghost use Rattle.std.specs.Prelude.{◌≡◌, ℕ, List, OnOk};
 ghost use Rattle.wasm_encode.specs.inner.Gains.{Gains, IsSpelled};
-ghost use Rattle.wasm_module.specs.sections.Entries.{SpellsLocalRun, code_view};
-ghost use Rattle.wasm_module.specs.values.Instructions.{SpellsExpression};
-ghost use Rattle.wasm_module.specs.values.Spelling.{SpellsList, Then};
+ghost use Rattle.wasm_module.specs.Entries.{SpellsLocalRun, code_view};
+ghost use Rattle.wasm_values.specs.Instructions.{SpellsExpression};
+ghost use Rattle.wasm_values.specs.Spelling.{SpellsList, Then};
 
 use crate::NoMemory;
 use crate::instrs::put_expression;
@@ -24,8 +24,8 @@ pub(crate) enum ValueEntry {}
 impl Written for ValueEntry {
     type Value = ValType;
 
-    ghost use Rattle.wasm_module.specs.declared.values.types.ValType.{ValType};
-    ghost use Rattle.wasm_module.specs.values.Values.{SpellsValType};
+    ghost use Rattle.wasm_values.specs.declared.types.ValType.{ValType};
+    ghost use Rattle.wasm_values.specs.Values.{SpellsValType};
 
     ghost Seen = { ValType };
 
@@ -44,8 +44,8 @@ pub(crate) enum TypeEntry {}
 impl Written for TypeEntry {
     type Value = FuncType;
 
-    ghost use Rattle.wasm_module.specs.declared.values.types.FuncType.{FuncType};
-    ghost use Rattle.wasm_module.specs.values.Values.{SpellsFuncType};
+    ghost use Rattle.wasm_values.specs.declared.types.FuncType.{FuncType};
+    ghost use Rattle.wasm_values.specs.Values.{SpellsFuncType};
 
     ghost Seen = { FuncType };
 
@@ -66,8 +66,8 @@ pub(crate) enum ImportEntry {}
 impl Written for ImportEntry {
     type Value = Import;
 
-    ghost use Rattle.wasm_module.specs.declared.sections.imports.Import.{Import};
-    ghost use Rattle.wasm_module.specs.values.Values.{SpellsImport};
+    ghost use Rattle.wasm_values.specs.declared.imports.Import.{Import};
+    ghost use Rattle.wasm_values.specs.Values.{SpellsImport};
 
     ghost Seen = { Import };
 
@@ -88,8 +88,8 @@ pub(crate) enum TableEntry {}
 impl Written for TableEntry {
     type Value = Bounds;
 
-    ghost use Rattle.wasm_module.specs.declared.values.types.Bounds.{Bounds};
-    ghost use Rattle.wasm_module.specs.values.Values.{SpellsTableType};
+    ghost use Rattle.wasm_values.specs.declared.types.Bounds.{Bounds};
+    ghost use Rattle.wasm_values.specs.Values.{SpellsTableType};
 
     ghost Seen = { Bounds };
 
@@ -108,8 +108,8 @@ pub(crate) enum MemoryEntry {}
 impl Written for MemoryEntry {
     type Value = Bounds;
 
-    ghost use Rattle.wasm_module.specs.declared.values.types.Bounds.{Bounds};
-    ghost use Rattle.wasm_module.specs.values.Values.{SpellsBounds};
+    ghost use Rattle.wasm_values.specs.declared.types.Bounds.{Bounds};
+    ghost use Rattle.wasm_values.specs.Values.{SpellsBounds};
 
     ghost Seen = { Bounds };
 
@@ -128,10 +128,10 @@ pub(crate) enum GlobalEntry {}
 impl Written for GlobalEntry {
     type Value = GlobalDef;
 
-    ghost use Rattle.wasm_module.specs.values.Syntax.{Ops};
-    ghost use Rattle.wasm_module.specs.sections.Entries as entries;
-    ghost use Rattle.wasm_module.specs.sections.Entries.{SpellsGlobal, global_view};
-    ghost use Rattle.wasm_module.specs.values.Instructions.{SpellsExpression};
+    ghost use Rattle.wasm_values.specs.Syntax.{Ops};
+    ghost use Rattle.wasm_module.specs.Entries as entries;
+    ghost use Rattle.wasm_module.specs.Entries.{SpellsGlobal, global_view};
+    ghost use Rattle.wasm_values.specs.Instructions.{SpellsExpression};
 
     ghost Seen = { entries.Global Ops };
 
@@ -151,8 +151,8 @@ pub(crate) enum ExportEntry {}
 impl Written for ExportEntry {
     type Value = Export;
 
-    ghost use Rattle.wasm_module.specs.declared.sections.exports.Export.{Export};
-    ghost use Rattle.wasm_module.specs.values.Values.{SpellsExport};
+    ghost use Rattle.wasm_values.specs.declared.exports.Export.{Export};
+    ghost use Rattle.wasm_values.specs.Values.{SpellsExport};
 
     ghost Seen = { Export };
 
@@ -172,9 +172,9 @@ pub(crate) enum ElementEntry {}
 impl Written for ElementEntry {
     type Value = Element;
 
-    ghost use Rattle.wasm_module.specs.values.Syntax.{Ops};
-    ghost use Rattle.wasm_module.specs.sections.Entries.{Elements, SpellsElement, element_view};
-    ghost use Rattle.wasm_module.specs.values.Instructions.{SpellsExpression};
+    ghost use Rattle.wasm_values.specs.Syntax.{Ops};
+    ghost use Rattle.wasm_module.specs.Entries.{Elements, SpellsElement, element_view};
+    ghost use Rattle.wasm_values.specs.Instructions.{SpellsExpression};
 
     ghost Seen = { Elements Ops };
 
@@ -195,8 +195,8 @@ pub(crate) enum LocalEntry {}
 impl Written for LocalEntry {
     type Value = LocalRun;
 
-    ghost use Rattle.wasm_module.specs.declared.sections.codes.LocalRun.{LocalRun};
-    ghost use Rattle.wasm_module.specs.sections.Entries.{SpellsLocalRun};
+    ghost use Rattle.wasm_module.specs.declared.codes.LocalRun.{LocalRun};
+    ghost use Rattle.wasm_module.specs.Entries.{SpellsLocalRun};
 
     ghost Seen = { LocalRun };
 
@@ -227,9 +227,9 @@ pub(crate) enum CodeEntry {}
 impl Written for CodeEntry {
     type Value = Code;
 
-    ghost use Rattle.wasm_module.specs.values.Syntax.{Ops};
-    ghost use Rattle.wasm_module.specs.sections.Entries.{Function, SpellsCode, code_view};
-    ghost use Rattle.wasm_module.specs.values.Instructions.{SpellsExpression};
+    ghost use Rattle.wasm_values.specs.Syntax.{Ops};
+    ghost use Rattle.wasm_module.specs.Entries.{Function, SpellsCode, code_view};
+    ghost use Rattle.wasm_values.specs.Instructions.{SpellsExpression};
 
     ghost Seen = { Function Ops };
 
@@ -250,9 +250,9 @@ pub(crate) enum SegmentEntry {}
 impl Written for SegmentEntry {
     type Value = Segment;
 
-    ghost use Rattle.wasm_module.specs.values.Syntax.{Ops};
-    ghost use Rattle.wasm_module.specs.sections.Entries.{Data, SpellsSegment, segment_view};
-    ghost use Rattle.wasm_module.specs.values.Instructions.{SpellsExpression};
+    ghost use Rattle.wasm_values.specs.Syntax.{Ops};
+    ghost use Rattle.wasm_module.specs.Entries.{Data, SpellsSegment, segment_view};
+    ghost use Rattle.wasm_values.specs.Instructions.{SpellsExpression};
 
     ghost Seen = { Data Ops };
 

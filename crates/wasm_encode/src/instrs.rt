@@ -1,11 +1,11 @@
 // Writers of instructions.
 ghost use Rattle.std.specs.Prelude.{◌≡◌, ◌∷◌, ◌++◌, [], OnOk};
 ghost use Rattle.wasm_encode.specs.inner.Gains.{Gains, IsSpelled};
-ghost use Rattle.wasm_module.specs.values.Instructions.{SpellsExpression, SpellsOp, SpellsOps};
-ghost use Rattle.wasm_module.specs.values.Spelling.{SpellsU32, Then};
-ghost use Rattle.wasm_module.specs.values.Syntax.{br_table, float_const, i32_const, i64_const};
-ghost use Rattle.wasm_module.specs.values.Values.{SpellsBlockType};
-ghost use Rattle.wasm_module.specs.values.View.{instr_view, instrs_view};
+ghost use Rattle.wasm_values.specs.Instructions.{SpellsExpression, SpellsOp, SpellsOps};
+ghost use Rattle.wasm_values.specs.Spelling.{SpellsU32, Then};
+ghost use Rattle.wasm_values.specs.Syntax.{br_table, float_const, i32_const, i64_const};
+ghost use Rattle.wasm_values.specs.Values.{SpellsBlockType};
+ghost use Rattle.wasm_values.specs.View.{instr_view, instrs_view};
 
 use crate::NoMemory;
 use crate::values::put_block_type;

@@ -3,8 +3,8 @@ ghost use Rattle.std.specs.Prelude.{◌≡◌, ◌^◌, ◌<◌, ℕ, List, [], 
 ghost use Rattle.byte_fields.specs.Front.{SpellsShortest};
 ghost use Rattle.wasm_encode.specs.inner.Gains.{Gains, IsSpelled};
 ghost use Rattle.wasm_encode.specs.inner.Parts.{SpellsPart};
-ghost use Rattle.wasm_module.specs.sections.Sections.{Spells, SpellsStart, module_view};
-ghost use Rattle.wasm_module.specs.values.Spelling.{SpellsBytes, SpellsList};
+ghost use Rattle.wasm_module.specs.Sections.{Spells, SpellsStart, module_view};
+ghost use Rattle.wasm_values.specs.Spelling.{SpellsBytes, SpellsList};
 
 use crate::NoMemory;
 use crate::entries::{

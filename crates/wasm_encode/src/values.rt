@@ -1,10 +1,10 @@
 // Writers of names, types and descriptions.
 ghost use Rattle.std.specs.Prelude.{◌≡◌, ◌^◌, ◌<◌, [], ◌∷◌, length, OnOk};
 ghost use Rattle.wasm_encode.specs.inner.Gains.{Gains, IsSpelled};
-ghost use Rattle.wasm_module.specs.values.Spelling.{SpellsBytes};
-ghost use Rattle.wasm_module.specs.values.Values.{SpellsBlockType, SpellsBounds, SpellsExportDesc};
-ghost use Rattle.wasm_module.specs.values.Values.{SpellsGlobalType, SpellsImportDesc, SpellsMutable};
-ghost use Rattle.wasm_module.specs.values.Values.{SpellsName, SpellsResult, SpellsTableType, SpellsValType};
+ghost use Rattle.wasm_values.specs.Spelling.{SpellsBytes};
+ghost use Rattle.wasm_values.specs.Values.{SpellsBlockType, SpellsBounds, SpellsExportDesc};
+ghost use Rattle.wasm_values.specs.Values.{SpellsGlobalType, SpellsImportDesc, SpellsMutable};
+ghost use Rattle.wasm_values.specs.Values.{SpellsName, SpellsResult, SpellsTableType, SpellsValType};
 
 use crate::NoMemory;
 use byte_fields::put_leb_u32;

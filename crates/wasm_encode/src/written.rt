@@ -1,7 +1,7 @@
 // Writers of values to the end of bytes, and of lists of them.
 ghost use Rattle.std.specs.Prelude.{◌≡◌, ℕ, List, map, OnOk};
 ghost use Rattle.wasm_encode.specs.inner.Gains.{Gains, IsSpelled};
-ghost use Rattle.wasm_module.specs.values.Spelling.{SpellsEach, SpellsList};
+ghost use Rattle.wasm_values.specs.Spelling.{SpellsEach, SpellsList};
 
 use crate::NoMemory;
 use byte_fields::put_leb_u32;
@@ -58,7 +58,7 @@ impl Written for IndexEntry {
     type Value = u32;
 
     ghost use Rattle.std.specs.Prelude.{ℕ};
-    ghost use Rattle.wasm_module.specs.values.Spelling.{SpellsU32};
+    ghost use Rattle.wasm_values.specs.Spelling.{SpellsU32};
 
     ghost Seen = { ℕ };
 

@@ -3,18 +3,18 @@ use Rattle.std.proofs.Common.{◌≡◌, ℕ, ◌+◌, ◌*◌, ◌<◌, ◌≤�
 use Rattle.std.specs.Prelude.{replicate}
 use Rattle.std.proofs.lemmas.List.{length-map, length-replicate, length-take-le, drop_all, drop_more, map_more, set_at, map_push}
 use Rattle.std.proofs.lemmas.List.Elements.{All-more, All-head, All-tail}
-use Rattle.wasm_module.specs.values.Syntax.{Op, Ops, next, i32_const, i64_const}
-use Rattle.wasm_module.specs.values.View.{items_view, instr_view, instrs_view}
-use Rattle.wasm_module.specs.sections.Entries.{element_view, segment_view, global_view}
-use Rattle.wasm_module.specs.declared.sections.elements.Element.{Element}
-use Rattle.wasm_module.specs.declared.sections.globals.GlobalDef.{GlobalDef}
-use Rattle.wasm_module.specs.declared.values.instr.Instr.{Instr}
-use Rattle.wasm_module.specs.declared.sections.segments.Segment.{Segment}
-use Rattle.wasm_module.specs.declared.values.types.ValType.{ValType}
-use Rattle.wasm_validate.specs.typing.Typing.{IsConstant}
+use Rattle.wasm_values.specs.Syntax.{Op, Ops, next, i32_const, i64_const}
+use Rattle.wasm_values.specs.View.{items_view, instr_view, instrs_view}
+use Rattle.wasm_module.specs.Entries.{element_view, segment_view, global_view}
+use Rattle.wasm_module.specs.declared.elements.Element.{Element}
+use Rattle.wasm_module.specs.declared.globals.GlobalDef.{GlobalDef}
+use Rattle.wasm_values.specs.declared.instr.Instr.{Instr}
+use Rattle.wasm_module.specs.declared.segments.Segment.{Segment}
+use Rattle.wasm_values.specs.declared.types.ValType.{ValType}
+use Rattle.wasm_typing.specs.Typing.{IsConstant}
 use Rattle.wasm_soundness.specs.Typed.{IsValue}
 use Rattle.wasm_store.specs.Memory.{Memory, written}
-use Rattle.wasm_module.specs.declared.values.types.Bounds.{Bounds}
+use Rattle.wasm_values.specs.declared.types.Bounds.{Bounds}
 use Rattle.wasm_link.specs.Linking.{Fits, constant, filled, first_memory, first_table, with_segments}
 use Rattle.wasm_link.specs.Made.{element_span, data_span}
 

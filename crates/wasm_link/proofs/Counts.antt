@@ -2,12 +2,12 @@
 use Rattle.std.proofs.Common.{◌≡◌, ℕ, ◌<◌, ◌≤◌, ◌^◌, List, [], ◌++◌, length, refl, ap, arith, length-append, Option, Some, None, Bool, true, false, cond, nat_eq}
 use Rattle.byte_fields.specs.Leb.{SpellsUnsigned, unsigned_last, unsigned_more}
 use Rattle.byte_fields.proofs.Unsigned.{unsigned_range}
-use Rattle.wasm_module.specs.values.Syntax.{Ops}
-use Rattle.wasm_module.specs.sections.Entries.{SpellsElement, SpellsSegment}
-use Rattle.wasm_module.specs.values.Instructions.{SpellsExpression}
-use Rattle.wasm_module.specs.sections.Limits.{WithinBytes}
-use Rattle.wasm_module.specs.sections.Sections.{Syntax, Section, SpellsSection, content_of, Holds, Spells, opening}
-use Rattle.wasm_module.specs.values.Spelling.{SpellsEach, each_none, each_next, SpellsList}
+use Rattle.wasm_values.specs.Syntax.{Ops}
+use Rattle.wasm_module.specs.Entries.{SpellsElement, SpellsSegment}
+use Rattle.wasm_values.specs.Instructions.{SpellsExpression}
+use Rattle.wasm_module.specs.Limits.{WithinBytes}
+use Rattle.wasm_module.specs.Sections.{Syntax, Section, SpellsSection, content_of, Holds, Spells, opening}
+use Rattle.wasm_values.specs.Spelling.{SpellsEach, each_none, each_next, SpellsList}
 use Rattle.wasm_link.specs.Made.{IsCounted}
 
 inside : {xs ys : List ℕ} → ◌≡◌ {A = Option (List ℕ)} (Some xs) (Some ys) → xs ≡ ys

@@ -1,14 +1,14 @@
 -- From the parts of a module to the whole link.
 use Rattle.std.proofs.Common.{◌≡◌, ℕ, List, ◌++◌, map, refl, ap, sym, ◌∙◌, subst, Some, slice_get, All}
-use Rattle.wasm_module.specs.values.Syntax.{Ops}
-use Rattle.wasm_module.specs.sections.Limits.{IsWithin}
-use Rattle.wasm_module.specs.sections.Sections.{Syntax}
-use Rattle.wasm_module.specs.declared.sections.exports.Export.{Export}
-use Rattle.wasm_module.specs.declared.host_sig.HostSig.{HostSig}
-use Rattle.wasm_module.specs.declared.sections.imports.Import.{Import}
-use Rattle.wasm_module.specs.declared.values.types.FuncType.{FuncType}
-use Rattle.wasm_validate.specs.typing.Context.{module_context}
-use Rattle.wasm_validate.specs.modules.Modules.{IsValid}
+use Rattle.wasm_values.specs.Syntax.{Ops}
+use Rattle.wasm_module.specs.Limits.{IsWithin}
+use Rattle.wasm_module.specs.Sections.{Syntax}
+use Rattle.wasm_values.specs.declared.exports.Export.{Export}
+use Rattle.wasm_values.specs.declared.host_sig.HostSig.{HostSig}
+use Rattle.wasm_values.specs.declared.imports.Import.{Import}
+use Rattle.wasm_values.specs.declared.types.FuncType.{FuncType}
+use Rattle.wasm_typing.specs.Context.{module_context}
+use Rattle.wasm_validate.specs.Modules.{IsValid}
 use Rattle.wasm_link.specs.Kept.{IsKept, link_of, IsMost}
 use Rattle.wasm_link.specs.Linking.{IsKnown, IsOfKind, IsLinked, IsLinkable, IsFault, HasLoop, Fits, spans, FirstNot}
 use Rattle.wasm_link.specs.Made.{AreNamed, AreImported, AreOwn, HaveMost, IsOtherKind, IsLoop, IsCounted, AreBusy, AreClasses, IsEntryOf, program_of, kind_of}

@@ -3,17 +3,17 @@ use Rattle.std.proofs.Common.{◌≡◌, ℕ, ◌+◌, ◌<◌, ◌≤◌, ◌�
 use Rattle.std.proofs.lemmas.Option.{slice_get_within, slice_get-get_or, get_or_from_slice_get}
 use Rattle.std.specs.List.{filter_map}
 use Rattle.std.proofs.lemmas.List.{map_push}
-use Rattle.wasm_validate.specs.typing.Context.{imported_func}
-use Rattle.wasm_validate.proofs.Imported.{filtered_more}
+use Rattle.wasm_typing.specs.Context.{imported_func}
+use Rattle.wasm_typing.proofs.Imported.{filtered_more}
 use Rattle.std.proofs.lemmas.Slice.Eq.{bytes_eq-Decides}
 use Rattle.std.specs.Str.{bytes_eq}
-use Rattle.wasm_module.specs.declared.host_sig.HostSig.{HostSig}
-use Rattle.wasm_module.specs.declared.sections.imports.Import.{Import}
-use Rattle.wasm_module.specs.declared.sections.imports.ImportDesc.TheVariants as import
-use Rattle.wasm_module.specs.declared.values.types.FuncType.{FuncType}
+use Rattle.wasm_values.specs.declared.host_sig.HostSig.{HostSig}
+use Rattle.wasm_values.specs.declared.imports.Import.{Import}
+use Rattle.wasm_values.specs.declared.imports.ImportDesc.TheVariants as import
+use Rattle.wasm_values.specs.declared.types.FuncType.{FuncType}
 use Rattle.wasm_link.specs.declared.entries.Entry.{Entry}
 use Rattle.wasm_link.specs.declared.entries.Entry.TheVariants as code
-use Rattle.wasm_validate.specs.inner.Stands.{Exactly}
+use Rattle.wasm_typing.specs.inner.Stands.{Exactly}
 use Rattle.wasm_link.specs.Linking.{Names, IsKnown, IsOfKind, FirstNot}
 use Rattle.wasm_link.specs.Made.{HasNames, IsNamed, IsNamedAt, AreNamed, HasKind, EachAt, IsImportedAt, IsNumberOf, kind_of}
 use Rattle.wasm_link.proofs.Each.{same_found, before_or, below_or, found, all_from, each_push}

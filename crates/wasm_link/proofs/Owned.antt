@@ -3,14 +3,14 @@ use Rattle.std.proofs.Common.{◌≡◌, ℕ, ◌+◌, ◌<◌, ◌≤◌, List,
 use Rattle.std.specs.List.{sum_by}
 use Rattle.std.proofs.lemmas.List.{length-map, map_push, take_more}
 use Rattle.std.proofs.lemmas.Option.{slice_get_within, slice_get-get_or}
-use Rattle.wasm_module.specs.sections.Entries.{code_view}
-use Rattle.wasm_module.specs.sections.Limits.{WithinLocals, params_in}
-use Rattle.wasm_module.specs.sections.Sections.{module_view}
-use Rattle.wasm_module.specs.declared.sections.codes.Code.{Code}
-use Rattle.wasm_module.specs.declared.sections.module.Module.{Module}
-use Rattle.wasm_module.specs.declared.values.types.FuncType.{FuncType}
-use Rattle.wasm_validate.specs.typing.Context.{locals_of}
-use Rattle.wasm_validate.specs.modules.Modules.{IsValid}
+use Rattle.wasm_module.specs.Entries.{code_view}
+use Rattle.wasm_module.specs.Limits.{WithinLocals, params_in}
+use Rattle.wasm_module.specs.Sections.{module_view}
+use Rattle.wasm_module.specs.declared.codes.Code.{Code}
+use Rattle.wasm_module.specs.declared.module.Module.{Module}
+use Rattle.wasm_values.specs.declared.types.FuncType.{FuncType}
+use Rattle.wasm_typing.specs.Context.{locals_of}
+use Rattle.wasm_validate.specs.Modules.{IsValid}
 use Rattle.wasm_steps.specs.Threads.{arity}
 use Rattle.wasm_link.specs.Made.{EachAt, IsOwnAt, own_entry, kind_of}
 use Rattle.wasm_link.specs.declared.entries.Entry.{Entry}

@@ -3,16 +3,16 @@ use Rattle.std.proofs.Common.{◌≡◌, ℕ, ◌+◌, ◌-◌, ◌<◌, ◌≤�
 use Rattle.std.specs.Option.{unwrap_or}
 use Rattle.std.proofs.lemmas.List.{length-map, map-append}
 use Rattle.std.proofs.lemmas.Option.{slice_get_within}
-use Rattle.wasm_module.specs.values.Syntax.{Ops}
-use Rattle.wasm_module.specs.sections.Entries.{Function}
-use Rattle.wasm_module.specs.sections.Sections.{Syntax}
-use Rattle.wasm_module.specs.declared.sections.exports.Export.{Export}
-use Rattle.wasm_module.specs.declared.host_sig.HostSig.{HostSig}
-use Rattle.wasm_module.specs.declared.sections.imports.Import.{Import}
-use Rattle.wasm_module.specs.declared.sections.imports.ImportDesc.TheVariants as import
-use Rattle.wasm_module.specs.declared.values.types.FuncType.{FuncType}
-use Rattle.wasm_validate.specs.typing.Context.{module_context, locals_of}
-use Rattle.wasm_validate.specs.modules.Modules.{IsValid}
+use Rattle.wasm_values.specs.Syntax.{Ops}
+use Rattle.wasm_module.specs.Entries.{Function}
+use Rattle.wasm_module.specs.Sections.{Syntax}
+use Rattle.wasm_values.specs.declared.exports.Export.{Export}
+use Rattle.wasm_values.specs.declared.host_sig.HostSig.{HostSig}
+use Rattle.wasm_values.specs.declared.imports.Import.{Import}
+use Rattle.wasm_values.specs.declared.imports.ImportDesc.TheVariants as import
+use Rattle.wasm_values.specs.declared.types.FuncType.{FuncType}
+use Rattle.wasm_typing.specs.Context.{module_context, locals_of}
+use Rattle.wasm_validate.specs.Modules.{IsValid}
 use Rattle.wasm_steps.specs.Program.{imported, defined, Program}
 use Rattle.wasm_steps.specs.Program as steps
 use Rattle.wasm_link.specs.Kept.{TakesAtMost, IsMost}

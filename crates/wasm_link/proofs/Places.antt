@@ -3,13 +3,13 @@ use Rattle.std.proofs.Common.{◌≡◌, ℕ, ◌+◌, ◌-◌, ◌*◌, ◌<◌
 use Rattle.std.proofs.lemmas.List.{length-map, length-replicate}
 use Rattle.std.proofs.lemmas.List.Elements.{All-append, All-map}
 use Rattle.std.proofs.lemmas.Option.{slice_get_within}
-use Rattle.wasm_module.specs.sections.Sections.{module_view}
-use Rattle.wasm_module.specs.sections.Entries.{element_view, segment_view}
-use Rattle.wasm_module.specs.declared.sections.elements.Element.{Element}
-use Rattle.wasm_module.specs.declared.sections.module.Module.{Module}
-use Rattle.wasm_module.specs.declared.sections.segments.Segment.{Segment}
-use Rattle.wasm_module.specs.declared.values.types.Bounds.{Bounds}
-use Rattle.wasm_validate.proofs.Imported.{unmapped}
+use Rattle.wasm_module.specs.Sections.{module_view}
+use Rattle.wasm_module.specs.Entries.{element_view, segment_view}
+use Rattle.wasm_module.specs.declared.elements.Element.{Element}
+use Rattle.wasm_module.specs.declared.module.Module.{Module}
+use Rattle.wasm_module.specs.declared.segments.Segment.{Segment}
+use Rattle.wasm_values.specs.declared.types.Bounds.{Bounds}
+use Rattle.wasm_typing.proofs.Imported.{unmapped}
 use Rattle.wasm_link.specs.Linking.{Span, Fits, spans, table_span, memory_span, table_size, first_memory, FirstNot}
 use Rattle.wasm_link.specs.Made.{element_span, data_span}
 use Rattle.wasm_link.proofs.Each.{before_or, found_under, all_at, all_left, all_right, get_left, get_right, get_map}

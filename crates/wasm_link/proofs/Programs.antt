@@ -6,19 +6,19 @@ use Rattle.std.proofs.lemmas.List.{length-replicate}
 use Rattle.std.proofs.lemmas.List.Sums.{sum_by-cons}
 use Rattle.std.proofs.lemmas.List.Elements.{All-head, All-tail, All-weaker}
 use Rattle.std.specs.Prelude.{replicate}
-use Rattle.wasm_module.specs.values.Syntax.{Ops, ops_nesting}
-use Rattle.wasm_module.specs.sections.Entries.{Function}
-use Rattle.wasm_module.specs.sections.Limits.{IsWithin, params_in}
-use Rattle.wasm_module.specs.sections.Sections.{Syntax}
-use Rattle.wasm_module.specs.declared.sections.codes.LocalRun.{LocalRun}
-use Rattle.wasm_module.specs.declared.host_sig.HostSig.{HostSig}
-use Rattle.wasm_module.specs.declared.sections.imports.Import.{Import}
-use Rattle.wasm_module.specs.declared.sections.imports.ImportDesc.{ImportDesc}
-use Rattle.wasm_module.specs.declared.sections.imports.ImportDesc.TheVariants as import
-use Rattle.wasm_module.specs.declared.values.types.FuncType.{FuncType}
-use Rattle.wasm_validate.specs.typing.Context.{module_context, function_context, imported_func, imported_table, imported_memory, imported_global, locals_of}
-use Rattle.wasm_validate.specs.modules.Modules.{IsValid}
-use Rattle.wasm_validate.specs.typing.Typing.{HasType, TypedBody}
+use Rattle.wasm_values.specs.Syntax.{Ops, ops_nesting}
+use Rattle.wasm_module.specs.Entries.{Function}
+use Rattle.wasm_module.specs.Limits.{IsWithin, params_in}
+use Rattle.wasm_module.specs.Sections.{Syntax}
+use Rattle.wasm_module.specs.declared.codes.LocalRun.{LocalRun}
+use Rattle.wasm_values.specs.declared.host_sig.HostSig.{HostSig}
+use Rattle.wasm_values.specs.declared.imports.Import.{Import}
+use Rattle.wasm_values.specs.declared.imports.ImportDesc.{ImportDesc}
+use Rattle.wasm_values.specs.declared.imports.ImportDesc.TheVariants as import
+use Rattle.wasm_values.specs.declared.types.FuncType.{FuncType}
+use Rattle.wasm_typing.specs.Context.{module_context, function_context, imported_func, imported_table, imported_memory, imported_global, locals_of}
+use Rattle.wasm_validate.specs.Modules.{IsValid}
+use Rattle.wasm_typing.specs.Typing.{HasType, TypedBody}
 use Rattle.wasm_steps.specs.Program.{imported, defined, type_of, Program}
 use Rattle.wasm_steps.specs.Program as steps
 use Rattle.wasm_soundness.specs.Typed.{IsTypedProgram, IsBody}

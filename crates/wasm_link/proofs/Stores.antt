@@ -2,20 +2,20 @@
 use Rattle.std.proofs.Common.{◌≡◌, ℕ, suc, zero, ◌+◌, ◌-◌, ◌<◌, ◌≤◌, ◌^◌, ◌⊎◌, inl, inr, List, [], ◌∷◌, ◌++◌, length, map, take, drop, refl, ap, sym, ◌∙◌, subst, arith, Option, Some, None, slice_get, All}
 use Rattle.std.specs.Prelude.{replicate}
 use Rattle.std.proofs.lemmas.List.Elements.{All-head, All-tail, All-weaker}
-use Rattle.wasm_module.specs.values.Syntax.{Ops}
-use Rattle.wasm_module.specs.values.View.{instrs_view}
-use Rattle.wasm_module.specs.sections.Entries.{Elements, Global, global_view}
-use Rattle.wasm_module.specs.sections.Limits.{IsWithin}
-use Rattle.wasm_module.specs.sections.Sections.{module_view}
-use Rattle.wasm_module.specs.declared.sections.globals.GlobalDef.{GlobalDef}
+use Rattle.wasm_values.specs.Syntax.{Ops}
+use Rattle.wasm_values.specs.View.{instrs_view}
+use Rattle.wasm_module.specs.Entries.{Elements, Global, global_view}
+use Rattle.wasm_module.specs.Limits.{IsWithin}
+use Rattle.wasm_module.specs.Sections.{module_view}
+use Rattle.wasm_module.specs.declared.globals.GlobalDef.{GlobalDef}
 use Rattle.wasm_store.specs.Memory.{Memory}
-use Rattle.wasm_module.specs.declared.sections.module.Module.{Module}
-use Rattle.wasm_module.specs.declared.values.types.Bounds.{Bounds}
-use Rattle.wasm_module.specs.declared.values.types.GlobalType.{GlobalType}
-use Rattle.wasm_validate.specs.typing.Context.{module_context, imported_globals}
-use Rattle.wasm_validate.specs.modules.Modules.{IsValid, IsGlobal, IsElements, IsMemoryType}
-use Rattle.wasm_validate.specs.typing.Typing.{IsConstant}
-use Rattle.wasm_validate.proofs.Imported.{unmapped}
+use Rattle.wasm_module.specs.declared.module.Module.{Module}
+use Rattle.wasm_values.specs.declared.types.Bounds.{Bounds}
+use Rattle.wasm_values.specs.declared.types.GlobalType.{GlobalType}
+use Rattle.wasm_typing.specs.Context.{module_context, imported_globals}
+use Rattle.wasm_validate.specs.Modules.{IsValid, IsGlobal, IsElements, IsMemoryType}
+use Rattle.wasm_typing.specs.Typing.{IsConstant}
+use Rattle.wasm_typing.proofs.Imported.{unmapped}
 use Rattle.wasm_soundness.specs.Typed.{IsValue, AreValues, no_values, next_value, IsTypedStore}
 use Rattle.wasm_steps.specs.Program.{Store}
 use Rattle.wasm_link.specs.Linking.{constant, filled, first_table, first_store, table_size, first_memory}

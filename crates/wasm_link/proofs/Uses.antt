@@ -3,17 +3,17 @@ use Rattle.std.proofs.Common.{◌≡◌, ℕ, ◌<◌, List, length, map, refl, 
 use Rattle.std.specs.Option.{unwrap_or}
 use Rattle.std.proofs.lemmas.Bool.Decides.{nat_tests}
 use Rattle.std.proofs.lemmas.Option.{slice_get_within, get_or_from_slice_get}
-use Rattle.wasm_module.specs.values.Syntax.{Ops}
-use Rattle.wasm_module.specs.sections.Entries.{Function, code_view}
-use Rattle.wasm_module.specs.values.View.{items_view, instrs_view}
-use Rattle.wasm_module.proofs.Views.{view_instrs}
-use Rattle.wasm_module.specs.declared.sections.codes.Code.{Code}
-use Rattle.wasm_module.specs.declared.values.instr.Instr.{Instr}
-use Rattle.wasm_module.specs.declared.sections.module.Module.{Module}
-use Rattle.wasm_module.specs.sections.Sections.{Syntax, module_view}
-use Rattle.wasm_module.specs.declared.values.types.FuncType.{FuncType}
-use Rattle.wasm_validate.specs.typing.Context.{module_context}
-use Rattle.wasm_validate.specs.modules.Modules.{IsValid, IsStart}
+use Rattle.wasm_values.specs.Syntax.{Ops}
+use Rattle.wasm_module.specs.Entries.{Function, code_view}
+use Rattle.wasm_values.specs.View.{items_view, instrs_view}
+use Rattle.wasm_values.proofs.Views.{view_instrs}
+use Rattle.wasm_module.specs.declared.codes.Code.{Code}
+use Rattle.wasm_values.specs.declared.instr.Instr.{Instr}
+use Rattle.wasm_module.specs.declared.module.Module.{Module}
+use Rattle.wasm_module.specs.Sections.{Syntax, module_view}
+use Rattle.wasm_values.specs.declared.types.FuncType.{FuncType}
+use Rattle.wasm_typing.specs.Context.{module_context}
+use Rattle.wasm_validate.specs.Modules.{IsValid, IsStart}
 use Rattle.wasm_steps.specs.Program.{type_of, defined, Program}
 use Rattle.wasm_steps.specs.Threads.{arity}
 use Rattle.wasm_steps.specs.Program as steps

@@ -1,8 +1,8 @@
 -- What the code has of linked modules.
 use Rattle.std.specs.Prelude.{◌≡◌, ℕ, [], length, None, Some, slice_get}
-use Rattle.wasm_module.specs.values.Syntax.{Ops}
-use Rattle.wasm_module.specs.values.View.{items_view}
-use Rattle.wasm_module.specs.declared.values.types.FuncType.{FuncType}
+use Rattle.wasm_values.specs.Syntax.{Ops}
+use Rattle.wasm_values.specs.View.{items_view}
+use Rattle.wasm_values.specs.declared.types.FuncType.{FuncType}
 use Rattle.wasm_steps.specs.Program.{Function, imported, defined, Program, Store}
 use Rattle.wasm_steps.specs.Threads.{arity}
 use Rattle.wasm_link.specs.declared.linked.Callee.{Callee}

@@ -1,11 +1,11 @@
 -- What a linked module keeps of the module and the calls.
 use Rattle.std.specs.Prelude.{◌≡◌, ◌⊎◌, ℕ, ◌≤◌, List, length, Some, slice_get, All}
-use Rattle.wasm_module.specs.values.Syntax.{Ops}
-use Rattle.wasm_module.specs.sections.Sections.{Syntax, module_view}
-use Rattle.wasm_module.specs.sections.Limits.{IsWithin}
-use Rattle.wasm_module.specs.declared.host_sig.HostSig.{HostSig}
-use Rattle.wasm_module.specs.declared.sections.module.Module.{Module}
-use Rattle.wasm_module.specs.declared.values.types.FuncType.{FuncType}
+use Rattle.wasm_values.specs.Syntax.{Ops}
+use Rattle.wasm_module.specs.Sections.{Syntax, module_view}
+use Rattle.wasm_module.specs.Limits.{IsWithin}
+use Rattle.wasm_values.specs.declared.host_sig.HostSig.{HostSig}
+use Rattle.wasm_module.specs.declared.module.Module.{Module}
+use Rattle.wasm_values.specs.declared.types.FuncType.{FuncType}
 use Rattle.wasm_steps.specs.Program.{Program, imported}
 use Rattle.wasm_link.specs.Linking.{Link, IsLinked}
 use Rattle.wasm_link.specs.Made.{program_of, IsEntryOf, AreClasses, IsCounted, AreBusy}

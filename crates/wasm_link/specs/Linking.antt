@@ -4,20 +4,20 @@ use Rattle.std.specs.Prelude.{◌≡◌, ℕ, ◌+◌, ◌<◌, ◌≤◌, List,
 use Rattle.std.specs.Prelude.{Option, Some, None, slice_get, take, drop, All}
 use Rattle.std.specs.Option.{unwrap_or}
 use Rattle.std.specs.Int.{w32, w64, cast_unsigned}
-use Rattle.wasm_module.specs.values.Syntax.{Ops, no_ops, next, i32_const, i64_const}
-use Rattle.wasm_module.specs.sections.Entries.{Elements, Data, Function}
-use Rattle.wasm_module.specs.sections.Sections.{Syntax}
-use Rattle.wasm_module.specs.declared.values.types.FuncType.{FuncType}
-use Rattle.wasm_module.specs.declared.values.types.Bounds.{Bounds}
-use Rattle.wasm_module.specs.declared.sections.imports.Import.{Import}
-use Rattle.wasm_module.specs.declared.sections.imports.ImportDesc.TheVariants as import
-use Rattle.wasm_module.specs.declared.sections.exports.Export.{Export}
-use Rattle.wasm_module.specs.declared.sections.exports.ExportDesc.TheVariants as export
+use Rattle.wasm_values.specs.Syntax.{Ops, no_ops, next, i32_const, i64_const}
+use Rattle.wasm_module.specs.Entries.{Elements, Data, Function}
+use Rattle.wasm_module.specs.Sections.{Syntax}
+use Rattle.wasm_values.specs.declared.types.FuncType.{FuncType}
+use Rattle.wasm_values.specs.declared.types.Bounds.{Bounds}
+use Rattle.wasm_values.specs.declared.imports.Import.{Import}
+use Rattle.wasm_values.specs.declared.imports.ImportDesc.TheVariants as import
+use Rattle.wasm_values.specs.declared.exports.Export.{Export}
+use Rattle.wasm_values.specs.declared.exports.ExportDesc.TheVariants as export
 use Rattle.wasm_store.specs.Memory.{Memory, fresh, written, most_pages}
-use Rattle.wasm_validate.specs.typing.Context.{module_context, locals_of}
-use Rattle.wasm_validate.specs.typing.Typing.{HasType}
+use Rattle.wasm_typing.specs.Context.{module_context, locals_of}
+use Rattle.wasm_typing.specs.Typing.{HasType}
 use Rattle.wasm_steps.specs.Program.{imported, defined, Program, Store}
-use Rattle.wasm_module.specs.declared.host_sig.HostSig.{HostSig}
+use Rattle.wasm_values.specs.declared.host_sig.HostSig.{HostSig}
 use Rattle.wasm_link.specs.declared.fault.LinkFault.{LinkFault}
 use Rattle.wasm_link.specs.declared.fault.LinkFault.TheVariants as fault
 

@@ -2,23 +2,23 @@
 use Rattle.std.specs.Prelude.{◌≡◌, ◌⊎◌, ℕ, ◌+◌, ◌<◌, ◌≤◌, ◌^◌, List, [], ◌∷◌, length, map, codes, Option}
 use Rattle.std.specs.Prelude.{Some, None, slice_get, All}
 use Rattle.std.specs.Option.{unwrap_or}
-use Rattle.wasm_module.specs.values.Syntax.{Ops, no_ops}
-use Rattle.wasm_module.specs.values.View.{instrs_view}
-use Rattle.wasm_module.specs.sections.Entries.{Function}
-use Rattle.wasm_module.specs.sections.Sections.{Syntax}
-use Rattle.wasm_module.specs.declared.sections.elements.Element.{Element}
-use Rattle.wasm_module.specs.declared.sections.exports.Export.{Export}
-use Rattle.wasm_module.specs.declared.sections.exports.ExportDesc.TheVariants as export
-use Rattle.wasm_module.specs.declared.host_sig.HostSig.{HostSig}
-use Rattle.wasm_module.specs.declared.sections.imports.Import.{Import}
-use Rattle.wasm_module.specs.declared.sections.imports.ImportDesc.{ImportDesc}
-use Rattle.wasm_module.specs.declared.sections.imports.ImportDesc.TheVariants as import
-use Rattle.wasm_module.specs.declared.sections.segments.Segment.{Segment}
-use Rattle.wasm_module.specs.declared.values.types.Bounds.{Bounds}
-use Rattle.wasm_module.specs.declared.values.types.FuncType.{FuncType}
-use Rattle.wasm_module.specs.declared.values.types.ValType.{ValType}
-use Rattle.wasm_module.specs.declared.values.types.ValType.TheVariants.{I32, I64, F32, F64}
-use Rattle.wasm_validate.specs.typing.Context.{locals_of}
+use Rattle.wasm_values.specs.Syntax.{Ops, no_ops}
+use Rattle.wasm_values.specs.View.{instrs_view}
+use Rattle.wasm_module.specs.Entries.{Function}
+use Rattle.wasm_module.specs.Sections.{Syntax}
+use Rattle.wasm_module.specs.declared.elements.Element.{Element}
+use Rattle.wasm_values.specs.declared.exports.Export.{Export}
+use Rattle.wasm_values.specs.declared.exports.ExportDesc.TheVariants as export
+use Rattle.wasm_values.specs.declared.host_sig.HostSig.{HostSig}
+use Rattle.wasm_values.specs.declared.imports.Import.{Import}
+use Rattle.wasm_values.specs.declared.imports.ImportDesc.{ImportDesc}
+use Rattle.wasm_values.specs.declared.imports.ImportDesc.TheVariants as import
+use Rattle.wasm_module.specs.declared.segments.Segment.{Segment}
+use Rattle.wasm_values.specs.declared.types.Bounds.{Bounds}
+use Rattle.wasm_values.specs.declared.types.FuncType.{FuncType}
+use Rattle.wasm_values.specs.declared.types.ValType.{ValType}
+use Rattle.wasm_values.specs.declared.types.ValType.TheVariants.{I32, I64, F32, F64}
+use Rattle.wasm_typing.specs.Context.{locals_of}
 use Rattle.wasm_store.specs.Memory.{most_pages}
 use Rattle.wasm_steps.specs.Program.{imported, defined, Program}
 use Rattle.wasm_steps.specs.Program as steps

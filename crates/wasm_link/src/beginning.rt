@@ -1,15 +1,15 @@
 // What an instance begins with, worked out once.
 ghost use Rattle.std.specs.Prelude.{◌≡◌, ◌^◌, ℕ, List, Option, [], None, length, map, replicate};
 ghost use Rattle.std.specs.Prelude.{All, AllPairs, IfOk, OnOk};
-ghost use Rattle.wasm_module.specs.sections.Entries.{global_view, element_view, segment_view};
-ghost use Rattle.wasm_module.specs.sections.Sections.{module_view};
-ghost use Rattle.wasm_module.specs.values.View.{instrs_view};
-ghost use Rattle.wasm_validate.specs.typing.Typing.{IsConstant};
-ghost use Rattle.wasm_validate.specs.modules.Modules.{IsValid};
+ghost use Rattle.wasm_module.specs.Entries.{global_view, element_view, segment_view};
+ghost use Rattle.wasm_module.specs.Sections.{module_view};
+ghost use Rattle.wasm_values.specs.View.{instrs_view};
+ghost use Rattle.wasm_typing.specs.Typing.{IsConstant};
+ghost use Rattle.wasm_validate.specs.Modules.{IsValid};
 ghost use Rattle.wasm_soundness.specs.Typed.{IsValue};
 ghost use Rattle.wasm_store.specs.Memory.{Memory};
-ghost use Rattle.wasm_module.specs.sections.Limits.{IsWithin};
-ghost use Rattle.wasm_module.specs.declared.host_sig.HostSig.{HostSig};
+ghost use Rattle.wasm_module.specs.Limits.{IsWithin};
+ghost use Rattle.wasm_values.specs.declared.host_sig.HostSig.{HostSig};
 ghost use Rattle.wasm_link.specs.Linking.{Fits, IsOfKind, constant, first_table, with_segments, spans};
 ghost use Rattle.wasm_link.specs.Made.{element_span, data_span};
 ghost use Rattle.wasm_link.specs.inner.Beginnings.{IsBeginning};

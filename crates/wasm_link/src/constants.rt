@@ -1,8 +1,8 @@
 // The values of constants.
 ghost use Rattle.std.specs.Prelude.{◌≡◌, []};
-ghost use Rattle.wasm_module.specs.values.Syntax.{next, no_ops};
-ghost use Rattle.wasm_module.specs.values.View.{instr_view, instrs_view};
-ghost use Rattle.wasm_validate.specs.typing.Typing.{IsConstant};
+ghost use Rattle.wasm_values.specs.Syntax.{next, no_ops};
+ghost use Rattle.wasm_values.specs.View.{instr_view, instrs_view};
+ghost use Rattle.wasm_typing.specs.Typing.{IsConstant};
 ghost use Rattle.wasm_soundness.specs.Typed.{IsValue};
 ghost use Rattle.wasm_link.specs.Linking.{constant};
 

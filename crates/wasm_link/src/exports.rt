@@ -1,6 +1,6 @@
 // The function that is exported as `loop`.
 ghost use Rattle.std.specs.Prelude.{◌≡◌, ℕ, map, slice_get, Some, MatchOption};
-ghost use Rattle.wasm_validate.specs.inner.Stands.{Exactly};
+ghost use Rattle.wasm_typing.specs.inner.Stands.{Exactly};
 ghost use Rattle.wasm_link.specs.Made.{kind_of, IsPlain, IsLoop};
 
 use crate::entries::Entry;

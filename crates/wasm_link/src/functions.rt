@@ -1,9 +1,9 @@
 // The functions that a module defines.
 ghost use Rattle.std.specs.Prelude.{◌≡◌, ◌≤◌, ◌^◌, ◌<◌, length, map, sum_by, IfOk};
-ghost use Rattle.wasm_module.specs.sections.Limits.{WithinFunctions, WithinLocals, most_locals};
-ghost use Rattle.wasm_module.specs.sections.Sections.{module_view};
-ghost use Rattle.wasm_validate.specs.typing.Context.{locals_of};
-ghost use Rattle.wasm_validate.specs.modules.Modules.{IsValid};
+ghost use Rattle.wasm_module.specs.Limits.{WithinFunctions, WithinLocals, most_locals};
+ghost use Rattle.wasm_module.specs.Sections.{module_view};
+ghost use Rattle.wasm_typing.specs.Context.{locals_of};
+ghost use Rattle.wasm_validate.specs.Modules.{IsValid};
 ghost use Rattle.wasm_steps.specs.Threads.{arity};
 ghost use Rattle.wasm_link.specs.Made.{kind_of, AreOwn};
 

@@ -1,8 +1,8 @@
 // The calls of the host that a module imports.
 ghost use Rattle.std.specs.Prelude.{◌≡◌, ◌<◌, ◌^◌, length, map, IfOk, IfErr, MatchOption};
 ghost use Rattle.std.specs.List.{filter_map};
-ghost use Rattle.wasm_validate.specs.typing.Context.{imported_func};
-ghost use Rattle.wasm_validate.specs.inner.Stands.{Exactly};
+ghost use Rattle.wasm_typing.specs.Context.{imported_func};
+ghost use Rattle.wasm_typing.specs.inner.Stands.{Exactly};
 ghost use Rattle.wasm_link.specs.Linking.{IsKnown};
 ghost use Rattle.wasm_link.specs.Made.{kind_of, IsNamed, HasNames, AreNamed, HasKind, AreImported};
 ghost use Rattle.wasm_link.specs.Made.{IsUnknown, IsOtherKind, EachAt, IsNumberOf, HaveMost};

@@ -1,9 +1,9 @@
 // Linked modules.
 ghost use Rattle.std.specs.Prelude.{◌≡◌, ◌≤◌, ◌<◌, ◌^◌, ◌↔◌, ℕ, List, [], length, All, None, Some, slice_get};
 ghost use Rattle.std.specs.Prelude.{IfOk, IfErr, IfSome, IsTrue};
-ghost use Rattle.wasm_module.specs.sections.Limits.{IsWithin, WithinBytes};
-ghost use Rattle.wasm_module.specs.sections.Sections.{Spells, module_view};
-ghost use Rattle.wasm_validate.specs.modules.Modules.{IsValid};
+ghost use Rattle.wasm_module.specs.Limits.{IsWithin, WithinBytes};
+ghost use Rattle.wasm_module.specs.Sections.{Spells, module_view};
+ghost use Rattle.wasm_validate.specs.Modules.{IsValid};
 ghost use Rattle.wasm_link.specs.Linking.{IsLinked, IsFault, IsLinkable};
 ghost use Rattle.wasm_link.specs.Kept.{IsKept, IsMost, link_of, link_view};
 ghost use Rattle.wasm_link.specs.Made.{AreBusy, IsCounted};
@@ -85,9 +85,9 @@ impl Drop for Linked {
 impl Model for Linked {
     ghost use Rattle.wasm_link.specs.Kept.{Kept};
     ghost use Rattle.wasm_link.specs.inner.Beginnings.{IsReady};
-    ghost use Rattle.wasm_module.specs.sections.Sections.{module_view};
+    ghost use Rattle.wasm_module.specs.Sections.{module_view};
     ghost use Rattle.std.specs.Coded.{codes};
-    ghost use Rattle.wasm_module.specs.contracts.sections.module.Module as whole_row;
+    ghost use Rattle.wasm_module.specs.contracts.module.Module as whole_row;
     ghost use Rattle.wasm_link.specs.contracts.entries.Entry as entry_row;
 
     ghost Value = { Kept };
@@ -192,9 +192,9 @@ pub fn link(alloc: Global, valid: Valid, sigs: &[HostSig]) -> Result<Linked, Lin
 
 impl Linked {
     ghost use Rattle.wasm_steps.specs.Program.{Function, imported, type_of};
-    ghost use Rattle.wasm_module.specs.declared.values.types.FuncType.{FuncType};
+    ghost use Rattle.wasm_values.specs.declared.types.FuncType.{FuncType};
     ghost use Rattle.wasm_soundness.specs.Typed.{IsTypedProgram, IsTypedStore};
-    ghost use Rattle.wasm_validate.specs.typing.Context.{module_context};
+    ghost use Rattle.wasm_typing.specs.Context.{module_context};
     ghost use Rattle.wasm_link.specs.Linking.{first_store};
     ghost use Rattle.wasm_link.specs.Callee.{IsCallee, IsEntry, store_view};
 

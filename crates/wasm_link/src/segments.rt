@@ -1,7 +1,7 @@
 // Whether the segments of a module are within its table and its memory.
 ghost use Rattle.std.specs.Prelude.{◌≡◌, ◌+◌, ◌<◌, ◌≤◌, ℕ, MatchOption, All, Any, IfOk};
-ghost use Rattle.wasm_validate.specs.inner.Stands.{Exactly};
-ghost use Rattle.wasm_module.specs.sections.Sections.{module_view};
+ghost use Rattle.wasm_typing.specs.inner.Stands.{Exactly};
+ghost use Rattle.wasm_module.specs.Sections.{module_view};
 ghost use Rattle.wasm_link.specs.Linking.{Span, Fits, FirstNot, table_size, spans};
 ghost use Rattle.wasm_link.specs.Made.{IsCounted};
 ghost use Rattle.wasm_link.specs.inner.Images.{IsOf, EndsIn};

@@ -1,7 +1,7 @@
 // The values of an image.
 ghost use Rattle.std.specs.Prelude.{◌≡◌, ℕ, ◌+◌, ◌-◌, ◌<◌, ◌≤◌, ◌^◌, ◌++◌, List, Option, Some, None};
 ghost use Rattle.std.specs.Prelude.{length, map, take, drop, slice_index_or, All, AllPairs, Any};
-ghost use Rattle.wasm_module.specs.sections.Entries.{element_view, segment_view};
+ghost use Rattle.wasm_module.specs.Entries.{element_view, segment_view};
 ghost use Rattle.wasm_store.specs.Memory.{Memory};
 ghost use Rattle.wasm_link.specs.Linking.{Fits, first_table, with_segments};
 ghost use Rattle.wasm_link.specs.Made.{element_span, data_span};

@@ -3,9 +3,9 @@ use Rattle.std.proofs.Common.{◌≡◌, ℕ, zero, suc, ℤ, Option, None, Some
 use Rattle.std.proofs.lemmas.Nat.{mod_below}
 use Rattle.std.proofs.Math.Facts.{Fits-of_z}
 use Rattle.std.specs.Int.{cast_unsigned}
-use Rattle.wasm_module.specs.declared.values.types.ValType.{ValType}
-use Rattle.wasm_module.specs.declared.values.types.ValType.TheVariants.{I32, I64, F32, F64}
-use Rattle.wasm_validate.specs.typing.Typing.{types_of}
+use Rattle.wasm_values.specs.declared.types.ValType.{ValType}
+use Rattle.wasm_values.specs.declared.types.ValType.TheVariants.{I32, I64, F32, F64}
+use Rattle.wasm_typing.specs.Typing.{types_of}
 use Rattle.wasm_steps.specs.Steps.{argument, answered}
 use Rattle.wasm_soundness.specs.Typed.{IsValue, AreValues, no_values, next_value}
 use Rattle.wasm_machine.specs.inner.Calls.{arguments_of}

@@ -1,9 +1,9 @@
 -- What calls lead to.
 use Rattle.std.proofs.Common.{List, [], ◌∷◌, drop, get_or, ◌≡◌, ℕ, ◌+◌, ◌-◌, ◌<◌, ◌≤◌, length, take, reverse, Result, Ok, Err, MatchResult, Option, Some, slice_get, inl, inr, refl, ap, sym, ◌∙◌, subst, arith, length-drop}
-use Rattle.wasm_module.specs.values.Syntax.{Ops, no_ops, next, call, call_indirect}
-use Rattle.wasm_module.specs.declared.values.types.FuncType.{FuncType}
+use Rattle.wasm_values.specs.Syntax.{Ops, no_ops, next, call, call_indirect}
+use Rattle.wasm_values.specs.declared.types.FuncType.{FuncType}
 use Rattle.wasm_store.specs.Memory.{Memory}
-use Rattle.wasm_validate.specs.typing.Context.{Context}
+use Rattle.wasm_typing.specs.Context.{Context}
 use Rattle.wasm_steps.specs.Program.{Function, imported, defined, Program, Store, most_frames, most_values}
 use Rattle.wasm_steps.specs.Threads.{arity, frame_count, size}
 use Rattle.wasm_steps.specs.Steps.{Meaning, Calls, CallFails, calls_own, calls_host, fails_depth, fails_room, fails_answer, Finds, FindsNone, step_call, step_call_indirect, stops_call, stops_call_indirect, stops_unfound}

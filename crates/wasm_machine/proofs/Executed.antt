@@ -1,9 +1,9 @@
 -- The steps that running an instruction takes.
 use Rattle.std.proofs.Common.{◌≡◌, ℕ, zero, suc, ◌≤◌, false, cond, eqb, List, [], ◌∷◌, length, drop, get_or, Option, Result, Ok, Err, MatchResult, ◌⊎◌, inl, inr, refl, ap, sym, ◌∙◌, subst, arith}
 use Rattle.std.proofs.lemmas.Bool.Decides.{nat_tests}
-use Rattle.wasm_module.specs.values.Syntax.{Op, Ops, next, no_ops, nop, block, loop, if_else, br, br_if, br_table, return}
-use Rattle.wasm_module.specs.declared.values.types.ValType.{ValType}
-use Rattle.wasm_validate.specs.typing.Context.{Context}
+use Rattle.wasm_values.specs.Syntax.{Op, Ops, next, no_ops, nop, block, loop, if_else, br, br_if, br_table, return}
+use Rattle.wasm_values.specs.declared.types.ValType.{ValType}
+use Rattle.wasm_typing.specs.Context.{Context}
 use Rattle.wasm_steps.specs.Program.{Program, Store, most_values}
 use Rattle.wasm_steps.specs.Threads.{Level, arity, size, Branches, Returns}
 use Rattle.wasm_steps.specs.Plain.{Fails, does_nop}

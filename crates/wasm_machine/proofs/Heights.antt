@@ -1,7 +1,7 @@
 -- How many levels a step may add.
 use Rattle.std.proofs.Common.{◌≡◌, ℕ, suc, ◌+◌, ◌≤◌, length, arith}
 use Rattle.wasm_steps.specs.Program.{Program, Function}
-use Rattle.wasm_module.specs.values.Syntax.{Ops}
+use Rattle.wasm_values.specs.Syntax.{Ops}
 use Rattle.wasm_steps.specs.Threads.{Thread, Leaves, leaves_label, leaves_frame, Branches, branches_here, branches_out, branches_further, Returns, returns_here, returns_further}
 use Rattle.wasm_steps.specs.Steps.{Meaning, State, Calls, calls_own, calls_host, Step, step_leaves, step_plain, step_block, step_loop, step_then, step_else, step_br, step_br_if, step_no_br_if, step_br_table, step_return, step_call, step_call_indirect}
 

@@ -1,8 +1,8 @@
 -- Functions that are invoked from outside, and runs of whole instances.
 use Rattle.std.proofs.Common.{◌≡◌, ℕ, ◌+◌, ◌-◌, ◌≤◌, Bool, true, false, cond, [], Option, Some, None, slice_get, refl, ap, sym, ◌∙◌, subst, arith}
-use Rattle.wasm_module.specs.values.Syntax.{Ops, no_ops}
-use Rattle.wasm_module.specs.declared.values.types.FuncType.{FuncType}
-use Rattle.wasm_validate.specs.typing.Context.{Context}
+use Rattle.wasm_values.specs.Syntax.{Ops, no_ops}
+use Rattle.wasm_values.specs.declared.types.FuncType.{FuncType}
+use Rattle.wasm_typing.specs.Context.{Context}
 use Rattle.wasm_steps.specs.Program.{defined, Program, Store, most_values}
 use Rattle.wasm_steps.specs.Threads.{Thread, size}
 use Rattle.wasm_steps.specs.Steps.{Meaning, State}

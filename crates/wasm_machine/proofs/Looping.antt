@@ -1,7 +1,7 @@
 -- A run, a step at a time.
 use Rattle.std.proofs.Common.{◌≡◌, ℕ, suc, ◌+◌, ◌<◌, ◌≤◌, [], length, refl, sym, subst, arith, add-zero}
-use Rattle.wasm_module.specs.values.Syntax.{Op, Ops, next, no_ops}
-use Rattle.wasm_validate.specs.typing.Context.{Context}
+use Rattle.wasm_values.specs.Syntax.{Op, Ops, next, no_ops}
+use Rattle.wasm_typing.specs.Context.{Context}
 use Rattle.wasm_steps.specs.Program.{Program, Store}
 use Rattle.wasm_steps.specs.Threads.{Leaves}
 use Rattle.wasm_steps.specs.Steps.{Meaning, State, step_leaves}

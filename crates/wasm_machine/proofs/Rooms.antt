@@ -1,7 +1,7 @@
 -- What a typed thread leaves room for, and where it can branch.
 use Rattle.std.proofs.Common.{◌≡◌, ℕ, ◌<◌, List, ◌∷◌, length, ap, arith, subst, sym}
-use Rattle.wasm_module.specs.values.Syntax.{Ops}
-use Rattle.wasm_validate.specs.typing.Context.{Context}
+use Rattle.wasm_values.specs.Syntax.{Ops}
+use Rattle.wasm_typing.specs.Context.{Context}
 use Rattle.wasm_steps.specs.Threads.{Level, Thread}
 use Rattle.wasm_soundness.specs.Typed.{IsTyped}
 use Rattle.wasm_soundness.specs.Ready.{CanBranch}

@@ -1,7 +1,7 @@
 -- What running instructions does to a thread, a store and a host.
 use Rattle.std.specs.Prelude.{◌≡◌, Result, MatchResult}
-use Rattle.wasm_module.specs.values.Syntax.{Op, Ops, next}
-use Rattle.wasm_validate.specs.typing.Context.{Context, module_context}
+use Rattle.wasm_values.specs.Syntax.{Op, Ops, next}
+use Rattle.wasm_typing.specs.Context.{Context, module_context}
 use Rattle.wasm_steps.specs.Program.{Program, Store}
 use Rattle.wasm_steps.specs.Steps.{Meaning, State, Step, Stops}
 use Rattle.wasm_steps.specs.declared.outcome.Trap.{Trap}

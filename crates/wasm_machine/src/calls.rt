@@ -1,7 +1,7 @@
 // Calls: WebAssembly Core 1.0, chapters 4.4.5 and 4.4.7.
 ghost use Rattle.std.specs.Prelude.{◌≡◌, ◌+◌, ◌<◌, ◌≤◌, Some, length, slice_get, vec_capacity, MatchResult};
-ghost use Rattle.wasm_module.specs.values.View.{items_view};
-ghost use Rattle.wasm_module.specs.values.Syntax.{no_ops, next, call_indirect};
+ghost use Rattle.wasm_values.specs.View.{items_view};
+ghost use Rattle.wasm_values.specs.Syntax.{no_ops, next, call_indirect};
 ghost use Rattle.wasm_steps.specs.Program.{Function, Store, most_frames, most_values};
 ghost use Rattle.wasm_steps.specs.Threads.{frame_count, size};
 ghost use Rattle.wasm_stack.specs.Held.{running, most_controls};

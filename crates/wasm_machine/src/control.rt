@@ -1,9 +1,9 @@
 // Blocks and branches: WebAssembly Core 1.0, chapter 4.4.5.
 ghost use Rattle.std.specs.Prelude.{◌≡◌, ◌≢◌, Option, true, slice_get, slice_index, if◌then◌else◌, ◌==◌};
-ghost use Rattle.wasm_module.specs.declared.values.types.ValType.{ValType};
-ghost use Rattle.wasm_module.specs.values.Syntax.{Ops, block as block_op, loop as loop_op, if_else, br};
-ghost use Rattle.wasm_module.specs.values.Syntax.{br_if, br_table, return as return_op};
-ghost use Rattle.wasm_module.specs.values.View.{instrs_view};
+ghost use Rattle.wasm_values.specs.declared.types.ValType.{ValType};
+ghost use Rattle.wasm_values.specs.Syntax.{Ops, block as block_op, loop as loop_op, if_else, br};
+ghost use Rattle.wasm_values.specs.Syntax.{br_if, br_table, return as return_op};
+ghost use Rattle.wasm_values.specs.View.{instrs_view};
 ghost use Rattle.wasm_steps.specs.Threads.{arity, Branches, Returns};
 ghost use Rattle.wasm_steps.specs.Steps.{target_of};
 ghost use Rattle.wasm_stack.specs.Held.{running, opened, without};

@@ -1,7 +1,7 @@
 // One instruction.
 ghost use Rattle.std.specs.Prelude.{◌≡◌, true, vec_capacity, MatchResult};
-ghost use Rattle.wasm_module.specs.values.Syntax.{next};
-ghost use Rattle.wasm_module.specs.values.View.{instr_view};
+ghost use Rattle.wasm_values.specs.Syntax.{next};
+ghost use Rattle.wasm_values.specs.View.{instr_view};
 ghost use Rattle.wasm_soundness.specs.Typed.{IsTypedProgram};
 ghost use Rattle.wasm_stack.specs.Standing.{held};
 ghost use Rattle.wasm_stack.specs.View.{ops_at, rest_of};

@@ -4,7 +4,7 @@ ghost use Rattle.std.specs.Prelude.{MatchResult};
 ghost use Rattle.wasm_steps.specs.Program.{most_values};
 ghost use Rattle.wasm_steps.specs.Threads.{arity, size};
 ghost use Rattle.wasm_steps.specs.Steps.{argument as argument_of, answered};
-ghost use Rattle.wasm_module.specs.values.Syntax.{no_ops};
+ghost use Rattle.wasm_values.specs.Syntax.{no_ops};
 ghost use Rattle.wasm_soundness.specs.Typed.{IsValue, AreValues};
 ghost use Rattle.wasm_stack.specs.Held.{running};
 ghost use Rattle.wasm_stack.specs.Standing.{held};

@@ -2,14 +2,14 @@
 use Rattle.std.proofs.Common.{◌≡◌, ℕ, suc, ◌≤◌, List, [], ◌∷◌, length, refl, ap, sym, ◌∙◌, subst, Option, Some, None, arith}
 use Rattle.std.specs.List.{All}
 use Rattle.std.proofs.lemmas.List.Elements.{All-cons, All-nil, All-head, All-tail}
-use Rattle.wasm_module.specs.values.Spelling.{SpellsU32, Then, SpellsEach, each_none, each_next, SpellsList, SpellsBytes, SpellsSized}
-use Rattle.wasm_module.specs.values.Values.{SpellsGlobalType}
-use Rattle.wasm_module.specs.values.Syntax.{Ops, ops_nesting}
-use Rattle.wasm_module.specs.values.Instructions.{SpellsExpression}
-use Rattle.wasm_module.specs.sections.Entries.{SpellsGlobal, SpellsElement, SpellsLocalRun, SpellsCode, SpellsSegment}
-use Rattle.wasm_module.specs.sections.Sections.{Syntax, Section, content_of, Holds, AreOf}
-use Rattle.wasm_module.specs.sections.Limits.{WithinNesting}
-use Rattle.wasm_module.specs.inner.Nested.{SpellsLimited}
+use Rattle.wasm_values.specs.Spelling.{SpellsU32, Then, SpellsEach, each_none, each_next, SpellsList, SpellsBytes, SpellsSized}
+use Rattle.wasm_values.specs.Values.{SpellsGlobalType}
+use Rattle.wasm_values.specs.Syntax.{Ops, ops_nesting}
+use Rattle.wasm_values.specs.Instructions.{SpellsExpression}
+use Rattle.wasm_module.specs.Entries.{SpellsGlobal, SpellsElement, SpellsLocalRun, SpellsCode, SpellsSegment}
+use Rattle.wasm_module.specs.Sections.{Syntax, Section, content_of, Holds, AreOf}
+use Rattle.wasm_module.specs.Limits.{WithinNesting}
+use Rattle.wasm_values.specs.inner.Nested.{SpellsLimited}
 
 -- Each text of the first form is one of the second, of some value.
 abbrev pub Lifts : {V W : Type 0} → (List ℕ → V → Type 0) → (List ℕ → W → Type 0) → Type 0

@@ -5,12 +5,12 @@ use Rattle.std.specs.Option.{option_map}
 use Rattle.std.specs.List.{sum_by}
 use Rattle.std.proofs.lemmas.Option.{slice_get-map, slice_get-get_or, slice_get_within}
 use Rattle.std.proofs.lemmas.List.{length-map}
-use Rattle.wasm_module.specs.values.Syntax.{Ops}
-use Rattle.wasm_module.specs.sections.Entries.{Function, code_view}
-use Rattle.wasm_module.specs.sections.Limits.{locals_of, params_in}
-use Rattle.wasm_module.specs.declared.values.types.FuncType.{FuncType}
-use Rattle.wasm_module.specs.declared.sections.codes.LocalRun.{LocalRun}
-use Rattle.wasm_module.specs.declared.sections.codes.Code.{Code}
+use Rattle.wasm_values.specs.Syntax.{Ops}
+use Rattle.wasm_module.specs.Entries.{Function, code_view}
+use Rattle.wasm_module.specs.Limits.{locals_of, params_in}
+use Rattle.wasm_values.specs.declared.types.FuncType.{FuncType}
+use Rattle.wasm_module.specs.declared.codes.LocalRun.{LocalRun}
+use Rattle.wasm_module.specs.declared.codes.Code.{Code}
 
 some_same : (a b : ℕ) → Some a ≡ Some b → a ≡ b
 some_same a b e = cc

@@ -1,15 +1,15 @@
 -- Bytes spell one module at most.
 use Rattle.std.proofs.Common.{◌≡◌, ℕ, List, [], ◌∷◌, ◌++◌, refl, ap, sym, ◌∙◌, Option, Some, None, subst}
 use Rattle.std.proofs.lemmas.List.{append_cancel_left}
-use Rattle.wasm_module.specs.values.Spelling.{SpellsEach, each_none, each_next}
-use Rattle.wasm_module.specs.values.Syntax.{Ops}
-use Rattle.wasm_module.specs.values.Instructions.{SpellsExpression}
-use Rattle.wasm_module.specs.sections.Entries.{Global, SpellsGlobal, Elements, SpellsElement, SpellsLocalRun, Function, SpellsCode, Data, SpellsSegment}
-use Rattle.wasm_module.specs.sections.Sections.{Syntax, Section, SpellsSection, content_of, Holds, SpellsStart, AreOf, opening, Spells}
-use Rattle.wasm_module.specs.declared.sections.codes.LocalRun.{LocalRun}
-use Rattle.wasm_module.proofs.Spelled.{local_run_of}
-use Rattle.wasm_module.proofs.Once.{IsFrontOne, whole_one, u32_one, byte_one, then_one, made_one, list_one, bytes_one, sized_one, val_type_one, func_type_one, bounds_one, table_type_one, global_type_one, import_one, export_one}
-use Rattle.wasm_module.proofs.OnceOps.{expression_one}
+use Rattle.wasm_values.specs.Spelling.{SpellsEach, each_none, each_next}
+use Rattle.wasm_values.specs.Syntax.{Ops}
+use Rattle.wasm_values.specs.Instructions.{SpellsExpression}
+use Rattle.wasm_module.specs.Entries.{Global, SpellsGlobal, Elements, SpellsElement, SpellsLocalRun, Function, SpellsCode, Data, SpellsSegment}
+use Rattle.wasm_module.specs.Sections.{Syntax, Section, SpellsSection, content_of, Holds, SpellsStart, AreOf, opening, Spells}
+use Rattle.wasm_module.specs.declared.codes.LocalRun.{LocalRun}
+use Rattle.wasm_module.proofs.Runs.{local_run_of}
+use Rattle.wasm_values.proofs.Once.{IsFrontOne, whole_one, u32_one, byte_one, then_one, made_one, list_one, bytes_one, sized_one, val_type_one, func_type_one, bounds_one, table_type_one, global_type_one, import_one, export_one}
+use Rattle.wasm_values.proofs.OnceOps.{expression_one}
 
 global_one : IsFrontOne (Global Ops) (SpellsGlobal SpellsExpression)
 global_one = then_one global_type_one expression_one

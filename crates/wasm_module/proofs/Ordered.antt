@@ -4,11 +4,11 @@ use Rattle.std.proofs.lemmas.List.{append-nil, drop_all}
 use Rattle.std.proofs.Math.Seq.{drop-cons}
 use Rattle.std.specs.Str.{IsUtf8}
 use Rattle.byte_fields.specs.Front.{Begins, BeginsOnly, BeginsNone}
-use Rattle.wasm_module.specs.values.Spelling.{SpellsBytes, SpellsEach, each_none, each_next}
-use Rattle.wasm_module.specs.sections.Sections.{Section, SpellsSection, IsCustom, AreOrdered, ordered_end, ordered_custom, ordered_part}
+use Rattle.wasm_values.specs.Spelling.{SpellsBytes, SpellsEach, each_none, each_next}
+use Rattle.wasm_module.specs.Sections.{Section, SpellsSection, IsCustom, AreOrdered, ordered_end, ordered_custom, ordered_part}
 use Rattle.wasm_module.specs.inner.Parts.{section_view}
-use Rattle.wasm_module.specs.declared.sections.outline.Section.{Section as Found}
-use Rattle.wasm_module.proofs.Lists.{Later}
+use Rattle.wasm_module.specs.declared.outline.Section.{Section as Found}
+use Rattle.wasm_values.proofs.Lists.{Later}
 
 -- A list of bytes at the front that is UTF-8 is a name.
 pub custom_found : (start content text left : List ℕ) → start ≡ content → Begins SpellsBytes start text left → IsUtf8 text → IsCustom content

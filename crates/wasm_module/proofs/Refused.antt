@@ -1,18 +1,18 @@
 -- Why sections are refused that hold no module within the limit of nesting.
 use Rattle.std.proofs.Common.{◌≡◌, ℕ, ◌<◌, ◌≤◌, List, length, refl, ◌∙◌, subst, arith}
-use Rattle.wasm_module.specs.values.Syntax.{Ops}
-use Rattle.wasm_module.specs.values.Instructions.{SpellsExpression}
-use Rattle.wasm_module.specs.inner.Nested.{SpellsLimited}
-use Rattle.wasm_module.specs.inner.Skimmed.{SpellsSome}
-use Rattle.wasm_module.specs.sections.Sections.{Syntax, Section, AreSections, AreOf, Spells}
-use Rattle.wasm_module.specs.sections.Limits.{WithinBytes, IsWithin, PassesFirst, IsTooLarge}
-use Rattle.wasm_module.specs.sections.Faults.{decode_fault}
-use Rattle.wasm_module.specs.declared.values.read.ReadFault.{ReadFault}
-use Rattle.wasm_module.specs.declared.values.read.ReadFault.TheVariants as read
-use Rattle.wasm_module.specs.declared.sections.module.DecodeFault.{DecodeFault}
-use Rattle.wasm_module.specs.declared.sections.module.DecodeFault.TheVariants as decode
-use Rattle.wasm_module.specs.declared.sections.module.Limit.{Limit}
-use Rattle.wasm_module.specs.declared.sections.module.Limit.TheVariants as limits
+use Rattle.wasm_values.specs.Syntax.{Ops}
+use Rattle.wasm_values.specs.Instructions.{SpellsExpression}
+use Rattle.wasm_values.specs.inner.Nested.{SpellsLimited}
+use Rattle.wasm_values.specs.inner.Skimmed.{SpellsSome}
+use Rattle.wasm_module.specs.Sections.{Syntax, Section, AreSections, AreOf, Spells}
+use Rattle.wasm_module.specs.Limits.{WithinBytes, IsWithin, PassesFirst, IsTooLarge}
+use Rattle.wasm_module.specs.Faults.{decode_fault}
+use Rattle.wasm_values.specs.declared.read.ReadFault.{ReadFault}
+use Rattle.wasm_values.specs.declared.read.ReadFault.TheVariants as read
+use Rattle.wasm_module.specs.declared.module.DecodeFault.{DecodeFault}
+use Rattle.wasm_module.specs.declared.module.DecodeFault.TheVariants as decode
+use Rattle.wasm_module.specs.declared.module.Limit.{Limit}
+use Rattle.wasm_module.specs.declared.module.Limit.TheVariants as limits
 use Rattle.wasm_module.proofs.OnceModule.{module_once}
 use Rattle.wasm_module.proofs.Lifts.{Lifts, are_lift, are_limited, limited_are}
 

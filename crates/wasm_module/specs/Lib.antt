@@ -1,4 +1,5 @@
-pub mod formers
-pub mod values
-pub mod sections
+pub mod Entries
+pub mod Sections
+pub mod Limits
+pub mod Faults
 pub mod inner

@@ -1,6 +1,2 @@
 -- Definitions that private functions and proofs cite alone.
-pub mod Nested
-pub mod Skimmed
-pub mod Opens
 pub mod Parts
-pub mod Listed

@@ -1,22 +1,29 @@
-// WebAssembly modules: their tree, the grammar of their binary form, and the reader of it.
+// WebAssembly modules: their sections, the grammar of their binary form, and the reader of it.
 #![tactic(auto)]
 
-mod host_sig;
-mod sections;
-mod values;
+mod codes;
+mod decoding;
+mod elements;
+mod expressions;
+mod forms;
+mod globals;
+mod held;
+mod holders;
+mod limits;
+mod module;
+mod outline;
+mod parts;
+mod segments;
 
-pub use host_sig::HostSig;
-pub use sections::codes::{Code, Codes, LocalRun, LocalRuns};
-pub use sections::decoding::decode;
-pub use sections::elements::{Element, Elements};
-pub use sections::exports::{Export, ExportDesc, Exports};
-pub use sections::globals::{GlobalDef, Globals};
-pub use sections::imports::{Import, ImportDesc, Imports};
-pub use sections::module::{DecodeFault, Limit, Module};
-pub use sections::segments::{Segment, Segments};
+pub use codes::{Code, Codes, LocalRun, LocalRuns};
+pub use decoding::decode;
+pub use elements::{Element, Elements};
+pub use globals::{GlobalDef, Globals};
+pub use module::{DecodeFault, Limit, Module};
+pub use segments::{Segment, Segments};
 pub use std::alloc::AllocError as NoMemory;
-pub use values::entry_lists::{Blob, Entries, Indices, Name};
-pub use values::instr::{FloatBytes, Instr, Instrs};
-pub use values::types::{
-    Bounds, FuncType, FuncTypes, GlobalType, MemoryTypes, TableTypes, ValType, ValTypes,
+pub use wasm_values::{
+    Blob, Bounds, Entries, Export, ExportDesc, Exports, FloatBytes, FuncType, FuncTypes,
+    GlobalType, HostSig, Import, ImportDesc, Imports, Indices, Instr, Instrs, MemoryTypes, Name,
+    TableTypes, ValType, ValTypes,
 };

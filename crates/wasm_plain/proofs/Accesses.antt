@@ -4,15 +4,15 @@ use Rattle.std.specs.Option.{unwrap_or, option_map}
 use Rattle.std.proofs.lemmas.Option.{same_Some}
 use Rattle.std.proofs.lemmas.Int.{ints}
 use Rattle.std.proofs.lemmas.Bool.Decides.{nat_tests}
-use Rattle.wasm_module.specs.values.Syntax.{no_ops, load, store, memory_size, memory_grow}
-use Rattle.wasm_module.specs.declared.values.types.ValType.{ValType}
-use Rattle.wasm_module.specs.declared.values.types.ValType.TheVariants.{I32, I64}
+use Rattle.wasm_values.specs.Syntax.{no_ops, load, store, memory_size, memory_grow}
+use Rattle.wasm_values.specs.declared.types.ValType.{ValType}
+use Rattle.wasm_values.specs.declared.types.ValType.TheVariants.{I32, I64}
 use Rattle.wasm_store.specs.Bytes.{le_bytes, le_number}
 use Rattle.wasm_store.specs.Memory.{Memory, page_count, grown, span, written}
-use Rattle.wasm_module.specs.values.Opcodes.{meaning, meaning_in, opcodes}
-use Rattle.wasm_validate.specs.typing.Operations.{Access, load_of, store_of}
-use Rattle.wasm_validate.specs.inner.Ranges.{load_by_bounds}
-use Rattle.wasm_validate.proofs.Ranges.{load_within}
+use Rattle.wasm_values.specs.Opcodes.{meaning, meaning_in, opcodes}
+use Rattle.wasm_typing.specs.Operations.{Access, load_of, store_of}
+use Rattle.wasm_typing.specs.inner.Ranges.{load_by_bounds}
+use Rattle.wasm_typing.proofs.Ranges.{load_within}
 use Rattle.wasm_steps.specs.Program.{Store, most_values}
 use Rattle.wasm_steps.specs.Threads.{size}
 use Rattle.wasm_steps.specs.Plain.{Does, does_load, does_store, does_memory_size, does_memory_grow, does_not_grow, fails_load, fails_store, loaded, carried_on, signed_32, signed_64, refused}

@@ -1,9 +1,9 @@
 -- Instructions that put results in the place of operands.
 use Rattle.std.proofs.Common.{◌≡◌, ℕ, ◌<◌, ◌≤◌, List, [], ◌∷◌, ◌++◌, length, drop, get_or, Result, MatchResult, refl, sym, subst, inr, arith, length-append, length-drop}
 use Rattle.std.proofs.lemmas.Result.{MatchResult-weaker}
-use Rattle.wasm_module.specs.values.Syntax.{Op, Ops, no_ops, next}
-use Rattle.wasm_module.specs.declared.values.types.ValType.{ValType}
-use Rattle.wasm_validate.specs.typing.Context.{Context}
+use Rattle.wasm_values.specs.Syntax.{Op, Ops, no_ops, next}
+use Rattle.wasm_values.specs.declared.types.ValType.{ValType}
+use Rattle.wasm_typing.specs.Context.{Context}
 use Rattle.wasm_steps.specs.Program.{Store, most_values}
 use Rattle.wasm_steps.specs.Threads.{Thread, size}
 use Rattle.wasm_steps.specs.Plain.{Does}

@@ -1,7 +1,7 @@
 -- The instructions on global variables.
 use Rattle.std.proofs.Common.{◌≡◌, ℕ, ◌<◌, ◌≤◌, List, [], ◌∷◌, length, drop, get_or, slice_set, Some, Result, MatchResult, refl, sym, ap, subst, ◌∙◌, arith}
 use Rattle.std.proofs.lemmas.Option.{slice_get-get_or}
-use Rattle.wasm_module.specs.values.Syntax.{no_ops, global_get, global_set}
+use Rattle.wasm_values.specs.Syntax.{no_ops, global_get, global_set}
 use Rattle.wasm_steps.specs.Program.{Store, most_values}
 use Rattle.wasm_steps.specs.Threads.{size}
 use Rattle.wasm_steps.specs.Plain.{does_global_get, does_global_set}

@@ -1,7 +1,7 @@
 -- The instructions on locals.
 use Rattle.std.proofs.Common.{◌≡◌, ℕ, ◌<◌, ◌≤◌, [], ◌∷◌, length, drop, get_or, Some, Result, MatchResult, refl, sym, ap, subst, ◌∙◌, arith, length-drop, length-set}
 use Rattle.std.proofs.lemmas.Option.{slice_get-get_or}
-use Rattle.wasm_module.specs.values.Syntax.{no_ops, local_get, local_set, local_tee}
+use Rattle.wasm_values.specs.Syntax.{no_ops, local_get, local_set, local_tee}
 use Rattle.wasm_steps.specs.Program.{Store, most_values}
 use Rattle.wasm_steps.specs.Threads.{size}
 use Rattle.wasm_steps.specs.Plain.{does_local_get, does_local_set, does_local_tee}

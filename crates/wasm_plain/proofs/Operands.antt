@@ -1,9 +1,9 @@
 -- The instructions that drop an operand and select one.
 use Rattle.std.proofs.Common.{◌≡◌, ◌≢◌, ℕ, ◌≤◌, ◌==◌, if◌then◌else◌, cond, Bool, true, false, [], ◌∷◌, length, drop, get_or, refl, sym, subst, ◌∙◌, arith}
 use Rattle.std.proofs.lemmas.Bool.Decides.{nat_tests}
-use Rattle.wasm_module.specs.values.Syntax.{drop_value, select}
-use Rattle.wasm_module.specs.declared.values.types.ValType.{ValType}
-use Rattle.wasm_module.specs.declared.values.types.ValType.TheVariants.{I32}
+use Rattle.wasm_values.specs.Syntax.{drop_value, select}
+use Rattle.wasm_values.specs.declared.types.ValType.{ValType}
+use Rattle.wasm_values.specs.declared.types.ValType.TheVariants.{I32}
 use Rattle.wasm_steps.specs.Program.{Store}
 use Rattle.wasm_steps.specs.Plain.{Does, does_drop, does_select}
 use Rattle.wasm_soundness.specs.Typed.{IsValue, no_values, next_value}

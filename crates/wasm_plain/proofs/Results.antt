@@ -3,11 +3,11 @@ use Rattle.std.proofs.Common.{◌≡◌, ◌≢◌, ℕ, ℤ, w32, w64, Result, 
 use Rattle.std.specs.Int.{cast_unsigned}
 use mir.Val.{bool_byte}
 use Rattle.std.proofs.lemmas.Option.{same_Some}
-use Rattle.wasm_module.specs.values.Syntax.{no_ops, i32_const, i64_const, numeric}
-use Rattle.wasm_module.specs.declared.values.types.ValType.{ValType}
-use Rattle.wasm_module.specs.declared.values.types.ValType.TheVariants.{I32, I64}
-use Rattle.wasm_validate.specs.typing.Context.{Context}
-use Rattle.wasm_validate.specs.typing.Operations.{Signature}
+use Rattle.wasm_values.specs.Syntax.{no_ops, i32_const, i64_const, numeric}
+use Rattle.wasm_values.specs.declared.types.ValType.{ValType}
+use Rattle.wasm_values.specs.declared.types.ValType.TheVariants.{I32, I64}
+use Rattle.wasm_typing.specs.Context.{Context}
+use Rattle.wasm_typing.specs.Operations.{Signature}
 use Rattle.wasm_numeric.specs.Opcodes.{IsFrom, IsUnary, IsBinary, IsCompare, IsConvert, IsOverflow, unary_value, binary_value, compare_value, convert_value}
 use Rattle.wasm_steps.specs.Program.{Store, most_values}
 use Rattle.wasm_steps.specs.Threads.{Thread, size}

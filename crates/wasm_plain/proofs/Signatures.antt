@@ -1,11 +1,11 @@
 -- The types of the operations on numbers, by their groups.
 use Rattle.std.proofs.Common.{◌≡◌, ◌≢◌, ℕ, ◌<◌, ◌≤◌, ◌^◌, ◌⊎◌, List, [], ◌∷◌, Some, refl, sym, ◌∙◌, subst, inl, inr, arith}
 use Rattle.std.proofs.lemmas.Bool.Decides.{nat_tests}
-use Rattle.wasm_module.specs.declared.values.types.ValType.{ValType}
-use Rattle.wasm_module.specs.declared.values.types.ValType.TheVariants.{I32, I64}
-use Rattle.wasm_validate.specs.typing.Operations.{Signature, signature_of}
-use Rattle.wasm_validate.specs.inner.Ranges.{signature_by_bounds}
-use Rattle.wasm_validate.proofs.Ranges.{signature_is}
+use Rattle.wasm_values.specs.declared.types.ValType.{ValType}
+use Rattle.wasm_values.specs.declared.types.ValType.TheVariants.{I32, I64}
+use Rattle.wasm_typing.specs.Operations.{Signature, signature_of}
+use Rattle.wasm_typing.specs.inner.Ranges.{signature_by_bounds}
+use Rattle.wasm_typing.proofs.Ranges.{signature_is}
 use Rattle.wasm_numeric.specs.Opcodes.{IsFrom, IsUnary, IsBinary, IsCompare, IsConvert}
 use Rattle.wasm_steps.specs.Plain.{IsTest}
 use Rattle.wasm_soundness.specs.Typed.{IsValue}

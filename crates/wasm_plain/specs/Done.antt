@@ -1,7 +1,7 @@
 -- What running a plain instruction does to the stack and the store, and what it finds there.
 use Rattle.std.specs.Prelude.{◌≡◌, ◌<◌, ◌≤◌, ◌⊎◌, Result, MatchResult}
-use Rattle.wasm_module.specs.values.Syntax.{Op, Ops, next, no_ops}
-use Rattle.wasm_validate.specs.typing.Context.{Context}
+use Rattle.wasm_values.specs.Syntax.{Op, Ops, next, no_ops}
+use Rattle.wasm_typing.specs.Context.{Context}
 use Rattle.wasm_steps.specs.Program.{Store, most_values}
 use Rattle.wasm_steps.specs.Threads.{size}
 use Rattle.wasm_steps.specs.Plain.{Data, Does, Fails}

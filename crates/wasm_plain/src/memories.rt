@@ -1,10 +1,10 @@
 // The instructions on the memory.
 ghost use Rattle.std.specs.Prelude.{◌≡◌, ◌+◌, ◌^◌, ◌<◌, ◌≤◌, IfSome, MatchOption, length};
 ghost use Rattle.std.specs.Prelude.{option_map};
-ghost use Rattle.wasm_module.specs.values.Syntax.{load as op_load, store as op_store};
-ghost use Rattle.wasm_module.specs.values.Syntax.{memory_size as op_memory_size};
-ghost use Rattle.wasm_module.specs.values.Syntax.{memory_grow as op_memory_grow};
-ghost use Rattle.wasm_validate.specs.typing.Operations.{Access, load_of, store_of};
+ghost use Rattle.wasm_values.specs.Syntax.{load as op_load, store as op_store};
+ghost use Rattle.wasm_values.specs.Syntax.{memory_size as op_memory_size};
+ghost use Rattle.wasm_values.specs.Syntax.{memory_grow as op_memory_grow};
+ghost use Rattle.wasm_typing.specs.Operations.{Access, load_of, store_of};
 ghost use Rattle.wasm_store.specs.Bytes.{IsWidth, le_number};
 ghost use Rattle.wasm_store.specs.Memory.{span};
 ghost use Rattle.wasm_steps.specs.Program.{Store};

@@ -1,6 +1,6 @@
 // The instructions on numbers of WebAssembly Core 1.0, chapter 4.4.1.
-ghost use Rattle.wasm_module.specs.values.Syntax.{i32_const as i32_const_op, i64_const as i64_const_op};
-ghost use Rattle.wasm_module.specs.values.Syntax.{numeric as numeric_op};
+ghost use Rattle.wasm_values.specs.Syntax.{i32_const as i32_const_op, i64_const as i64_const_op};
+ghost use Rattle.wasm_values.specs.Syntax.{numeric as numeric_op};
 ghost use Rattle.wasm_numeric.specs.Opcodes.{IsUnary, IsBinary, IsCompare, IsConvert};
 ghost use Rattle.wasm_plain.specs.Done.{IsNext, IsRun};
 ghost use Rattle.wasm_stack.specs.Standing.{held};

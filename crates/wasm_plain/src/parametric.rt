@@ -1,5 +1,5 @@
 // The parametric instructions of WebAssembly Core 1.0, chapter 4.4.2.
-ghost use Rattle.wasm_module.specs.values.Syntax.{drop_value as drop_op, select as select_op};
+ghost use Rattle.wasm_values.specs.Syntax.{drop_value as drop_op, select as select_op};
 ghost use Rattle.wasm_plain.specs.Done.{IsNext, IsDone};
 ghost use Rattle.wasm_stack.specs.Standing.{held};
 ghost use Rattle.wasm_steps.specs.Program.{Store};

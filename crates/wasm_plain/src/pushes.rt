@@ -1,6 +1,6 @@
 // The push of a value, for which there may be no room.
 ghost use Rattle.std.specs.Prelude.{◌≡◌, ◌<◌, ◌≤◌, MatchResult};
-ghost use Rattle.wasm_module.specs.values.Syntax.{no_ops};
+ghost use Rattle.wasm_values.specs.Syntax.{no_ops};
 ghost use Rattle.wasm_stack.specs.Held.{running, pushed};
 ghost use Rattle.wasm_stack.specs.Standing.{held};
 ghost use Rattle.wasm_steps.specs.Program.{most_values};

@@ -1,8 +1,8 @@
 // The instructions on variables of WebAssembly Core 1.0, chapter 4.4.3.
 ghost use Rattle.std.specs.Prelude.{◌≡◌};
-ghost use Rattle.wasm_module.specs.values.Syntax.{local_get as local_get_op, local_set as local_set_op};
-ghost use Rattle.wasm_module.specs.values.Syntax.{local_tee as local_tee_op, global_get as global_get_op};
-ghost use Rattle.wasm_module.specs.values.Syntax.{global_set as global_set_op};
+ghost use Rattle.wasm_values.specs.Syntax.{local_get as local_get_op, local_set as local_set_op};
+ghost use Rattle.wasm_values.specs.Syntax.{local_tee as local_tee_op, global_get as global_get_op};
+ghost use Rattle.wasm_values.specs.Syntax.{global_set as global_set_op};
 ghost use Rattle.wasm_plain.specs.Done.{IsNext, IsDone, IsRun};
 ghost use Rattle.wasm_stack.specs.Standing.{held};
 ghost use Rattle.wasm_steps.specs.Program.{Store};

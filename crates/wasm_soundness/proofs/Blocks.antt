@@ -1,12 +1,12 @@
 -- Blocks that a typed thread enters.
 use Rattle.std.proofs.Common.{ℕ, ◌+◌, ◌≤◌, List, [], ◌∷◌, ◌++◌, length, drop, get_or, Option, None, arith, length-drop}
 use Rattle.std.proofs.lemmas.List.Sums.{sum_by-cons}
-use Rattle.wasm_module.specs.values.Syntax.{Ops, next, block, loop, if_else, ops_nesting}
-use Rattle.wasm_module.specs.declared.values.types.ValType.{ValType}
-use Rattle.wasm_module.specs.declared.values.types.ValType.TheVariants.{I32}
-use Rattle.wasm_validate.specs.typing.Context.{Context}
-use Rattle.wasm_validate.specs.typing.Typing.{types_of, Typed}
-use Rattle.wasm_validate.proofs.Instructions.{only_block, only_loop, only_if, block_body, loop_body, if_bodies}
+use Rattle.wasm_values.specs.Syntax.{Ops, next, block, loop, if_else, ops_nesting}
+use Rattle.wasm_values.specs.declared.types.ValType.{ValType}
+use Rattle.wasm_values.specs.declared.types.ValType.TheVariants.{I32}
+use Rattle.wasm_typing.specs.Context.{Context}
+use Rattle.wasm_typing.specs.Typing.{types_of, Typed}
+use Rattle.wasm_typing.proofs.Instructions.{only_block, only_loop, only_if, block_body, loop_body, if_bodies}
 use Rattle.wasm_steps.specs.Program.{most_frames, most_values}
 use Rattle.wasm_steps.specs.Threads.{label, Thread, arity, frame_count, kept, size}
 use Rattle.wasm_steps.specs.Steps.{entered}

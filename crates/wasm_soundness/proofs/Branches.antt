@@ -2,11 +2,11 @@
 use Rattle.std.proofs.Common.{◌≡◌, ℕ, zero, suc, ◌+◌, ◌≤◌, List, [], ◌∷◌, ◌++◌, refl, sym, ap, subst, append_assoc, length, take, drop, get_or, Option, Some, unwrap_or, ⊎_elim, arith, length-append, length-take, length-drop}
 use Rattle.std.proofs.lemmas.List.Sums.{sum_by-cons}
 use Rattle.std.proofs.lemmas.Option.{none-some, same_Some, slice_get_cases}
-use Rattle.wasm_module.specs.values.Syntax.{Ops, no_ops, br, br_if, br_table, return}
-use Rattle.wasm_module.specs.declared.values.types.ValType.{ValType}
-use Rattle.wasm_module.specs.declared.values.types.ValType.TheVariants.{I32}
-use Rattle.wasm_validate.specs.typing.Context.{Context}
-use Rattle.wasm_validate.specs.typing.Typing.{types_of, Takes, TypedOp, br_typed, br_if_typed, br_table_typed, return_typed}
+use Rattle.wasm_values.specs.Syntax.{Ops, no_ops, br, br_if, br_table, return}
+use Rattle.wasm_values.specs.declared.types.ValType.{ValType}
+use Rattle.wasm_values.specs.declared.types.ValType.TheVariants.{I32}
+use Rattle.wasm_typing.specs.Context.{Context}
+use Rattle.wasm_typing.specs.Typing.{types_of, Takes, TypedOp, br_typed, br_if_typed, br_table_typed, return_typed}
 use Rattle.wasm_steps.specs.Program.{most_frames, most_values}
 use Rattle.wasm_steps.specs.Threads.{Level, label, frame, Thread, arity, frame_count, kept, size, Branches, branches_here, branches_out, branches_further, Returns, returns_here, returns_further}
 use Rattle.wasm_steps.specs.Steps.{target_of}

@@ -3,13 +3,13 @@ use Rattle.std.proofs.Common.{◌≡◌, ℕ, ℤ, ◌+◌, ◌-◌, ◌<◌, �
 use Rattle.std.proofs.lemmas.List.{reverse-reverse, length-reverse, length-replicate}
 use Rattle.std.proofs.lemmas.List.Sums.{sum_by-cons}
 use Rattle.std.proofs.lemmas.Option.{slice_get_cases, slice_get_within}
-use Rattle.wasm_module.specs.values.Syntax.{Op, Ops, call, call_indirect}
-use Rattle.wasm_module.specs.declared.values.types.ValType.{ValType}
-use Rattle.wasm_module.specs.declared.values.types.ValType.TheVariants.{I32}
-use Rattle.wasm_module.specs.declared.values.types.FuncType.{FuncType}
-use Rattle.wasm_validate.specs.typing.Context.{Context}
-use Rattle.wasm_validate.specs.typing.Typing.{types_of, HasType, TypedOp, call_typed, call_indirect_typed}
-use Rattle.wasm_validate.proofs.Instructions.{one_found}
+use Rattle.wasm_values.specs.Syntax.{Op, Ops, call, call_indirect}
+use Rattle.wasm_values.specs.declared.types.ValType.{ValType}
+use Rattle.wasm_values.specs.declared.types.ValType.TheVariants.{I32}
+use Rattle.wasm_values.specs.declared.types.FuncType.{FuncType}
+use Rattle.wasm_typing.specs.Context.{Context}
+use Rattle.wasm_typing.specs.Typing.{types_of, HasType, TypedOp, call_typed, call_indirect_typed}
+use Rattle.wasm_typing.proofs.Instructions.{one_found}
 use Rattle.wasm_steps.specs.Program.{Function, type_of, Program, Store, most_frames, most_values}
 use Rattle.wasm_steps.specs.Threads.{frame, Thread, arity, frame_count, kept, size}
 use Rattle.wasm_steps.specs.Steps.{answered, called}

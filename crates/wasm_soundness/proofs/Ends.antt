@@ -2,10 +2,10 @@
 use Rattle.std.proofs.Common.{◌≡◌, ℕ, ◌+◌, ◌*◌, ◌≤◌, List, [], ◌∷◌, ◌++◌, refl, sym, ap, ◌∙◌, subst, length, replicate, Option, None, ◌⊎◌, inl, inr, ⊎_elim, arith, length-append}
 use Rattle.std.proofs.lemmas.List.{length-replicate}
 use Rattle.std.proofs.lemmas.List.Sums.{sum_by-cons}
-use Rattle.wasm_module.specs.values.Syntax.{Ops, no_ops}
-use Rattle.wasm_module.specs.declared.values.types.ValType.{ValType}
-use Rattle.wasm_validate.specs.typing.Context.{Context}
-use Rattle.wasm_validate.specs.typing.Typing.{types_of, Typed, none_typed}
+use Rattle.wasm_values.specs.Syntax.{Ops, no_ops}
+use Rattle.wasm_values.specs.declared.types.ValType.{ValType}
+use Rattle.wasm_typing.specs.Context.{Context}
+use Rattle.wasm_typing.specs.Typing.{types_of, Typed, none_typed}
 use Rattle.wasm_steps.specs.Program.{Program, most_frames, most_values}
 use Rattle.wasm_steps.specs.Threads.{Level, label, frame, Thread, arity, frame_count, kept, size, Leaves, leaves_label, leaves_frame}
 use Rattle.wasm_steps.specs.Runs.{IsInvoked}

@@ -1,10 +1,10 @@
 -- A typed thread taken apart at the instruction that is next.
 use Rattle.std.proofs.Common.{◌≡◌, ℕ, ◌+◌, ◌≤◌, List, [], ◌∷◌, ◌++◌, refl, subst, subst₂, length, drop, Option, arith}
-use Rattle.wasm_module.specs.values.Syntax.{Op, Ops, no_ops, next, nesting}
-use Rattle.wasm_module.specs.declared.values.types.ValType.{ValType}
-use Rattle.wasm_validate.specs.typing.Context.{Context}
-use Rattle.wasm_validate.specs.typing.Typing.{TypedOp}
-use Rattle.wasm_validate.proofs.Parts.{begins_typed}
+use Rattle.wasm_values.specs.Syntax.{Op, Ops, no_ops, next, nesting}
+use Rattle.wasm_values.specs.declared.types.ValType.{ValType}
+use Rattle.wasm_typing.specs.Context.{Context}
+use Rattle.wasm_typing.specs.Typing.{TypedOp}
+use Rattle.wasm_typing.proofs.Parts.{begins_typed}
 use Rattle.wasm_steps.specs.Program.{most_frames, most_values}
 use Rattle.wasm_steps.specs.Threads.{Thread, frame_count, size}
 use Rattle.wasm_soundness.specs.Typed.{AreValues, GoesOn, AreTyped, IsTyped, inside, most_labels}

@@ -1,15 +1,15 @@
 -- What typed threads offer to the instructions that neither branch nor call.
 use Rattle.std.proofs.Common.{◌≡◌, ℕ, ℤ, ◌<◌, ◌≤◌, List, [], ◌∷◌, map, refl, ap, ◌∙◌, length, drop, get_or, slice_set, Option, Some, slice_get, option_map, arith, length-drop, length-set}
 use Rattle.std.proofs.lemmas.Option.{slice_get-map}
-use Rattle.wasm_module.specs.values.Syntax.{nop, drop_value, select, local_get, local_set, local_tee, global_get, global_set, load, store, memory_size, memory_grow, i32_const, i64_const, numeric, float_memory, float_const, float_plain}
-use Rattle.wasm_module.specs.declared.values.instr.FloatBytes.{FloatBytes}
-use Rattle.wasm_module.specs.declared.values.types.ValType.{ValType}
-use Rattle.wasm_module.specs.declared.values.types.ValType.TheVariants.{I32, I64}
-use Rattle.wasm_module.specs.declared.values.types.GlobalType.{GlobalType}
-use Rattle.wasm_validate.specs.typing.Context.{Context}
-use Rattle.wasm_validate.specs.typing.Operations.{Signature, signature_of, Access, load_of, store_of}
-use Rattle.wasm_validate.specs.typing.Typing.{TypedOp, numeric_typed, drop_typed, select_typed, local_get_typed, local_set_typed, local_tee_typed, global_get_typed, global_set_typed, load_typed, store_typed}
-use Rattle.wasm_validate.proofs.Instructions as instructions
+use Rattle.wasm_values.specs.Syntax.{nop, drop_value, select, local_get, local_set, local_tee, global_get, global_set, load, store, memory_size, memory_grow, i32_const, i64_const, numeric, float_memory, float_const, float_plain}
+use Rattle.wasm_values.specs.declared.instr.FloatBytes.{FloatBytes}
+use Rattle.wasm_values.specs.declared.types.ValType.{ValType}
+use Rattle.wasm_values.specs.declared.types.ValType.TheVariants.{I32, I64}
+use Rattle.wasm_values.specs.declared.types.GlobalType.{GlobalType}
+use Rattle.wasm_typing.specs.Context.{Context}
+use Rattle.wasm_typing.specs.Operations.{Signature, signature_of, Access, load_of, store_of}
+use Rattle.wasm_typing.specs.Typing.{TypedOp, numeric_typed, drop_typed, select_typed, local_get_typed, local_set_typed, local_tee_typed, global_get_typed, global_set_typed, load_typed, store_typed}
+use Rattle.wasm_typing.proofs.Instructions as instructions
 use Rattle.wasm_steps.specs.Program.{Store}
 use Rattle.wasm_steps.specs.Threads.{Thread}
 use Rattle.wasm_soundness.specs.Typed.{IsValue, no_values, IsTyped, IsTypedStore}

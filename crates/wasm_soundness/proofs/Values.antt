@@ -2,9 +2,9 @@
 use Rattle.std.proofs.Common.{◌≡◌, ℕ, zero, suc, ◌<◌, ◌≤◌, List, [], ◌∷◌, ◌++◌, refl, sym, ap, subst, subst₂, length, take, drop, get_or, reverse, replicate, Option, Some, None, slice_get, slice_set, arith, length-append}
 use Rattle.std.proofs.lemmas.List.{reverse-append}
 use Rattle.std.proofs.lemmas.Option.{none-some, same_Some}
-use Rattle.wasm_module.specs.declared.values.types.ValType.{ValType}
-use Rattle.wasm_module.specs.declared.values.types.ValType.TheVariants.{I32, I64, F32, F64}
-use Rattle.wasm_validate.specs.typing.Typing.{types_of}
+use Rattle.wasm_values.specs.declared.types.ValType.{ValType}
+use Rattle.wasm_values.specs.declared.types.ValType.TheVariants.{I32, I64, F32, F64}
+use Rattle.wasm_typing.specs.Typing.{types_of}
 use Rattle.wasm_steps.specs.Threads.{arity}
 use Rattle.wasm_soundness.specs.Typed.{IsValue, AreValues, no_values, next_value}
 

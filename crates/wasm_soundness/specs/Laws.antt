@@ -3,16 +3,16 @@
 -- thread with the instruction before what it has left.
 use Rattle.std.specs.Prelude.{◌≡◌, ℕ, ℤ, ◌*◌, ◌<◌, ◌≤◌, List, [], ◌∷◌, length, drop, get_or, Option, None}
 use Rattle.std.specs.Prelude.{Some, slice_get, slice_set}
-use Rattle.wasm_module.specs.values.Syntax.{Ops, no_ops, next, nop, block, loop, if_else, br, br_if, br_table}
-use Rattle.wasm_module.specs.values.Syntax.{return, call, call_indirect, drop_value, select, local_get}
-use Rattle.wasm_module.specs.values.Syntax.{local_set, local_tee, global_get, global_set, load, store}
-use Rattle.wasm_module.specs.values.Syntax.{memory_size, memory_grow, i32_const, i64_const, numeric}
-use Rattle.wasm_module.specs.values.Syntax.{float_memory, float_const, float_plain}
-use Rattle.wasm_module.specs.declared.values.instr.FloatBytes.{FloatBytes}
-use Rattle.wasm_module.specs.declared.values.types.ValType.{ValType}
-use Rattle.wasm_module.specs.declared.values.types.ValType.TheVariants.{I32, I64}
-use Rattle.wasm_validate.specs.typing.Context.{Context}
-use Rattle.wasm_validate.specs.typing.Operations.{Signature, signature_of, Access, load_of, store_of}
+use Rattle.wasm_values.specs.Syntax.{Ops, no_ops, next, nop, block, loop, if_else, br, br_if, br_table}
+use Rattle.wasm_values.specs.Syntax.{return, call, call_indirect, drop_value, select, local_get}
+use Rattle.wasm_values.specs.Syntax.{local_set, local_tee, global_get, global_set, load, store}
+use Rattle.wasm_values.specs.Syntax.{memory_size, memory_grow, i32_const, i64_const, numeric}
+use Rattle.wasm_values.specs.Syntax.{float_memory, float_const, float_plain}
+use Rattle.wasm_values.specs.declared.instr.FloatBytes.{FloatBytes}
+use Rattle.wasm_values.specs.declared.types.ValType.{ValType}
+use Rattle.wasm_values.specs.declared.types.ValType.TheVariants.{I32, I64}
+use Rattle.wasm_typing.specs.Context.{Context}
+use Rattle.wasm_typing.specs.Operations.{Signature, signature_of, Access, load_of, store_of}
 use Rattle.wasm_steps.specs.Program.{Function, type_of, Program, Store}
 use Rattle.wasm_steps.specs.Threads.{Level, frame, Thread, arity, frame_count, Leaves, Returns}
 use Rattle.wasm_steps.specs.Steps.{entered, target_of}

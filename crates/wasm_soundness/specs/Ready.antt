@@ -1,11 +1,11 @@
 -- What a typed thread offers to the instruction that is next.
 use Rattle.std.specs.Prelude.{◌≡◌, ℕ, zero, suc, ℤ, ◌+◌, ◌-◌, ◌<◌, ◌≤◌, List, [], ◌∷◌, ◌++◌, length, drop}
 use Rattle.std.specs.Prelude.{take, Option, Some, None, reverse}
-use Rattle.wasm_module.specs.values.Syntax.{Op, Ops, next}
-use Rattle.wasm_module.specs.declared.values.types.ValType.{ValType}
-use Rattle.wasm_validate.specs.typing.Context.{Context}
-use Rattle.wasm_validate.specs.typing.Typing.{types_of}
-use Rattle.wasm_module.specs.declared.values.types.FuncType.{FuncType}
+use Rattle.wasm_values.specs.Syntax.{Op, Ops, next}
+use Rattle.wasm_values.specs.declared.types.ValType.{ValType}
+use Rattle.wasm_typing.specs.Context.{Context}
+use Rattle.wasm_typing.specs.Typing.{types_of}
+use Rattle.wasm_values.specs.declared.types.FuncType.{FuncType}
 use Rattle.wasm_steps.specs.Program.{Function, imported, defined, type_of, most_frames, most_values}
 use Rattle.wasm_steps.specs.Threads.{Level, label, frame, Thread, arity, frame_count, size, Branches}
 use Rattle.wasm_steps.specs.Steps.{answered, called}

@@ -2,13 +2,13 @@
 -- operands.
 use Rattle.std.specs.Prelude.{◌≡◌, ℕ, ◌+◌, ◌^◌, ◌<◌, ◌≤◌, List, [], ◌∷◌, ◌++◌, length, map, Option, Some}
 use Rattle.std.specs.Prelude.{slice_get}
-use Rattle.wasm_module.specs.values.Syntax.{Ops, no_ops, ops_nesting}
-use Rattle.wasm_module.specs.sections.Limits.{most_nesting}
-use Rattle.wasm_module.specs.declared.values.types.ValType.{ValType}
-use Rattle.wasm_module.specs.declared.values.types.ValType.TheVariants.{I32, I64, F32, F64}
-use Rattle.wasm_module.specs.declared.values.types.FuncType.{FuncType}
-use Rattle.wasm_validate.specs.typing.Context.{Context}
-use Rattle.wasm_validate.specs.typing.Typing.{types_of, Typed, TypedBody}
+use Rattle.wasm_values.specs.Syntax.{Ops, no_ops, ops_nesting}
+use Rattle.wasm_values.specs.Nesting.{most_nesting}
+use Rattle.wasm_values.specs.declared.types.ValType.{ValType}
+use Rattle.wasm_values.specs.declared.types.ValType.TheVariants.{I32, I64, F32, F64}
+use Rattle.wasm_values.specs.declared.types.FuncType.{FuncType}
+use Rattle.wasm_typing.specs.Context.{Context}
+use Rattle.wasm_typing.specs.Typing.{types_of, Typed, TypedBody}
 use Rattle.wasm_steps.specs.Program.{Function, defined, type_of, Program, Store, most_frames, most_values}
 use Rattle.wasm_steps.specs.Threads.{Level, label, frame, Thread, arity, frame_count, size}
 

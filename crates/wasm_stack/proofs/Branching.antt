@@ -3,7 +3,7 @@ use Rattle.std.proofs.Common.{◌≡◌, ℕ, zero, suc, Bool, ◌+◌, ◌-◌,
 use Rattle.std.proofs.lemmas.List.{take-append-drop, reverse-append, length-reverse, get_or-reverse}
 use Rattle.std.proofs.lemmas.Option.{slice_get_read}
 use Rattle.std.proofs.Math.Seq.{drop-append_seam}
-use Rattle.wasm_module.specs.values.Syntax.{Ops}
+use Rattle.wasm_values.specs.Syntax.{Ops}
 use Rattle.wasm_steps.specs.Threads.{Level, Thread, label, frame, Branches, branches_here, branches_out, branches_further}
 use Rattle.wasm_soundness.specs.Ready.{level_of, results_at}
 use Rattle.call_frames.specs.Stack.{Stack, Waiting}

@@ -4,7 +4,7 @@ use Rattle.std.specs.List.{sum_by}
 use Rattle.std.proofs.Math.Seq.{take-length}
 use Rattle.std.proofs.lemmas.List.{reverse-append}
 use Rattle.std.proofs.lemmas.List.Sums.{sum_by-cons}
-use Rattle.wasm_module.specs.values.Syntax.{Ops, no_ops}
+use Rattle.wasm_values.specs.Syntax.{Ops, no_ops}
 use Rattle.wasm_steps.specs.Threads.{label, frame, frame_count, kept, size, Leaves, leaves_label, leaves_frame}
 use Rattle.wasm_soundness.specs.Ready.{open_labels}
 use Rattle.call_frames.specs.Stack.{Stack, Waiting}

@@ -1,7 +1,7 @@
 -- What contracts see of a stack: what a thread holds beside the instructions that it runs.
 use Rattle.std.specs.Prelude.{◌≡◌, ℕ, ◌*◌, ◌≤◌, List, [], ◌∷◌, ◌++◌, length, drop, take, reverse, replicate}
 use Rattle.std.specs.Prelude.{slice_set}
-use Rattle.wasm_module.specs.values.Syntax.{Ops}
+use Rattle.wasm_values.specs.Syntax.{Ops}
 use Rattle.wasm_steps.specs.Program.{most_frames}
 use Rattle.wasm_steps.specs.Threads.{Level, label, frame, Thread}
 use Rattle.wasm_soundness.specs.Typed.{most_labels}

@@ -1,7 +1,7 @@
 -- How the vectors of a stack stand for what it holds.
 use Rattle.std.specs.Prelude.{ℕ, ◌+◌, ◌-◌, ◌≤◌, Bool, true, false, List, [], ◌∷◌, length, drop, take}
-use Rattle.wasm_module.specs.values.Syntax.{Ops}
-use Rattle.wasm_module.specs.values.View.{items_view}
+use Rattle.wasm_values.specs.Syntax.{Ops}
+use Rattle.wasm_values.specs.View.{items_view}
 use Rattle.wasm_steps.specs.Threads.{Level, label, frame}
 use Rattle.call_frames.specs.Stack.{Stack, Waiting}
 use Rattle.wasm_stack.specs.Held.{Held}

@@ -1,7 +1,7 @@
 // Places in instructions.
 ghost use Rattle.std.specs.Prelude.{◌≡◌, true, MatchOption};
-ghost use Rattle.wasm_module.specs.values.Syntax.{no_ops, next as next_op};
-ghost use Rattle.wasm_module.specs.values.View.{instr_view, items_view};
+ghost use Rattle.wasm_values.specs.Syntax.{no_ops, next as next_op};
+ghost use Rattle.wasm_values.specs.View.{instr_view, items_view};
 
 use wasm_module::Instr;
 

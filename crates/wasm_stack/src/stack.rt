@@ -1,7 +1,7 @@
 // The stack of a thread.
 ghost use Rattle.std.specs.Prelude.{◌≡◌, ◌+◌, ◌<◌, ◌≤◌, ◌↔◌, length, take, reverse, slice_index, IfOk};
 ghost use Rattle.std.specs.Prelude.{IsTrue, MatchOption, [], if◌then◌else◌};
-ghost use Rattle.wasm_module.specs.values.Syntax.{Ops, no_ops};
+ghost use Rattle.wasm_values.specs.Syntax.{Ops, no_ops};
 ghost use Rattle.wasm_steps.specs.Program.{most_frames, most_values};
 ghost use Rattle.wasm_steps.specs.Threads.{Leaves, Branches, frame_count, size};
 ghost use Rattle.wasm_soundness.specs.Ready.{CanBranch, open_labels};
@@ -35,7 +35,7 @@ pub struct Stack<'a> {
 impl<'a> Model for Stack<'a> {
     ghost use Rattle.wasm_stack.specs.Standing.{Standing};
     ghost use Rattle.std.specs.Coded.{codes};
-    ghost use Rattle.wasm_module.specs.contracts.values.instr.Instr as instr;
+    ghost use Rattle.wasm_values.specs.contracts.instr.Instr as instr;
 
     ghost Value = { Standing };
 

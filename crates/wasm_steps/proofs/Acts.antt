@@ -1,7 +1,7 @@
 -- An instruction comes to one thing, a state or a trap.
 use Rattle.std.proofs.Common.{◌≡◌, ◌≢◌, ℕ, ◌<◌, ◌≤◌, List, ◌∷◌, Option, Some, slice_get, refl, ap, sym, ◌∙◌, subst, arith, ◌⊎◌, inl, inr}
-use Rattle.wasm_module.specs.values.Syntax.{Op, Ops, next, block, loop, if_else, br, br_if, br_table, return, call, call_indirect}
-use Rattle.wasm_module.specs.declared.values.types.ValType.{ValType}
+use Rattle.wasm_values.specs.Syntax.{Op, Ops, next, block, loop, if_else, br, br_if, br_table, return, call, call_indirect}
+use Rattle.wasm_values.specs.declared.types.ValType.{ValType}
 use Rattle.wasm_steps.specs.Program.{Function, Program, most_values}
 use Rattle.wasm_steps.specs.Plain.{Data, Does, Fails}
 use Rattle.wasm_steps.specs.Threads.{Thread, arity, size, Branches, Returns}

@@ -1,6 +1,6 @@
 -- A call goes on in one state, or traps in one way, and never both.
 use Rattle.std.proofs.Common.{◌≡◌, ℕ, refl, ap, arith}
-use Rattle.wasm_module.specs.values.Syntax.{Ops}
+use Rattle.wasm_values.specs.Syntax.{Ops}
 use Rattle.wasm_steps.specs.Program.{Function, Program, Store}
 use Rattle.wasm_steps.specs.Steps.{Meaning, State, Calls, calls_own, calls_host, CallFails, fails_depth, fails_room, fails_answer, Finds, FindsNone, finds_end, finds_empty, finds_other}
 use Rattle.wasm_steps.specs.Laws.{IsFunction}

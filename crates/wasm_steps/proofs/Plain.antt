@@ -1,6 +1,6 @@
 -- A plain instruction does one thing, or traps in one way, and never both.
 use Rattle.std.proofs.Common.{◌≡◌, refl, arith}
-use Rattle.wasm_module.specs.values.Syntax.{Op, block, loop, if_else, br, br_if, br_table, return, call, call_indirect}
+use Rattle.wasm_values.specs.Syntax.{Op, block, loop, if_else, br, br_if, br_table, return, call, call_indirect}
 use Rattle.wasm_steps.specs.Plain.{Data, Does, does_nop, does_i32_const, does_i64_const, does_unary, does_binary, does_test, does_compare, does_convert, does_drop, does_select, does_local_get, does_local_set, does_local_tee, does_global_get, does_global_set, does_load, does_store, does_memory_size, does_memory_grow, does_not_grow, Fails, fails_unreachable, fails_by_zero, fails_overflow, fails_load, fails_store}
 use Rattle.wasm_steps.specs.declared.outcome.Trap.{Trap}
 

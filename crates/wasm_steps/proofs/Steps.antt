@@ -1,6 +1,6 @@
 -- A state has one step or one trap at most, and neither where nothing is left to run.
 use Rattle.std.proofs.Common.{◌≡◌, ℕ, refl, ap, ◌⊎◌, inl, inr}
-use Rattle.wasm_module.specs.values.Syntax.{Op, Ops, next}
+use Rattle.wasm_values.specs.Syntax.{Op, Ops, next}
 use Rattle.wasm_steps.specs.Program.{Program}
 use Rattle.wasm_steps.specs.Threads.{Thread, Leaves}
 use Rattle.wasm_steps.specs.Steps.{Meaning, State, Step, step_leaves, step_plain, step_block, step_loop, step_then, step_else, step_br, step_br_if, step_no_br_if, step_br_table, step_return, step_call, step_call_indirect, Stops, stops_plain, stops_full, stops_call, stops_unfound, stops_call_indirect}

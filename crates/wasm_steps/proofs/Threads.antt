@@ -1,6 +1,6 @@
 -- A thread leaves a block or a frame, branches and returns in one way.
 use Rattle.std.proofs.Common.{◌≡◌, ℕ, List, [], refl, subst}
-use Rattle.wasm_module.specs.values.Syntax.{no_ops}
+use Rattle.wasm_values.specs.Syntax.{no_ops}
 use Rattle.wasm_steps.specs.Threads.{Thread, Leaves, leaves_label, leaves_frame, Branches, branches_here, branches_out, branches_further, Returns, returns_here, returns_further}
 
 -- Two threads behind the end of a block or a frame are equal.

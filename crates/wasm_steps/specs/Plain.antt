@@ -3,16 +3,16 @@
 use Rattle.std.specs.Prelude.{◌≡◌, ◌≢◌, ℕ, ℤ, ◌+◌, ◌<◌, ◌≤◌, ◌==◌, ◌||◌, if◌then◌else◌, List, ◌∷◌, length}
 use Rattle.std.specs.Prelude.{Some, None, slice_get, slice_set, true, cond}
 use Rattle.std.specs.Int.{w8, w16, w32, w64, cast_signed, cast_unsigned}
-use Rattle.wasm_module.specs.values.Syntax.{Op, nop, unreachable, drop_value, select, local_get, local_set}
-use Rattle.wasm_module.specs.values.Syntax.{local_tee, global_get, global_set, load, store, memory_size}
-use Rattle.wasm_module.specs.values.Syntax.{memory_grow, i32_const, i64_const, numeric}
-use Rattle.wasm_module.specs.declared.values.types.ValType.{ValType}
-use Rattle.wasm_module.specs.declared.values.types.ValType.TheVariants.{I32}
+use Rattle.wasm_values.specs.Syntax.{Op, nop, unreachable, drop_value, select, local_get, local_set}
+use Rattle.wasm_values.specs.Syntax.{local_tee, global_get, global_set, load, store, memory_size}
+use Rattle.wasm_values.specs.Syntax.{memory_grow, i32_const, i64_const, numeric}
+use Rattle.wasm_values.specs.declared.types.ValType.{ValType}
+use Rattle.wasm_values.specs.declared.types.ValType.TheVariants.{I32}
 use Rattle.wasm_numeric.specs.Opcodes.{IsUnary, IsBinary, IsCompare, IsConvert, unary_value, binary_value}
 use Rattle.wasm_numeric.specs.Opcodes.{compare_value, convert_value}
 use Rattle.wasm_store.specs.Bytes.{le_bytes, le_number}
 use Rattle.wasm_store.specs.Memory.{page_count, grown, span, written}
-use Rattle.wasm_validate.specs.typing.Operations.{Access, load_of, store_of}
+use Rattle.wasm_typing.specs.Operations.{Access, load_of, store_of}
 use Rattle.wasm_steps.specs.Program.{Store}
 use Rattle.wasm_steps.specs.declared.outcome.Trap.{Trap}
 use Rattle.wasm_steps.specs.declared.outcome.Trap.TheVariants as traps

@@ -1,8 +1,8 @@
 -- What is run: the functions of a linked module, and the store that its instructions change: WebAssembly Core
 -- 1.0, chapter 4.2.
 use Rattle.std.specs.Prelude.{ℕ, List, Option}
-use Rattle.wasm_module.specs.values.Syntax.{Ops}
-use Rattle.wasm_module.specs.declared.values.types.FuncType.{FuncType}
+use Rattle.wasm_values.specs.Syntax.{Ops}
+use Rattle.wasm_values.specs.declared.types.FuncType.{FuncType}
 use Rattle.wasm_store.specs.Memory.{Memory}
 
 -- A function: one of the host's by the number of its call, or one of the module's with so many locals beside

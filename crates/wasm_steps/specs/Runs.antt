@@ -1,7 +1,7 @@
 -- Whole runs, and how they end.
 use Rattle.std.specs.Prelude.{◌≡◌, ℕ, ◌+◌, ◌-◌, ◌≤◌, [], ◌∷◌, replicate, Option, Some, None, slice_get}
-use Rattle.wasm_module.specs.values.Syntax.{Op, Ops, no_ops, next}
-use Rattle.wasm_module.specs.declared.values.types.FuncType.{FuncType}
+use Rattle.wasm_values.specs.Syntax.{Op, Ops, no_ops, next}
+use Rattle.wasm_values.specs.declared.types.FuncType.{FuncType}
 use Rattle.wasm_steps.specs.Program.{Program, Store, defined}
 use Rattle.wasm_steps.specs.Threads.{Thread, frame}
 use Rattle.wasm_steps.specs.Steps.{Meaning, State, Step, Stops}

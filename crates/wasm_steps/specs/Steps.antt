@@ -5,11 +5,11 @@ use Rattle.std.specs.Prelude.{◌≡◌, ◌≢◌, ℕ, ℤ, ◌+◌, ◌-◌, 
 use Rattle.std.specs.Prelude.{reverse, replicate, take, drop, Option, Some, None, slice_get, zip}
 use Rattle.std.specs.Option.{unwrap_or}
 use Rattle.std.specs.Int.{w32, w64, cast_signed, cast_unsigned}
-use Rattle.wasm_module.specs.values.Syntax.{Op, Ops, next, block, loop, if_else, br, br_if, br_table, return}
-use Rattle.wasm_module.specs.values.Syntax.{call, call_indirect}
-use Rattle.wasm_module.specs.declared.values.types.ValType.{ValType}
-use Rattle.wasm_module.specs.declared.values.types.ValType.TheVariants.{I32, I64, F32, F64}
-use Rattle.wasm_module.specs.declared.values.types.FuncType.{FuncType}
+use Rattle.wasm_values.specs.Syntax.{Op, Ops, next, block, loop, if_else, br, br_if, br_table, return}
+use Rattle.wasm_values.specs.Syntax.{call, call_indirect}
+use Rattle.wasm_values.specs.declared.types.ValType.{ValType}
+use Rattle.wasm_values.specs.declared.types.ValType.TheVariants.{I32, I64, F32, F64}
+use Rattle.wasm_values.specs.declared.types.FuncType.{FuncType}
 use Rattle.wasm_store.specs.Memory.{Memory}
 use Rattle.wasm_steps.specs.Program.{Function, imported, defined, type_of, Program, Store, most_frames}
 use Rattle.wasm_steps.specs.Program.{most_values}

@@ -2,8 +2,8 @@
 -- 4.4.5.
 use Rattle.std.specs.Prelude.{ℕ, suc, ◌+◌, List, [], ◌∷◌, ◌++◌, length, take, Option, Some, None}
 use Rattle.std.specs.List.{sum_by}
-use Rattle.wasm_module.specs.values.Syntax.{Ops, no_ops}
-use Rattle.wasm_module.specs.declared.values.types.ValType.{ValType}
+use Rattle.wasm_values.specs.Syntax.{Ops, no_ops}
+use Rattle.wasm_values.specs.declared.types.ValType.{ValType}
 
 -- What stands around the instructions that run.
 -- A block that is open: how many operands a branch to it takes along, what runs behind such a branch, the

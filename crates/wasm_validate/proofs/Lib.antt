@@ -1,16 +1,4 @@
-pub mod Stacks
-pub mod Images
-pub mod Instructions
-pub mod Lists
-pub mod Seen
-pub mod Applied
-pub mod Ranges
-pub mod Entries
-pub mod Ends
-pub mod Parts
 pub mod Plain
 pub mod OneConstant
-pub mod Imported
 pub mod Named
-pub mod Gathered
 pub mod Whole

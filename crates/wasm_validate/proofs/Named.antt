@@ -7,9 +7,9 @@ use Rattle.std.specs.BTreeSet.{BTreeSet, contains}
 use Rattle.std.proofs.lemmas.Map.Text.{is_eq-slice_cmp}
 use Rattle.std.proofs.lemmas.Slice.Eq.{bytes_eq-Decides}
 use Rattle.std.proofs.lemmas.Option.{slice_get_within}
-use Rattle.wasm_module.specs.declared.sections.exports.Export.{Export}
-use Rattle.wasm_validate.specs.modules.Modules.{NamesDiffer}
-use Rattle.wasm_validate.proofs.Instructions.{one_found}
+use Rattle.wasm_values.specs.declared.exports.Export.{Export}
+use Rattle.wasm_validate.specs.Modules.{NamesDiffer}
+use Rattle.wasm_typing.proofs.Instructions.{one_found}
 
 further : (i at : ℕ) → (i < at) ⊎ (i ≡ at) → (suc i < suc at) ⊎ (suc i ≡ suc at)
 further i at (inl below) = inl (omega arith)

@@ -1,8 +1,8 @@
 -- Instructions without floats, from lists of the code to what they stand for.
 use Rattle.std.proofs.Common.{◌≡◌, ℕ, suc, zero, ◌+◌, ◌<◌, List, [], ◌∷◌, length, get_or, take, sym, subst, arith, add-one}
-use Rattle.wasm_module.specs.values.View.{instr_view, items_view}
-use Rattle.wasm_module.specs.declared.values.instr.Instr.{Instr}
-use Rattle.wasm_validate.specs.modules.Floats.{OpHasNoFloat, OpsHaveNoFloat}
+use Rattle.wasm_values.specs.View.{instr_view, items_view}
+use Rattle.wasm_values.specs.declared.instr.Instr.{Instr}
+use Rattle.wasm_validate.specs.Floats.{OpHasNoFloat, OpsHaveNoFloat}
 
 plain_next : (items : List Instr) (at : ℕ) (i : Instr) → i ≡ get_or items at i → at < length items
     → OpsHaveNoFloat (items_view (take at items)) → OpHasNoFloat (instr_view i) → OpsHaveNoFloat (items_view (take (suc at) items))

@@ -4,17 +4,18 @@ use Rattle.std.proofs.lemmas.List.{length-map}
 use Rattle.std.proofs.lemmas.Option.{slice_get-map, slice_get_within}
 use Rattle.std.proofs.lemmas.Result.{IfOk-weaker}
 use Rattle.std.proofs.Math.Seq.{take-append_seam}
-use Rattle.wasm_module.specs.sections.Entries.{Function, code_view, global_view}
-use Rattle.wasm_module.specs.values.Syntax.{Ops}
-use Rattle.wasm_module.specs.sections.Sections.{module_view}
-use Rattle.wasm_module.specs.declared.sections.codes.Code.{Code}
-use Rattle.wasm_module.specs.declared.sections.exports.Export.{Export}
-use Rattle.wasm_module.specs.declared.sections.module.Module.{Module}
-use Rattle.wasm_module.specs.declared.values.types.GlobalType.{GlobalType}
-use Rattle.wasm_validate.specs.typing.Context.{Context, module_context, imported_globals}
+use Rattle.wasm_module.specs.Entries.{Function, code_view, global_view}
+use Rattle.wasm_values.specs.Syntax.{Ops}
+use Rattle.wasm_module.specs.Sections.{module_view}
+use Rattle.wasm_module.specs.declared.codes.Code.{Code}
+use Rattle.wasm_values.specs.declared.exports.Export.{Export}
+use Rattle.wasm_module.specs.declared.module.Module.{Module}
+use Rattle.wasm_values.specs.declared.types.GlobalType.{GlobalType}
+use Rattle.wasm_typing.specs.Context.{Context, module_context, imported_globals}
 use Rattle.wasm_validate.specs.inner.Groups.{AreDeclared, AreMade, AreFunctions}
-use Rattle.wasm_validate.specs.modules.Modules.{IsValid, IsFunction, NamesDiffer}
-use Rattle.wasm_validate.specs.inner.Stands.{Exactly}
+use Rattle.wasm_typing.specs.Functions.{IsFunction}
+use Rattle.wasm_validate.specs.Modules.{IsValid, NamesDiffer}
+use Rattle.wasm_typing.specs.inner.Stands.{Exactly}
 
 -- the globals that are imported
 front : {X : Type 0} (xs ys : List X) (own : ℕ) → own ≡ length ys → take (length (xs ++ ys) - own) (xs ++ ys) ≡ xs

@@ -1,3 +1,3 @@
-pub mod typing
-pub mod modules
+pub mod Modules
+pub mod Floats
 pub mod inner

@@ -1,8 +1,2 @@
 -- Definitions that private functions and proofs cite alone.
-pub mod Adds
 pub mod Groups
-pub mod Tables
-pub mod Ranges
-pub mod Runs
-pub mod Scopes
-pub mod Stands

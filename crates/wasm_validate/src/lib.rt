@@ -1,9 +1,14 @@
 // The validation of WebAssembly modules: whether a module has a typing, WebAssembly Core 1.0, chapter 3.
 #![tactic(auto)]
 
-mod modules;
-mod typing;
+mod codes;
+mod constants;
+mod every;
+mod floats;
+mod names;
+mod rules;
+mod valid;
 
-pub use modules::valid::{Valid, ValidFault, validate};
 pub use std::alloc::AllocError as NoMemory;
-pub use typing::laws::typing_laws;
+pub use valid::{Valid, ValidFault, validate};
+pub use wasm_typing::typing_laws;

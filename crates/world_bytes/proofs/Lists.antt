@@ -4,8 +4,8 @@ use Rattle.std.proofs.lemmas.Bool.{ltb-true, lt-ltb}
 use Rattle.std.proofs.lemmas.List.{append-nil}
 use Rattle.std.proofs.Math.Dec.{ltb}
 use Rattle.std.specs.List.{AllByRecursion, flat_map}
-use Rattle.object_store.specs.Tables.{IsRising}
-use Rattle.object_store.specs.declared.object.Object.{Object}
+use Rattle.room_table.specs.Tables.{IsRising}
+use Rattle.room_table.specs.declared.object.Object.{Object}
 use Rattle.object_store.proofs.Accounts.{all_push}
 use Rattle.world_bytes.specs.Forms.{HasObjectForm, object_bytes}
 use Rattle.world_bytes.specs.inner.Rows.{AreObjects, Leads, LeadsNone, object_row, objects_row}

@@ -3,8 +3,8 @@ use Rattle.std.proofs.Common.{◌≡◌, ℕ, suc, ◌<◌, ◌≤◌, ◌^◌, 
 use Rattle.std.specs.List.{AllByRecursion}
 use Rattle.byte_fields.specs.Front.{Begins, BeginsNone}
 use Rattle.byteorder.specs.Endian.{little_bytes}
-use Rattle.object_store.specs.Tables.{Table, without_spare}
-use Rattle.object_store.specs.Tallies.{no_tallies}
+use Rattle.room_table.specs.Tables.{Table, without_spare}
+use Rattle.room_table.specs.Tallies.{no_tallies}
 use Rattle.object_store.specs.declared.account.Account.{Account}
 use Rattle.world_bytes.specs.Forms.{HasAccountForm, HasRoomForm, SpellsAccount, SpellsRoom, account_bytes, room_bytes}
 use Rattle.world_bytes.specs.inner.Rows.{Leads, AreObjects, objects_row, HasMemoryForm, memory_row}

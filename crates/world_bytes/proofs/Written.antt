@@ -8,9 +8,9 @@ use Rattle.game_tables.specs.Actions.{action_number}
 use Rattle.game_tables.specs.Numbers.{kind_number, part_number}
 use Rattle.game_tables.specs.declared.kind.Part.{Part}
 use Rattle.intent_book.specs.declared.intent.Intent.{Intent}
-use Rattle.object_store.specs.Tables.{Table}
+use Rattle.room_table.specs.Tables.{Table}
 use Rattle.object_store.specs.declared.account.Account.{Account}
-use Rattle.object_store.specs.declared.object.Object.{Object}
+use Rattle.room_table.specs.declared.object.Object.{Object}
 use Rattle.world_bytes.specs.declared.object.Head.{Head}
 use Rattle.world_bytes.specs.declared.object.Counts.{Counts}
 use Rattle.world_bytes.specs.Forms.{object_bytes, room_bytes, account_bytes, intent_bytes}

@@ -10,8 +10,8 @@ use Rattle.game_tables.specs.Limits.{most_memory}
 use Rattle.game_tables.specs.Numbers.{kind_number, part_number}
 use Rattle.intent_book.specs.declared.intent.Intent.{Intent}
 use Rattle.object_store.specs.declared.account.Account.{Account}
-use Rattle.object_store.specs.declared.object.Object.{Object}
-use Rattle.object_store.specs.Tables.{IsOnTile, IsRising, Table, without_spare}
+use Rattle.room_table.specs.declared.object.Object.{Object}
+use Rattle.room_table.specs.Tables.{IsOnTile, IsRising, Table, without_spare}
 
 -- ---- the bytes
 

@@ -2,7 +2,7 @@
 ghost use Rattle.std.specs.Prelude.{◌≡◌, ℕ, List, ◌++◌};
 ghost use Rattle.byte_fields.specs.Front.{Begins};
 ghost use Rattle.intent_book.specs.declared.intent.Intent.{Intent};
-ghost use Rattle.object_store.specs.Tables.{Table, without_spare};
+ghost use Rattle.room_table.specs.Tables.{Table, without_spare};
 ghost use Rattle.object_store.specs.declared.account.Account.{Account};
 ghost use Rattle.world_bytes.specs.Forms.{HasAccountForm, HasIntentForm, HasRoomForm, SpellsAccount};
 ghost use Rattle.world_bytes.specs.Forms.{SpellsIntent, SpellsRoom, account_bytes, intent_bytes, room_bytes};

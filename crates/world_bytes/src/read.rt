@@ -5,7 +5,7 @@ ghost use Rattle.std.specs.List.{AllByRecursion};
 ghost use Rattle.byte_fields.specs.Front.{Begins, BeginsNone, BeginsOnly};
 ghost use Rattle.game_tables.specs.Actions.{action_number};
 ghost use Rattle.game_tables.specs.declared.action.Action.{Action};
-ghost use Rattle.object_store.specs.Tables.{IsRising};
+ghost use Rattle.room_table.specs.Tables.{IsRising};
 ghost use Rattle.world_bytes.specs.Forms.{SpellsRoom, SpellsAccount, SpellsIntent};
 ghost use Rattle.world_bytes.specs.inner.Rows.{Leads, LeadsNone, AreObjects, objects_row, HasMemoryForm};
 ghost use Rattle.world_bytes.specs.inner.Rows.{memory_row};

@@ -10,7 +10,7 @@ use Rattle.std.proofs.lemmas.Option.{slice_get_past}
 use Rattle.game_tables.specs.Bodies.{most_parts}
 use Rattle.game_tables.specs.Kinds.{is_in_rules}
 use Rattle.game_tables.specs.Limits.{most_rooms, most_objects, most_players}
-use Rattle.object_store.specs.declared.object.Object.{Object}
+use Rattle.room_table.specs.declared.object.Object.{Object}
 use Rattle.object_store.specs.declared.account.Account.{Account}
 use Rattle.object_store.specs.Stored.{Stored}
 use Rattle.world_rules.proofs.Rooms.{frame_listed}

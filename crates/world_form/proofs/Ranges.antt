@@ -13,7 +13,7 @@ use Rattle.game_tables.specs.Kinds.{is_in_rules, hits_max, build_total}
 use Rattle.game_tables.specs.Fields.{most_energy, most_timer}
 use Rattle.game_tables.specs.Levels.{totals, downgrades, total_for_next, downgrade_number}
 use Rattle.game_tables.specs.Numbers.{kind_number}
-use Rattle.object_store.specs.declared.object.Object.{Object}
+use Rattle.room_table.specs.declared.object.Object.{Object}
 use Rattle.world_rules.specs.Rules.{IsProgress, IsDowngradeTimer, IsSource, IsController, IsCreep, IsSpawn, IsStore, IsDecaying, IsPile, IsSite, IsInRangeAs}
 
 -- The kind is one of the rules in force, and the fields but for its id and its players are in a file's ranges.

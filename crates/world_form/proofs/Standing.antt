@@ -5,7 +5,7 @@ use Rattle.std.specs.Ordering.{nat_cmp}
 use Rattle.std.specs.Cmp.{unsigned_tied, nat_cmp_total}
 use Rattle.std.specs.FinMap.{find, get-from_entries}
 use Rattle.std.proofs.lemmas.Bool.{cases_eq, cases_lt, eq-eqb, ne_eqb}
-use Rattle.object_store.specs.declared.object.Object.{Object}
+use Rattle.room_table.specs.declared.object.Object.{Object}
 use Rattle.object_store.specs.declared.world.Room.{Room}
 use Rattle.world_rules.specs.declared.rule.Rule.TheVariants as rules
 use Rattle.world_rules.specs.World.{Placed, World, Listing, placed, placed_from, world_listed, listed_room}

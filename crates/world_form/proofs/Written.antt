@@ -7,11 +7,11 @@ use Rattle.serde_json.specs.View.{items_of}
 use Rattle.game_tables.specs.declared.kind.Part.{Part}
 use Rattle.game_tables.specs.Texts.{part_text}
 use Rattle.game_tables.specs.Limits.{most_limit, most_bucket, most_points}
-use Rattle.object_store.specs.declared.object.Object.{Object}
+use Rattle.room_table.specs.declared.object.Object.{Object}
 use Rattle.object_store.specs.declared.account.Account.{Account}
 use Rattle.object_store.specs.declared.world.Room.{Room}
 use Rattle.object_store.specs.Stored.{Stored}
-use Rattle.object_store.specs.Tables.{IsOnTile}
+use Rattle.room_table.specs.Tables.{IsOnTile}
 use Rattle.world_form.specs.Written.{list_data, object_data, room_data, account_data, world_data, IsWritableRoom, IsWritableAccount, IsWritable, IsOfTypes}
 use Rattle.world_form.proofs.Clear.{name_clear, kind_clear, part_clear, grounds_clear, hex_clear}
 use Rattle.world_form.proofs.Legible.{IsLegible, AreLegible}

@@ -6,11 +6,11 @@ use Rattle.serde_json.specs.View.{items_of}
 use Rattle.serde_json.specs.Written.{compact_text}
 use Rattle.game_tables.specs.Texts.{kind_text, part_text}
 use Rattle.room_terrain.specs.Names.{name_text, IsInRange}
-use Rattle.object_store.specs.declared.object.Object.{Object}
+use Rattle.room_table.specs.declared.object.Object.{Object}
 use Rattle.object_store.specs.declared.account.Account.{Account}
 use Rattle.object_store.specs.declared.world.Room.{Room}
 use Rattle.object_store.specs.Stored.{Stored}
-use Rattle.object_store.specs.Tables.{IsOnTile}
+use Rattle.room_table.specs.Tables.{IsOnTile}
 use Rattle.game_tables.specs.Limits.{most_limit, most_bucket, most_points, most_memory}
 use Rattle.world_rules.specs.Sound.{IsSound}
 use Rattle.world_rules.specs.World.{listed_room, listing_of}

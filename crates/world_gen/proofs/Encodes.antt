@@ -5,15 +5,15 @@ use Rattle.std.specs.Str.{IsUtf8}
 use Rattle.std.proofs.lemmas.Int.{ints}
 use Rattle.std.proofs.lemmas.List.Elements.{All-from_recursion}
 use Rattle.std.proofs.lemmas.Str.{IsUtf8-from_ascii}
-use Rattle.wasm_module.specs.values.Syntax.{Op, Ops}
-use Rattle.wasm_module.specs.values.View.{ops_of}
-use Rattle.wasm_module.proofs.Groups.{compares, computes, wraps, extends}
-use Rattle.wasm_module.specs.sections.Entries.{Function}
-use Rattle.wasm_module.specs.sections.Sections.{Spells}
-use Rattle.wasm_module.specs.declared.values.types.ValType.TheVariants.{I32}
-use Rattle.wasm_module.specs.declared.sections.imports.Import.{Import}
-use Rattle.wasm_module.specs.declared.sections.exports.Export.{Export}
-use Rattle.wasm_module.specs.declared.sections.codes.LocalRun.{LocalRun}
+use Rattle.wasm_values.specs.Syntax.{Op, Ops}
+use Rattle.wasm_values.specs.View.{ops_of}
+use Rattle.wasm_values.proofs.Groups.{compares, computes, wraps, extends}
+use Rattle.wasm_module.specs.Entries.{Function}
+use Rattle.wasm_module.specs.Sections.{Spells}
+use Rattle.wasm_values.specs.declared.types.ValType.TheVariants.{I32}
+use Rattle.wasm_values.specs.declared.imports.Import.{Import}
+use Rattle.wasm_values.specs.declared.exports.Export.{Export}
+use Rattle.wasm_module.specs.declared.codes.LocalRun.{LocalRun}
 use Rattle.wasm_encode.specs.Encodable.{AreInstructions, IsEncodable, IsExported, IsImported, IsSigned, IsU32, weight}
 use Rattle.wasm_encode.specs.inner.Gains.{IsSpelled}
 use Rattle.wasm_encode.proofs.Exists.{encodable_spelled}

@@ -1,12 +1,12 @@
 -- The code that the functions put together is that of the definitions.
 use Rattle.std.proofs.Common.{◌≡◌, ℕ, ℤ, pos, negsuc, List, [], ◌∷◌, ◌++◌, None, refl, ap, ap₂, ◌∙◌, append_assoc}
 use Rattle.std.proofs.lemmas.List.{map-append}
-use Rattle.wasm_module.specs.values.Syntax.{Op, drop_value, if_else, i32_const, i64_const, local_set, loop}
-use Rattle.wasm_module.specs.values.View.{instr_view, instrs_view, items_view, ops_of}
-use Rattle.wasm_module.specs.declared.values.instr.Instr.{Instr}
-use Rattle.wasm_module.specs.declared.values.instr.Instr.TheVariants as instr
-use Rattle.wasm_module.specs.declared.values.instr.Instrs.{Instrs}
-use Rattle.wasm_module.proofs.Views.{view_br, view_call, view_drop_value, view_i32_const, view_i64_const, view_if, view_instrs, view_local_get, view_local_set, view_loop, view_numeric}
+use Rattle.wasm_values.specs.Syntax.{Op, drop_value, if_else, i32_const, i64_const, local_set, loop}
+use Rattle.wasm_values.specs.View.{instr_view, instrs_view, items_view, ops_of}
+use Rattle.wasm_values.specs.declared.instr.Instr.{Instr}
+use Rattle.wasm_values.specs.declared.instr.Instr.TheVariants as instr
+use Rattle.wasm_values.specs.declared.instr.Instrs.{Instrs}
+use Rattle.wasm_values.proofs.Views.{view_br, view_call, view_drop_value, view_i32_const, view_i64_const, view_if, view_instrs, view_local_get, view_local_set, view_loop, view_numeric}
 use Rattle.world_gen.specs.PlayerModule.{again, both_fields, both_ids, delivers, direction, directions, drops, either, field, harvest, harvests, has_room, i32_add, i32_and, i32_eqz, i32_mul, i32_sub, i32_wrap_i64, i64_extend_i32_u, i64_gt_s, i64_lt_s, i64_shr_u, in_room, is_seen, look, move, of_kind, on_code, own, own_creep, seek, sign, source_sought, spawn_sought, steps, to_next, transfer, turn, turns, visit, when}
 use Rattle.world_gen.specs.inner.Lines.{lines}
 

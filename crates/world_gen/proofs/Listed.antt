@@ -7,7 +7,7 @@ use Rattle.room_terrain.specs.declared.terrain.Ground.{Ground}
 use Rattle.object_store.specs.declared.account.Account.{Account}
 use Rattle.object_store.specs.declared.world.Room.{Room}
 use Rattle.object_store.specs.Stored.{Stored, IsLast}
-use Rattle.object_store.specs.Tables.{Table}
+use Rattle.room_table.specs.Tables.{Table}
 use Rattle.world_gen.specs.Generator.{account, accounts_to, draw, grounds, made_room, made_table, rooms_from, state_after}
 use Rattle.world_gen.proofs.Drawn.{draw_behind, state_behind}
 

@@ -6,8 +6,8 @@ use Rattle.std.proofs.lemmas.List.FromFn.{map-range_with_len_more}
 use Rattle.byteorder.specs.Endian.{little_bytes}
 use Rattle.byte_fields.specs.Front.{SpellsShortest}
 use Rattle.upload_stream.specs.Streams.{HasEntryForm, NeverFall, Upload, UploadList, entry_bytes}
-use Rattle.wasm_module.specs.sections.Sections.{Spells, Syntax}
-use Rattle.wasm_module.specs.values.Syntax.{Ops}
+use Rattle.wasm_module.specs.Sections.{Spells, Syntax}
+use Rattle.wasm_values.specs.Syntax.{Ops}
 use Rattle.world_gen.specs.PlayerModule.{player_module}
 use Rattle.world_gen.specs.Uploads.{upload, uploads_to}
 use Rattle.world_gen.proofs.Encodes.{module_spelled}

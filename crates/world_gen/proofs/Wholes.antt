@@ -1,15 +1,15 @@
 -- The module is put together from its lists.
 use Rattle.std.proofs.Common.{◌≡◌, List, [], ◌∷◌, None, map, ap, ap₂, ◌∙◌}
-use Rattle.wasm_module.specs.values.Syntax.{Ops}
-use Rattle.wasm_module.specs.values.View.{instrs_view, ops_of}
-use Rattle.wasm_module.specs.sections.Entries.{Function, code_view}
-use Rattle.wasm_module.specs.sections.Sections.{module_view}
-use Rattle.wasm_module.specs.declared.sections.codes.Code.{Code}
-use Rattle.wasm_module.specs.declared.sections.codes.LocalRun.{LocalRun}
-use Rattle.wasm_module.specs.declared.values.instr.Instr.{Instr}
-use Rattle.wasm_module.specs.declared.values.instr.Instrs.{Instrs}
-use Rattle.wasm_module.specs.declared.sections.module.Module.{Module}
-use Rattle.wasm_module.specs.declared.values.types.ValType.TheVariants.{I32}
+use Rattle.wasm_values.specs.Syntax.{Ops}
+use Rattle.wasm_values.specs.View.{instrs_view, ops_of}
+use Rattle.wasm_module.specs.Entries.{Function, code_view}
+use Rattle.wasm_module.specs.Sections.{module_view}
+use Rattle.wasm_module.specs.declared.codes.Code.{Code}
+use Rattle.wasm_module.specs.declared.codes.LocalRun.{LocalRun}
+use Rattle.wasm_values.specs.declared.instr.Instr.{Instr}
+use Rattle.wasm_values.specs.declared.instr.Instrs.{Instrs}
+use Rattle.wasm_module.specs.declared.module.Module.{Module}
+use Rattle.wasm_values.specs.declared.types.ValType.TheVariants.{I32}
 use Rattle.world_gen.specs.PlayerModule.{host_calls, host_types, loop_codes, loop_exports, player_module, turns}
 use Rattle.world_gen.specs.inner.Lines.{lines}
 

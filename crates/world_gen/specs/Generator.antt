@@ -8,11 +8,11 @@ use Rattle.game_tables.specs.declared.kind.Part.TheVariants.{Work, Carry, Move}
 use Rattle.room_terrain.specs.declared.terrain.Ground.{Ground}
 use Rattle.room_terrain.specs.declared.terrain.Ground.TheVariants.{Plain, Wall, Swamp}
 use Rattle.object_store.specs.declared.account.Account.{Account}
-use Rattle.object_store.specs.declared.object.Object.{Object}
+use Rattle.room_table.specs.declared.object.Object.{Object}
 use Rattle.object_store.specs.declared.world.Room.{Room}
 use Rattle.object_store.specs.Stored.{Stored}
-use Rattle.object_store.specs.Tables.{Table}
-use Rattle.object_store.specs.Tallies.{no_tallies}
+use Rattle.room_table.specs.Tables.{Table}
+use Rattle.room_table.specs.Tallies.{no_tallies}
 
 -- ---- draws
 

@@ -1,17 +1,17 @@
 -- The module of each player of a generated world. In each tick its creeps harvest, carry and fill the spawn.
 use Rattle.std.specs.Prelude.{ℕ, ℤ, pos, negsuc, List, [], ◌∷◌, ◌++◌, Option, None, Some, codes}
-use Rattle.wasm_module.specs.values.Syntax.{Op, Ops, no_ops, loop, if_else, br, call, drop_value, local_get}
-use Rattle.wasm_module.specs.values.Syntax.{local_set, i32_const, i64_const, numeric}
-use Rattle.wasm_module.specs.values.View.{ops_of}
-use Rattle.wasm_module.specs.sections.Entries.{Function}
-use Rattle.wasm_module.specs.sections.Sections.{Syntax}
-use Rattle.wasm_module.specs.declared.values.types.ValType.{ValType}
-use Rattle.wasm_module.specs.declared.values.types.ValType.TheVariants.{I32, I64}
-use Rattle.wasm_module.specs.declared.values.types.FuncType.{FuncType}
-use Rattle.wasm_module.specs.declared.sections.imports.Import.{Import}
-use Rattle.wasm_module.specs.declared.sections.imports.ImportDesc.TheVariants as import
-use Rattle.wasm_module.specs.declared.sections.exports.Export.{Export}
-use Rattle.wasm_module.specs.declared.sections.exports.ExportDesc.TheVariants as export
+use Rattle.wasm_values.specs.Syntax.{Op, Ops, no_ops, loop, if_else, br, call, drop_value, local_get}
+use Rattle.wasm_values.specs.Syntax.{local_set, i32_const, i64_const, numeric}
+use Rattle.wasm_values.specs.View.{ops_of}
+use Rattle.wasm_module.specs.Entries.{Function}
+use Rattle.wasm_module.specs.Sections.{Syntax}
+use Rattle.wasm_values.specs.declared.types.ValType.{ValType}
+use Rattle.wasm_values.specs.declared.types.ValType.TheVariants.{I32, I64}
+use Rattle.wasm_values.specs.declared.types.FuncType.{FuncType}
+use Rattle.wasm_values.specs.declared.imports.Import.{Import}
+use Rattle.wasm_values.specs.declared.imports.ImportDesc.TheVariants as import
+use Rattle.wasm_values.specs.declared.exports.Export.{Export}
+use Rattle.wasm_values.specs.declared.exports.ExportDesc.TheVariants as export
 
 -- ---- what it imports: seven host calls, numbered from 0 on
 

@@ -1,6 +1,6 @@
 // Code that is put together from parts.
 ghost use Rattle.std.specs.Prelude.{◌≡◌, ◌++◌, IfOk, OnOk};
-ghost use Rattle.wasm_module.specs.values.View.{instrs_view, ops_of};
+ghost use Rattle.wasm_values.specs.View.{instrs_view, ops_of};
 ghost use Rattle.world_gen.specs.PlayerModule.{again, either, when};
 ghost use Rattle.world_gen.specs.inner.Lines.{lines};
 

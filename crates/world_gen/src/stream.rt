@@ -2,7 +2,7 @@
 ghost use Rattle.std.specs.Prelude.{◌≡◌, ◌+◌, ◌<◌, ◌≤◌, ◌^◌, ◌++◌, ℕ, List, length, IfOk, OnOk};
 ghost use Rattle.byte_fields.specs.Front.{SpellsShortest};
 ghost use Rattle.upload_stream.specs.Streams.{UploadList, entry_bytes};
-ghost use Rattle.wasm_module.specs.sections.Sections.{Spells};
+ghost use Rattle.wasm_module.specs.Sections.{Spells};
 ghost use Rattle.world_gen.specs.PlayerModule.{player_module};
 ghost use Rattle.world_gen.specs.Uploads.{upload, uploads, uploads_to};
 

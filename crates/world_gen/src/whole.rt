@@ -1,7 +1,7 @@
 // The module of each player of a generated world.
 ghost use Rattle.std.specs.Prelude.{◌≡◌, ◌∷◌, [], ◌++◌, map, IfOk, OnOk};
-ghost use Rattle.wasm_module.specs.sections.Entries.{code_view};
-ghost use Rattle.wasm_module.specs.sections.Sections.{module_view};
+ghost use Rattle.wasm_module.specs.Entries.{code_view};
+ghost use Rattle.wasm_module.specs.Sections.{module_view};
 ghost use Rattle.world_gen.specs.PlayerModule.{host_calls, host_types, imported, loop_codes, loop_exports};
 ghost use Rattle.world_gen.specs.PlayerModule.{player_module, takes};
 

@@ -6,8 +6,8 @@ use Rattle.std.proofs.lemmas.Bool.Decides.{eqb_tells}
 use Rattle.std.proofs.lemmas.List.Elements.{All-from_recursion, filter-append}
 use Rattle.object_store.specs.declared.account.Account.{Account}
 use Rattle.object_store.specs.Stored.{AreRising}
-use Rattle.object_store.proofs.Keyed.{player_of, rises_from_accounts}
-use Rattle.object_store.proofs.Rising.{Parted, Rises}
+use Rattle.object_store.proofs.Accounts.{player_of, rises_from_accounts}
+use Rattle.room_table.proofs.Rising.{Parted, Rises}
 use Rattle.tick_journal.specs.declared.entries.UploadEntry.{UploadEntry}
 use Rattle.world_journal.specs.Recovering.{last_result}
 use Rattle.world_journal.specs.declared.recovered.UploadCount.{UploadCount}

@@ -2,7 +2,7 @@
 ghost use Rattle.std.specs.Prelude.{◌≡◌, ℕ, [], ◌∷◌, ◌++◌, List, map, IfOk, OnOk};
 ghost use Rattle.object_store.specs.Stored.{AreRising};
 ghost use Rattle.object_store.specs.declared.account.Account.{Account as Known};
-ghost use Rattle.object_store.specs.inner.Ordered.{Rises};
+ghost use Rattle.room_table.specs.inner.Ordered.{Rises};
 ghost use Rattle.tick_journal.specs.declared.entries.UploadEntry.{UploadEntry as Judged};
 ghost use Rattle.world_journal.specs.inner.Counting.{counted, count_for};
 

@@ -3,11 +3,11 @@ use Rattle.std.proofs.Common.{◌≡◌, ℕ, suc, ◌≤◌, List, [], ◌∷�
 use Rattle.std.specs.Prelude.{slice_get}
 use Rattle.std.specs.FinMap.{get, values}
 use Rattle.object_store.specs.declared.account.Account.{Account}
-use Rattle.object_store.specs.declared.object.Object.{Object}
+use Rattle.room_table.specs.declared.object.Object.{Object}
 use Rattle.object_store.specs.declared.world.Room.{Room}
-use Rattle.object_store.specs.Tallies.{no_tallies}
+use Rattle.room_table.specs.Tallies.{no_tallies}
 use Rattle.object_store.specs.Stored.{Stored}
-use Rattle.object_store.specs.Tables.{IsRising}
+use Rattle.room_table.specs.Tables.{IsRising}
 use Rattle.world_rules.specs.World.{Frame, framed_from, world_of}
 use Rattle.world_rules.specs.World as worlds
 use Rattle.world_rules.specs.RoomParts.{RoomPart, objects_in}

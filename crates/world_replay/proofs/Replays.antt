@@ -10,7 +10,7 @@ use Rattle.std.proofs.lemmas.List.Elements.{recursion_from_All}
 use Rattle.game_tables.specs.Limits.{most_players}
 use Rattle.object_store.specs.declared.account.Account.{Account}
 use Rattle.object_store.specs.declared.world.Room.{Room}
-use Rattle.object_store.specs.Tables.{Table}
+use Rattle.room_table.specs.Tables.{Table}
 use Rattle.object_store.specs.Stored.{Stored, AreRising, HasAccount, find_account}
 use Rattle.intent_book.specs.Records.{AreOf, entries_bound}
 use Rattle.intent_book.specs.declared.intent.Intent.{Intent}

@@ -4,7 +4,7 @@ use Rattle.std.specs.Prelude.{ℕ, map}
 use Rattle.std.specs.FinMap.{entries, values}
 use Rattle.object_store.specs.declared.world.Room.{Room}
 use Rattle.object_store.specs.Stored.{Stored}
-use Rattle.object_store.specs.Tallies.{no_tallies}
+use Rattle.room_table.specs.Tallies.{no_tallies}
 use Rattle.world_rules.specs.World.{Frame, World}
 use Rattle.world_rules.specs.RoomParts.{objects_in}
 

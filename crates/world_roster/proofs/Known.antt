@@ -10,10 +10,10 @@ use Rattle.std.specs.FinMap.Entries.{below_all}
 use Rattle.std.proofs.lemmas.Bool.{eq-eqb, eqb-true, eqb-false, ne_eqb}
 use Rattle.std.proofs.lemmas.List.Sums.{sum_by-cons}
 use Rattle.std.proofs.lemmas.List.Sorted.{sum_by-IsPermutation}
-use Rattle.object_store.specs.declared.standing.Standing.{Standing}
+use Rattle.room_table.specs.declared.standing.Standing.{Standing}
 use Rattle.object_store.specs.Stored.{Stored}
-use Rattle.object_store.proofs.Rising.{Rises}
-use Rattle.object_store.proofs.Moved.{find_moved, strictly}
+use Rattle.room_table.proofs.Rising.{Rises}
+use Rattle.room_table.proofs.Moved.{find_moved, strictly}
 use Rattle.world_rules.specs.World.{Objects, Placed, shown, world_of}
 use Rattle.world_rules.specs.Sound.{IsSound}
 use Rattle.world_rules.proofs.Entries.{Entries, times}

@@ -1,6 +1,6 @@
 -- Where objects stand, as a roster lists it.
 use Rattle.std.specs.Prelude.{ℕ}
-use Rattle.object_store.specs.declared.standing.Standing.{Standing}
+use Rattle.room_table.specs.declared.standing.Standing.{Standing}
 use Rattle.world_rules.specs.World.{Placed, shown}
 
 abbrev pub id_in : Standing → ℕ

@@ -2,7 +2,7 @@
 ghost use Rattle.std.specs.Prelude.{◌≡◌, ◌<◌, ◌≤◌, ◌^◌, ◌++◌, length, map, option_map, OnOk, IfOk};
 ghost use Rattle.std.specs.FinMap.{get, entries};
 ghost use Rattle.std.specs.List.Sorted.{IsNonDecreasingBy, IsPartitionPoint, IsPermutation};
-ghost use Rattle.object_store.proofs.Rising.{Rises};
+ghost use Rattle.room_table.proofs.Rising.{Rises};
 ghost use Rattle.world_rules.specs.World.{world_of, shown};
 ghost use Rattle.world_rules.specs.Sound.{IsSound};
 ghost use Rattle.world_roster.specs.Rosters.{shown_entry, id_in};
@@ -25,7 +25,7 @@ impl<'a> Model for Roster<'a> {
     ghost use Rattle.std.specs.Prelude.{map};
     ghost use Rattle.std.specs.Coded.{coded_ℕ};
     ghost use Rattle.std.specs.FinMap.{code, from_entries};
-    ghost use Rattle.object_store.proofs.Rising.{Rises};
+    ghost use Rattle.room_table.proofs.Rising.{Rises};
     ghost use Rattle.world_rules.specs.World.{Objects};
     ghost use Rattle.world_roster.specs.Rosters.{shown_entry, id_in};
     ghost use Rattle.world_roster.specs.inner.Codes.{placed_code};

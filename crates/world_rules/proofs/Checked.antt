@@ -4,7 +4,7 @@ use Rattle.std.specs.FinMap.{get, values}
 use Rattle.game_tables.specs.Actions.{max_range, needed_part}
 use Rattle.game_tables.specs.Kinds.{is_creep}
 use Rattle.game_tables.specs.declared.action.Action.{Action}
-use Rattle.object_store.specs.declared.object.Object.{Object}
+use Rattle.room_table.specs.declared.object.Object.{Object}
 use Rattle.intent_book.specs.declared.intent.Intent.{Intent}
 use Rattle.world_rules.specs.World.{Placed}
 use Rattle.world_rules.specs.RoomParts.{RoomPart}

@@ -10,10 +10,10 @@ use Rattle.std.specs.FinMap.Entries.{below_all}
 use Rattle.std.proofs.lemmas.Bool.{eq-eqb, eqb-true, eqb-false}
 use Rattle.std.proofs.lemmas.Option.{slice_get-map}
 use Rattle.std.proofs.lemmas.List.Sums.{sum_by-cons, sum_by-append}
-use Rattle.object_store.specs.declared.object.Object.{Object}
+use Rattle.room_table.specs.declared.object.Object.{Object}
 use Rattle.object_store.specs.declared.account.Account.{Account}
 use Rattle.object_store.specs.declared.world.Room.{Room}
-use Rattle.object_store.specs.Tables.{Table, IsRising}
+use Rattle.room_table.specs.Tables.{Table, IsRising}
 use Rattle.object_store.specs.Stored.{Stored, HaveRisingTables}
 use Rattle.world_rules.specs.World.{Placed, Frame, World, placed_from, framed_from, listed_room, world_of, listing_of, ListedRoom}
 use Rattle.world_rules.specs.RoomParts.{RoomPart, objects_in, part_of, with_part, in_frame, in_room, in_rooms, in_every_room}

@@ -6,7 +6,7 @@ use Rattle.std.specs.Ordering.{nat_cmp}
 use Rattle.std.specs.Cmp.{nat_cmp_total, unsigned_tied}
 use Rattle.std.specs.FinMap.{FinMap, find, get, entries, entries_sorted, get-entries, get-from_entries, get-insert, get-retain_keys, same_map, nat_cmp-IsAntisymmetric}
 use Rattle.std.proofs.lemmas.Bool.{eq-eqb, eqb-true, ne_eqb}
-use Rattle.object_store.specs.declared.object.Object.{Object}
+use Rattle.room_table.specs.declared.object.Object.{Object}
 use Rattle.world_rules.specs.World.{Placed, Frame, World, stands_in, alone}
 use Rattle.world_rules.specs.RoomParts.{RoomPart, standing_in, objects_in, part_of, placed_in, with_room, in_frame, in_room}
 use Rattle.world_rules.specs.Seen.{Seen, seen}

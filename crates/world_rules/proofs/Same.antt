@@ -3,11 +3,11 @@ use Rattle.std.proofs.Common.{◌≡◌, ℕ, zero, suc, ◌≤◌, List, [], �
 use Rattle.std.specs.Prelude.{slice_get}
 use Rattle.std.specs.FinMap.{get}
 use Rattle.std.proofs.lemmas.Option.{slice_get-map}
-use Rattle.object_store.specs.declared.object.Object.{Object}
+use Rattle.room_table.specs.declared.object.Object.{Object}
 use Rattle.object_store.specs.declared.account.Account.{Account}
 use Rattle.object_store.specs.declared.world.Room.{Room}
-use Rattle.object_store.specs.Tallies.{no_tallies}
-use Rattle.object_store.specs.Tables.{IsRising}
+use Rattle.room_table.specs.Tallies.{no_tallies}
+use Rattle.room_table.specs.Tables.{IsRising}
 use Rattle.object_store.specs.Stored.{Stored, HaveRisingTables}
 use Rattle.world_rules.specs.declared.rule.Rule.TheVariants.{IdTwice}
 use Rattle.world_rules.specs.World.{World, placed, listed_room, listing_of, world_of}

@@ -8,9 +8,9 @@ use Rattle.std.specs.FinMap.{FinMap, get, insert, remove, values, from_entries, 
 use Rattle.std.specs.FinMap.{find as find_key}
 use Rattle.std.proofs.lemmas.Bool.{eq-eqb, eqb-true, ne_eqb, cases_eq, le-ltb}
 use Rattle.room_terrain.specs.declared.terrain.Ground.{Ground}
-use Rattle.object_store.specs.Controllers.{controller_among}
-use Rattle.object_store.specs.declared.object.Object.{Object}
-use Rattle.object_store.specs.Tables.{Table, IsRising, IsOnTile, HasId, HasNoId, find_object, with_object, with_new, without}
+use Rattle.room_table.specs.Controllers.{controller_among}
+use Rattle.room_table.specs.declared.object.Object.{Object}
+use Rattle.room_table.specs.Tables.{Table, IsRising, IsOnTile, HasId, HasNoId, find_object, with_object, with_new, without}
 use Rattle.world_rules.specs.World.{Placed}
 use Rattle.world_rules.specs.RoomParts.{RoomPart, table_part, controller_of}
 use Rattle.world_rules.specs.Changes.{put, with_object as with_in_part, without as without_in_part}

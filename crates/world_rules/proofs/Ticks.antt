@@ -5,7 +5,7 @@ use Rattle.std.specs.FinMap.{get, keys}
 use Rattle.game_tables.specs.declared.action.Action.{Action}
 use Rattle.intent_book.specs.declared.intent.Intent.{Intent}
 use Rattle.intent_book.specs.declared.player_run.PlayerRun.{PlayerRun}
-use Rattle.object_store.specs.declared.object.Object.{Object}
+use Rattle.room_table.specs.declared.object.Object.{Object}
 use Rattle.world_rules.specs.World.{Placed, Frame, World}
 use Rattle.world_rules.specs.Crossings.{Place, beyond, may_enter, with_object_on, crossed_to, crossed_by, crossed_over, crossers}
 use Rattle.world_rules.specs.RoomParts.{RoomPart, in_frame, in_room, in_rooms, in_every_room}

@@ -2,7 +2,7 @@
 -- object less, and a new object.
 use Rattle.std.specs.Prelude.{ℕ, ◌+◌, ◌*◌, ◌^◌, nat_lt, if◌then◌else◌, Option, Some, None}
 use Rattle.std.specs.FinMap.{get, insert, remove}
-use Rattle.object_store.specs.declared.object.Object.{Object}
+use Rattle.room_table.specs.declared.object.Object.{Object}
 use Rattle.world_rules.specs.RoomParts.{RoomPart}
 
 abbrev pub put : Object → RoomPart → Option Object → RoomPart

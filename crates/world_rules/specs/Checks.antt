@@ -21,10 +21,10 @@ use Rattle.game_tables.specs.declared.kind.Kind.{Kind}
 use Rattle.game_tables.specs.declared.kind.Kind.TheVariants.{Creep}
 use Rattle.game_tables.specs.declared.kind.Part.{Part}
 use Rattle.room_terrain.specs.Geometry.{distance}
-use Rattle.object_store.specs.Controllers.{controller_among, is_anothers}
-use Rattle.object_store.specs.Stores.{building_of, free_room}
-use Rattle.object_store.specs.Tables.{first_on, is_barred}
-use Rattle.object_store.specs.declared.object.Object.{Object}
+use Rattle.room_table.specs.Controllers.{controller_among, is_anothers}
+use Rattle.room_table.specs.Stores.{building_of, free_room}
+use Rattle.room_table.specs.Tables.{first_on, is_barred}
+use Rattle.room_table.specs.declared.object.Object.{Object}
 use Rattle.intent_book.specs.declared.intent.Intent.{Intent}
 use Rattle.world_rules.specs.World.{Placed}
 use Rattle.world_rules.specs.RoomParts.{RoomPart}

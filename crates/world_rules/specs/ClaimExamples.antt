@@ -2,7 +2,7 @@
 use Rattle.std.specs.Prelude.{◌≡◌, ℕ, [], replicate}
 use Rattle.game_tables.specs.declared.kind.Kind.TheVariants as kinds
 use Rattle.game_tables.specs.declared.kind.Part.TheVariants as part_kinds
-use Rattle.object_store.specs.declared.object.Object.{Object}
+use Rattle.room_table.specs.declared.object.Object.{Object}
 use Rattle.world_rules.specs.Claims.{claimed_for, controller_aged_as, controller_hurt, ticks_reserved}
 use Rattle.world_rules.specs.Claims.{work_taken, worked_on}
 use Rattle.world_rules.specs.FightExamples.{one_of}

@@ -10,8 +10,8 @@ use Rattle.game_tables.specs.declared.action.Action.TheVariants.{AttackControlle
 use Rattle.game_tables.specs.declared.kind.Kind.{Kind}
 use Rattle.game_tables.specs.declared.kind.Kind.TheVariants.{Controller}
 use Rattle.game_tables.specs.declared.kind.Part.TheVariants as part_kinds
-use Rattle.object_store.specs.Tallies.{sum_with}
-use Rattle.object_store.specs.declared.object.Object.{Object}
+use Rattle.room_table.specs.Tallies.{sum_with}
+use Rattle.room_table.specs.declared.object.Object.{Object}
 use Rattle.intent_book.specs.declared.intent.Intent.{Intent}
 use Rattle.world_rules.specs.RoomParts.{RoomPart}
 use Rattle.world_rules.specs.Changes.{with_object}

@@ -7,7 +7,7 @@ use Rattle.std.specs.Ordering.{int_eq}
 use Rattle.std.specs.FinMap.{get, insert, values, entries, from_entries}
 use Rattle.room_terrain.specs.Tiles.{tile}
 use Rattle.room_terrain.specs.declared.name.RoomName.{RoomName}
-use Rattle.object_store.specs.declared.object.Object.{Object}
+use Rattle.room_table.specs.declared.object.Object.{Object}
 use Rattle.world_rules.specs.World.{Placed, Frame, World}
 use Rattle.world_rules.specs.Moves.{is_open_ground}
 use Rattle.game_tables.specs.Kinds.{is_creep}

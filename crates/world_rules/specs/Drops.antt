@@ -5,7 +5,7 @@ use Rattle.std.specs.FinMap.{get, values}
 use Rattle.game_tables.specs.Fields.{most_energy}
 use Rattle.game_tables.specs.declared.action.Action.TheVariants.{DropLoad}
 use Rattle.game_tables.specs.declared.kind.Kind.TheVariants.{Pile}
-use Rattle.object_store.specs.declared.object.Object.{Object}
+use Rattle.room_table.specs.declared.object.Object.{Object}
 use Rattle.intent_book.specs.declared.intent.Intent.{Intent}
 use Rattle.game_tables.specs.Kinds.{is_pile}
 use Rattle.world_rules.specs.RoomParts.{RoomPart}

@@ -9,7 +9,7 @@ use Rattle.game_tables.specs.declared.kind.Kind.TheVariants as kinds
 use Rattle.game_tables.specs.declared.kind.Part.TheVariants as parts
 use Rattle.intent_book.specs.declared.intent.Intent.{Intent}
 use Rattle.object_store.specs.declared.account.Account.{Account}
-use Rattle.object_store.specs.declared.object.Object.{Object}
+use Rattle.room_table.specs.declared.object.Object.{Object}
 use Rattle.world_rules.specs.World.{Frame, World}
 use Rattle.world_rules.specs.RoomParts.{RoomPart}
 use Rattle.world_rules.specs.Drops.{dropped, pile_of}

@@ -3,7 +3,7 @@ use Rattle.std.specs.Prelude.{◌≡◌, ℕ, List, [], Some}
 use Rattle.game_tables.specs.declared.kind.Kind.{Kind}
 use Rattle.game_tables.specs.declared.kind.Kind.TheVariants as kinds
 use Rattle.game_tables.specs.declared.kind.Part.{Part}
-use Rattle.object_store.specs.declared.object.Object.{Object}
+use Rattle.room_table.specs.declared.object.Object.{Object}
 use Rattle.world_rules.specs.RuleBook.{Sums}
 use Rattle.world_rules.specs.Fights.{all_struck_by, salvage}
 use Rattle.world_rules.specs.Upkeep.{hits_left}

@@ -12,9 +12,9 @@ use Rattle.game_tables.specs.declared.kind.Kind.{Kind}
 use Rattle.game_tables.specs.declared.kind.Kind.TheVariants.{Creep}
 use Rattle.game_tables.specs.declared.kind.Part.TheVariants as part_kinds
 use Rattle.room_terrain.specs.Geometry.{distance}
-use Rattle.object_store.specs.Controllers.{is_another}
-use Rattle.object_store.specs.Stores.{free_room}
-use Rattle.object_store.specs.declared.object.Object.{Object}
+use Rattle.room_table.specs.Controllers.{is_another}
+use Rattle.room_table.specs.Stores.{free_room}
+use Rattle.room_table.specs.declared.object.Object.{Object}
 use Rattle.intent_book.specs.declared.intent.Intent.{Intent}
 use Rattle.world_rules.specs.RoomParts.{RoomPart, controller_of}
 use Rattle.world_rules.specs.RuleBook.{Harm, no_harm}

@@ -9,7 +9,7 @@ use Rattle.room_terrain.specs.declared.terrain.Ground.TheVariants.{Plain}
 use Rattle.game_tables.specs.declared.action.Action.{Action}
 use Rattle.game_tables.specs.declared.kind.Kind.TheVariants as kinds
 use Rattle.game_tables.specs.declared.kind.Part.TheVariants as parts_of
-use Rattle.object_store.specs.declared.object.Object.{Object}
+use Rattle.room_table.specs.declared.object.Object.{Object}
 use Rattle.intent_book.specs.declared.intent.Intent.{Intent}
 use Rattle.world_rules.specs.World.{Placed, Frame, World}
 use Rattle.world_rules.specs.RoomParts.{RoomPart}

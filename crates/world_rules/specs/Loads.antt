@@ -1,8 +1,8 @@
 -- What creeps hand over, take and pick up.
 use Rattle.std.specs.Prelude.{ℕ, ◌+◌, ◌-◌, ◌==◌, min, if◌then◌else◌}
 use Rattle.game_tables.specs.declared.action.Action.TheVariants.{Transfer, Withdraw, Pickup}
-use Rattle.object_store.specs.Stores.{free_room}
-use Rattle.object_store.specs.declared.object.Object.{Object}
+use Rattle.room_table.specs.Stores.{free_room}
+use Rattle.room_table.specs.declared.object.Object.{Object}
 use Rattle.intent_book.specs.declared.intent.Intent.{Intent}
 use Rattle.world_rules.specs.RoomParts.{RoomPart, controller_of}
 use Rattle.world_rules.specs.Changes.{with_object, without}

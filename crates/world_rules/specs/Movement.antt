@@ -5,7 +5,7 @@ use Rattle.std.specs.List.{filter, list_any, list_all, find}
 use Rattle.std.specs.FinMap.{values}
 use Rattle.game_tables.specs.declared.kind.Kind.{Kind}
 use Rattle.game_tables.specs.declared.kind.Kind.TheVariants.{Road}
-use Rattle.object_store.specs.declared.object.Object.{Object}
+use Rattle.room_table.specs.declared.object.Object.{Object}
 use Rattle.game_tables.specs.Kinds.{is_creep}
 use Rattle.world_rules.specs.RoomParts.{RoomPart}
 use Rattle.world_rules.specs.Changes.{with_object}

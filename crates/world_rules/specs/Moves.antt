@@ -15,8 +15,8 @@ use Rattle.room_terrain.specs.declared.direction.Direction.TheVariants.{Top, Top
 use Rattle.room_terrain.specs.declared.direction.Direction.TheVariants.{Bottom, BottomLeft, Left, TopLeft}
 use Rattle.room_terrain.specs.declared.terrain.Ground.{Ground}
 use Rattle.room_terrain.specs.declared.terrain.Ground.TheVariants.{Wall, Swamp}
-use Rattle.object_store.specs.Tables.{is_obstructed, first_on}
-use Rattle.object_store.specs.declared.object.Object.{Object}
+use Rattle.room_table.specs.Tables.{is_obstructed, first_on}
+use Rattle.room_table.specs.declared.object.Object.{Object}
 use Rattle.std.specs.Option.{is_some}
 use Rattle.intent_book.specs.declared.intent.Intent.{Intent}
 use Rattle.world_rules.specs.RoomParts.{RoomPart}

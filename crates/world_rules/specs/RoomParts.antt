@@ -5,9 +5,9 @@ use Rattle.std.specs.List.{filter, filter_map}
 use Rattle.std.specs.Ordering.{nat_cmp}
 use Rattle.std.specs.FinMap.{FinMap, get, insert, keys, values, from_entries, entries}
 use Rattle.room_terrain.specs.declared.terrain.Ground.{Ground}
-use Rattle.object_store.specs.Controllers.{controller_among}
-use Rattle.object_store.specs.declared.object.Object.{Object}
-use Rattle.object_store.specs.Tables.{Table}
+use Rattle.room_table.specs.Controllers.{controller_among}
+use Rattle.room_table.specs.declared.object.Object.{Object}
+use Rattle.room_table.specs.Tables.{Table}
 use Rattle.world_rules.specs.World.{Placed, Frame, World, stands_in}
 
 -- a room's part of the world: the rules number, its index, its grounds, the serial of its next new object,

@@ -14,10 +14,10 @@ use Rattle.game_tables.specs.declared.kind.Kind.{Kind}
 use Rattle.game_tables.specs.declared.kind.Kind.TheVariants.{Creep, Site}
 use Rattle.room_terrain.specs.Tiles.{tile}
 use Rattle.room_terrain.specs.declared.terrain.Ground.{Ground}
-use Rattle.object_store.specs.Controllers.{controller_among, is_anothers, level_of}
-use Rattle.object_store.specs.Stores.{site_kinds}
-use Rattle.object_store.specs.Tables.{first_on, is_site_free}
-use Rattle.object_store.specs.declared.object.Object.{Object}
+use Rattle.room_table.specs.Controllers.{controller_among, is_anothers, level_of}
+use Rattle.room_table.specs.Stores.{site_kinds}
+use Rattle.room_table.specs.Tables.{first_on, is_site_free}
+use Rattle.room_table.specs.declared.object.Object.{Object}
 use Rattle.intent_book.specs.declared.intent.Intent.{Intent}
 use Rattle.world_rules.specs.World.{Placed}
 use Rattle.world_rules.specs.RoomParts.{RoomPart}

@@ -12,8 +12,8 @@ use Rattle.game_tables.specs.declared.code.Code.TheVariants.{InvalidArgs}
 use Rattle.game_tables.specs.declared.kind.Kind.{Kind}
 use Rattle.game_tables.specs.declared.kind.Kind.TheVariants.{Creep, Spawn, Extension}
 use Rattle.game_tables.specs.declared.kind.Part.{Part}
-use Rattle.object_store.specs.Tables.{first_on}
-use Rattle.object_store.specs.declared.object.Object.{Object}
+use Rattle.room_table.specs.Tables.{first_on}
+use Rattle.room_table.specs.declared.object.Object.{Object}
 use Rattle.intent_book.specs.declared.intent.Intent.{Intent}
 use Rattle.world_rules.specs.World.{Placed}
 use Rattle.world_rules.specs.RoomParts.{RoomPart}

@@ -13,7 +13,7 @@ use Rattle.game_tables.specs.declared.action.Action.TheVariants.{Upgrade, Reserv
 use Rattle.game_tables.specs.declared.action.Action.TheVariants.{CreateSite, RemoveSite, SpawnCreep, Move}
 use Rattle.game_tables.specs.Limits.{most_bucket, most_points, unit_instructions}
 use Rattle.object_store.specs.declared.account.Account.{Account}
-use Rattle.object_store.specs.Tallies.{most_sum}
+use Rattle.room_table.specs.Tallies.{most_sum}
 use Rattle.intent_book.specs.declared.intent.Intent.{Intent}
 use Rattle.intent_book.specs.declared.player_run.PlayerRun.{PlayerRun}
 use Rattle.world_rules.specs.Drops.{dropped}

@@ -8,8 +8,8 @@ use Rattle.game_tables.specs.Kinds.{renewal_ticks, pile_decay}
 use Rattle.game_tables.specs.declared.kind.Kind.{Kind}
 use Rattle.game_tables.specs.declared.kind.Kind.TheVariants.{Source, Creep, Spawn, Container, Road, Pile}
 use Rattle.game_tables.specs.declared.kind.Part.TheVariants.{Move}
-use Rattle.object_store.specs.Controllers.{is_taken, is_owned_room}
-use Rattle.object_store.specs.declared.object.Object.{Object}
+use Rattle.room_table.specs.Controllers.{is_taken, is_owned_room}
+use Rattle.room_table.specs.declared.object.Object.{Object}
 use Rattle.world_rules.specs.RoomParts.{RoomPart, controller_of}
 use Rattle.world_rules.specs.RuleBook.{Step, Sums}
 use Rattle.world_rules.specs.Changes.{with_object, without}

@@ -6,9 +6,9 @@ use Rattle.game_tables.specs.Kinds.{build_total, built_hits, full_timer, hits_ma
 use Rattle.game_tables.specs.declared.action.Action.TheVariants.{Harvest, Repair, Build}
 use Rattle.game_tables.specs.declared.kind.Kind.{Kind}
 use Rattle.game_tables.specs.declared.kind.Part.TheVariants as part_kinds
-use Rattle.object_store.specs.Controllers.{is_owned_room}
-use Rattle.object_store.specs.Stores.{building_of, free_room}
-use Rattle.object_store.specs.declared.object.Object.{Object}
+use Rattle.room_table.specs.Controllers.{is_owned_room}
+use Rattle.room_table.specs.Stores.{building_of, free_room}
+use Rattle.room_table.specs.declared.object.Object.{Object}
 use Rattle.intent_book.specs.declared.intent.Intent.{Intent}
 use Rattle.world_rules.specs.RoomParts.{RoomPart, controller_of}
 use Rattle.world_rules.specs.Changes.{with_object, without, with_new}

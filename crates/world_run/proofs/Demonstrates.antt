@@ -19,13 +19,12 @@ use Rattle.world_journal.specs.Journals.{IsWholeJournal}
 use Rattle.world_journal.proofs.Journals.{journal_some}
 use Rattle.world_rules.specs.Sound.{IsSound}
 use Rattle.world_rules.specs.World.{World, world_of}
-use Rattle.world_run.specs.Demo.{AreMadeTicks, IsDemonstrated, IsLastLine, UsesUp, made_state, made_world}
+use Rattle.world_run.specs.Demo.{AreMadeTicks, IsDemonstrated, IsLastLine, IsPlayerText, UsesUp, made_state, made_world}
 use Rattle.world_replay.specs.Listed.{listed}
-use Rattle.world_run.specs.Made.{IsPlayerText}
 use Rattle.world_replay.specs.Serials.{HasRunOut, IsExhausted}
 use Rattle.world_run.specs.Runs.{Follow, Stood, last_of, output, recorded_of, resumed}
 use Rattle.world_run.specs.inner.Held as held
-use Rattle.world_run.proofs.Checked.{gave_whole}
+use Rattle.world_run.proofs.Gave.{gave_whole}
 use Rattle.world_replay.proofs.Listing.{exhausted_shown, file_listed}
 use Rattle.world_run.proofs.Worldly.{follow_shown, last_shown, many_shown, output_left, read_world_of, records_shown, shown, start_is, world_once}
 

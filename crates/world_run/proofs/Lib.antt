@@ -1,9 +1,7 @@
 pub mod Left
 pub mod RunsLists
-pub mod Asked
 pub mod Demonstrates
-pub mod Shows
-pub mod Checked
+pub mod Gave
 pub mod WorldFaults
 pub mod Hosts
 pub mod Starting

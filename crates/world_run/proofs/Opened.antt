@@ -4,7 +4,7 @@ use Rattle.std.specs.List.{AllByRecursion, find}
 use Rattle.std.specs.Prelude.{slice_get, unwrap_or, ◌==◌}
 use Rattle.frame_log.specs.Frames.{IsEmpty, IsEmptyDisk}
 use Rattle.object_store.specs.Stored.{Stored}
-use Rattle.object_store.specs.Tables.{Table, without_spare}
+use Rattle.room_table.specs.Tables.{Table, without_spare}
 use Rattle.object_store.specs.declared.world.Room.{Room}
 use Rattle.tick_journal.specs.BaseForms.{HasBaseRoomForm, room_as_read, world_as_read}
 use Rattle.tick_journal.specs.Contents.{base_content}

@@ -8,7 +8,7 @@ use Rattle.game_tables.specs.Limits.{most_memory}
 use Rattle.object_store.specs.declared.account.Account.{Account}
 use Rattle.object_store.specs.declared.world.Room.{Room}
 use Rattle.object_store.specs.Stored.{Stored}
-use Rattle.object_store.specs.Tables.{Table, without_spare}
+use Rattle.room_table.specs.Tables.{Table, without_spare}
 use Rattle.recorded_tick.proofs.Lists.{all_with}
 use Rattle.recorded_tick.proofs.Picked.{bare_table}
 use Rattle.recorded_tick.proofs.Standing.{account_form}

@@ -8,7 +8,7 @@ use Rattle.intent_book.specs.declared.refusal.Refusal.{Refusal}
 use Rattle.intent_book.specs.declared.refusal.Refusal.TheVariants.{UnknownPlayer, WrongToken, TooLarge, Malformed, FloatRefused, Invalid, UnknownImport, ImportKind, NoLoop, Segment, Memory}
 use Rattle.object_store.specs.declared.world.Room.{Room}
 use Rattle.object_store.specs.Stored.{Stored}
-use Rattle.object_store.specs.Tables.{Table, without_spare}
+use Rattle.room_table.specs.Tables.{Table, without_spare}
 use Rattle.world_rules.specs.World.{World}
 use Rattle.upload_stream.specs.Streams.{Upload, module_bytes_bound}
 use Rattle.hosted_tick.specs.Next.{AreJudged, IsResult, Modules, entry_of}

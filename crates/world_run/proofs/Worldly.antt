@@ -7,7 +7,7 @@ use Rattle.std.specs.Io.KnownBytes.{Appends}
 use Rattle.world_io.specs.Told.{AppendsPrefix, GaveAll}
 use Rattle.object_store.specs.declared.world.Room.{Room}
 use Rattle.object_store.specs.Stored.{Stored}
-use Rattle.object_store.specs.Tables.{Table}
+use Rattle.room_table.specs.Tables.{Table}
 use Rattle.intent_book.specs.declared.player_run.PlayerRun.{PlayerRun}
 use Rattle.world_rules.specs.World.{World, Frame, Listing, framed_from, listing_of, world_of}
 use Rattle.world_rules.specs.World as worlds
@@ -22,7 +22,7 @@ use Rattle.tick_journal.specs.declared.tick_record.TickRecord.{TickRecord}
 use Rattle.record_follows.specs.Courses.{world_after}
 use Rattle.recorded_tick.specs.Recording.{AreChangedRooms, IsRecordOf}
 use Rattle.hosted_tick.specs.Hosting.{Held, IsHosted, state_of}
-use Rattle.world_run.proofs.Checked.{gave_whole}
+use Rattle.world_run.proofs.Gave.{gave_whole}
 use Rattle.run_lines.specs.Lines.{object_count, total_energy, start_line, tick_line, tick_lines}
 use Rattle.world_replay.specs.Listed.{listed}
 use Rattle.world_replay.proofs.Listing.{file_listed, listed_is, serials_shown}

@@ -3,20 +3,26 @@ use Rattle.std.specs.Prelude.{◌≡◌, ℕ, ◌+◌, ◌<◌, ◌⊎◌, List,
 use Rattle.std.specs.Prelude.{decimal}
 use Rattle.std.specs.FinMap.{empty}
 use Rattle.std.specs.Io.KnownBytes.{Appends}
+use Rattle.byte_fields.specs.Front.{SpellsShortest}
+use Rattle.wasm_module.specs.Sections.{Spells}
 use Rattle.hosted_tick.specs.Next.{State}
 use Rattle.world_gen.specs.Generator.{generated}
+use Rattle.world_gen.specs.PlayerModule.{player_module}
 use Rattle.world_gen.specs.Uploads.{uploads}
 use Rattle.world_io.specs.Told.{AppendsPrefix}
 use Rattle.world_journal.specs.Journals.{IsWholeJournal}
 use Rattle.world_rules.specs.World.{World, world_of}
 use Rattle.world_replay.specs.Listed.{listed}
-use Rattle.world_run.specs.Made.{IsPlayerText}
 use Rattle.world_replay.specs.Serials.{IsExhausted}
 use Rattle.world_run.specs.Runs.{Follow, Step, last_of, output, recorded_of}
 use Rattle.run_status.specs.declared.status.Status.{Status}
 use Rattle.run_status.specs.declared.status.Status.TheVariants as statuses
 
 -- ---- the run
+
+-- The text is that of the players' module in its shortest form.
+abbrev pub IsPlayerText : List ℕ → Type 0
+IsPlayerText text = SpellsShortest Spells text player_module
 
 -- the world of a seed and so many rooms
 abbrev pub made_world : ℕ → ℕ → World

@@ -22,7 +22,7 @@ use world_text::write_world;
 
 /// Runs so many ticks in memory on the world of a seed and so many rooms, whose players upload the players'
 /// module for the first, and writes the last line of the run and the length of its journal.
-pub(crate) fn run_in_memory<O: Sink>(
+pub fn run_in_memory<O: Sink>(
     alloc: Global,
     seed: u64,
     rooms: u32,

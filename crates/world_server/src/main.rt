@@ -1,21 +1,16 @@
 // The program of the world server.
 #![tactic(auto)]
 
-ghost use Rattle.std.specs.Prelude.{◌≡◌, ◌⊎◌, map, string_bytes};
-ghost use Rattle.command_words.specs.Words.{AreOfTool, AreRun};
-ghost use Rattle.world_run.specs.Runs.{IsPastWords};
-
 mod pages;
 
-use command_words::{Command, WordsFault, read_words};
+use command_words::WordsFault;
 use pages::page_of;
+use run_status::Status;
+use server_calls::{refused_words, run_command};
 use std::env;
 use std::io::ErrorKind;
 use std::process::ExitCode;
-use world_io::{
-    Disk, FileDisk, FileSource, MemoryDisk, Source, SteadySource, StreamSink, write_all,
-};
-use world_run::{Status, run_alone, tool_main};
+use world_io::{StreamSink, write_all};
 
 fn main(rt: HostRuntime) -> ExitCode {
     let status = match words_after_the_name(&rt) {
@@ -46,22 +41,11 @@ fn words_after_the_name(rt: &HostRuntime) -> Result<Vec<String>, WordsFault> {
     }
 }
 
-// How a call ends whose words could not be read.
-fn refused_words(fault: WordsFault) -> Status
-    ensures usage { fault ≡ WordsFault.Usage → result ≡ Status.Usage }
-    ensures memory { fault ≡ WordsFault.Memory → result ≡ Status.Memory }
-{
-    match fault {
-        WordsFault::Usage => Status::Usage,
-        WordsFault::Memory => Status::Memory,
-    }
-}
-
 // Prints the page that the words ask for, or runs the command that they say.
 fn answer(rt: &HostRuntime, words: &[String]) -> Status {
     match page_of(words) {
         Some(page) => print(rt, page),
-        None => run(rt, words),
+        None => run_command(rt, words),
     }
 }
 
@@ -71,102 +55,6 @@ fn print(rt: &HostRuntime, page: &str) -> Status {
         Ok(()) => Status::Done,
         Err(_) => Status::WriteFault,
     }
-}
-
-// Runs the command that the words say.
-fn run(rt: &HostRuntime, words: &[String]) -> Status
-    ensures usage { result ≡ Status.Usage → (AreRun (map string_bytes words.now) → ⊥)
-        × (AreOfTool (map string_bytes words.now) → ⊥) }
-    ensures words { IsPastWords result → AreRun (map string_bytes words.now)
-        ⊎ AreOfTool (map string_bytes words.now) }
-{
-    match read_words(rt.alloc(), words) {
-        Ok(
-            Command::Run {
-                world,
-                uploads,
-                journal,
-                ticks: _,
-            },
-        ) => run_files(
-            rt,
-            words,
-            world.as_str(),
-            uploads.as_str(),
-            journal.as_str(),
-        ),
-        Ok(Command::Check { module }) => {
-            let mut module = FileSource::open(rt, module.as_str());
-            use_tool(rt, words, &mut module, &mut no_disk(rt))
-        }
-        Ok(Command::Gen { .. } | Command::Demo { .. }) => {
-            use_tool(rt, words, &mut no_source(rt), &mut no_disk(rt))
-        }
-        Ok(Command::Show { journal, tick: _ }) => read_journal(rt, words, journal.as_str()),
-        Ok(Command::Replay { journal }) => read_journal(rt, words, journal.as_str()),
-        Err(fault) => refused_words(fault),
-    }
-}
-
-// Runs ticks over the files of a world, of an upload stream and of a journal. A journal that is not
-// there is made, and a file that cannot be opened fails at its first call.
-fn run_files(
-    rt: &HostRuntime,
-    words: &[String],
-    world: &str,
-    uploads: &str,
-    journal: &str,
-) -> Status
-    ensures usage { result ≡ Status.Usage → AreRun (map string_bytes words.now) → ⊥ }
-    ensures words { IsPastWords result → AreRun (map string_bytes words.now) }
-{
-    run_alone(
-        rt.alloc(),
-        words,
-        &mut FileSource::open(rt, world),
-        &mut FileSource::open(rt, uploads),
-        &mut StreamSink::over(rt.stdout()),
-        &mut FileDisk::open_or_make(rt, journal),
-    )
-}
-
-// Shows a tick of the journal of a file, or rules its ticks again.
-fn read_journal(rt: &HostRuntime, words: &[String], journal: &str) -> Status
-    ensures usage { result ≡ Status.Usage → AreOfTool (map string_bytes words.now) → ⊥ }
-    ensures words { IsPastWords result → AreOfTool (map string_bytes words.now) }
-{
-    let mut journal = FileDisk::open(rt, journal);
-    use_tool(rt, words, &mut no_source(rt), &mut journal)
-}
-
-// Checks the module of a source, makes a part of a world or runs one in memory, or shows a tick of the
-// journal on a disk or rules its ticks again. A file that cannot be opened fails at its first call.
-fn use_tool<S: Source, D: Disk>(
-    rt: &HostRuntime,
-    words: &[String],
-    input: &mut S,
-    disk: &mut D,
-) -> Status
-    ensures usage { result ≡ Status.Usage → AreOfTool (map string_bytes words.now) → ⊥ }
-    ensures words { IsPastWords result → AreOfTool (map string_bytes words.now) }
-{
-    tool_main(
-        rt.alloc(),
-        words,
-        input,
-        &mut StreamSink::over(rt.stdout()),
-        disk,
-    )
-}
-
-// A source for a command that reads none: it has no byte.
-fn no_source(rt: &HostRuntime) -> SteadySource {
-    SteadySource::new(Vec::new(rt.alloc()))
-}
-
-// A disk for a command that uses none: it has no byte.
-fn no_disk(rt: &HostRuntime) -> MemoryDisk {
-    MemoryDisk::new(Vec::new(rt.alloc()), Vec::new(rt.alloc()), None)
 }
 
 // Prints the fault line to standard error, or nothing where there is no memory for it.

@@ -4,7 +4,7 @@ use Rattle.std.specs.List.{AllByRecursion}
 use Rattle.std.proofs.lemmas.List.{length-map}
 use Rattle.game_tables.specs.Limits.{most_rooms, most_players}
 use Rattle.object_store.specs.declared.world.Room.{Room}
-use Rattle.object_store.specs.Tables.{IsRising}
+use Rattle.room_table.specs.Tables.{IsRising}
 use Rattle.object_store.specs.Stored.{Stored, HaveRisingTables, AreRising}
 use Rattle.world_rules.specs.World.{ListedRoom, listed_room, listing_of, world_of, world_listed}
 use Rattle.world_rules.specs.Rules.{KeepsRules}

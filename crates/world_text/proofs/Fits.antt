@@ -6,9 +6,9 @@ use Rattle.std.proofs.lemmas.List.Elements.{All-from_recursion, recursion_from_A
 use Rattle.std.proofs.lemmas.List.Sorted.{All-permutation, IsPermutation-refl, IsPermutation-append, IsPermutation-map}
 use Rattle.serde_json.specs.Data.{Data, Items, no_items, item}
 use Rattle.room_terrain.specs.Names.{IsInRange}
-use Rattle.object_store.specs.declared.object.Object.{Object}
+use Rattle.room_table.specs.declared.object.Object.{Object}
 use Rattle.object_store.specs.declared.world.Room.{Room}
-use Rattle.object_store.specs.Tables.{IsOnTile}
+use Rattle.room_table.specs.Tables.{IsOnTile}
 use Rattle.game_tables.specs.Limits.{most_bucket, most_points, most_memory}
 use Rattle.world_rules.specs.World.{Frame, Placed, ListedRoom, listed_room, placed_from}
 use Rattle.world_form.specs.declared.field.Field.{Field}

@@ -2,7 +2,7 @@
 use Rattle.std.proofs.Common.{◌≡◌, List, ℕ, codes, refl, ap₂, ◌∙◌}
 use Rattle.serde_json.specs.Data.{Data, Members, no_members, object, put, string}
 use Rattle.game_tables.specs.Texts.{kind_text, part_text}
-use Rattle.object_store.specs.declared.object.Object.{Object}
+use Rattle.room_table.specs.declared.object.Object.{Object}
 use Rattle.world_form.specs.Written.{list_data, object_data, whole_data}
 
 -- one member more

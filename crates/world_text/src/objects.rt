@@ -1,7 +1,7 @@
 // The objects of a world file.
 ghost use Rattle.std.specs.Prelude.{◌≡◌, ◌≢◌, ◌≤◌, ◌<◌, List, [], IfOk, IfErr};
 ghost use Rattle.serde_json.specs.View.{view, items_view};
-ghost use Rattle.object_store.specs.declared.object.Object.{Object};
+ghost use Rattle.room_table.specs.declared.object.Object.{Object};
 ghost use Rattle.world_form.specs.Facts.{Requires, Defaults, IsKindText, IsBodyList, IsListOf, SayEach};
 ghost use Rattle.world_form.specs.Facts.{SaysObject};
 ghost use Rattle.world_form.specs.FirstFaults.{IsFirst, required, optional, each_from, object_checks};

@@ -1,7 +1,7 @@
 -- What comes of some checks that are made in their order. For private clauses.
 use Rattle.std.specs.Prelude.{◌≡◌, ℕ, true, false, List, Result, Ok, Err}
 use Rattle.game_tables.specs.declared.code.Code.{Code}
-use Rattle.object_store.specs.declared.object.Object.{Object}
+use Rattle.room_table.specs.declared.object.Object.{Object}
 use Rattle.world_rules.specs.World.{Placed}
 use Rattle.world_rules.specs.Checks.{Check, all_hold, first_failing}
 

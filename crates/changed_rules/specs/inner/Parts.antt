@@ -1,7 +1,7 @@
 -- Steps of a census. For private clauses.
 use Rattle.std.specs.Prelude.{◌≡◌, ℕ, ◌+◌, ◌-◌, ◌<◌, ◌≤◌, ◌⊎◌, cond, List, Option, Some, None}
 use Rattle.game_tables.specs.Kinds.{is_site}
-use Rattle.object_store.specs.declared.object.Object.{Object}
+use Rattle.room_table.specs.declared.object.Object.{Object}
 use Rattle.object_store.specs.declared.world.Room.{Room}
 use Rattle.object_store.specs.Stored.{Stored}
 use Rattle.changed_rules.specs.declared.census.Census.{Census}

@@ -1,6 +1,6 @@
 -- What a mass attack does to the objects of a table. For private clauses.
 use Rattle.std.specs.Prelude.{ℕ, ◌==◌, Bool, if◌then◌else◌}
-use Rattle.object_store.specs.declared.object.Object.{Object}
+use Rattle.room_table.specs.declared.object.Object.{Object}
 use Rattle.world_rules.specs.Fights.{is_struck, mass_strength, range_between, shot_strength}
 
 -- what a mass attack of a creep does to an object

@@ -7,8 +7,8 @@ use Rattle.game_tables.specs.Numbers.{kind_number}
 use Rattle.game_tables.specs.declared.kind.Kind.TheVariants.{Road}
 use Rattle.room_terrain.specs.Tiles.{tile}
 use Rattle.room_terrain.specs.declared.terrain.Ground.{Ground}
-use Rattle.object_store.specs.declared.object.Object.{Object}
-use Rattle.object_store.specs.Tables.{find_object, first_on}
+use Rattle.room_table.specs.declared.object.Object.{Object}
+use Rattle.room_table.specs.Tables.{find_object, first_on}
 use Rattle.world_rules.specs.Moves.{pace, weight}
 use Rattle.creep_move.specs.inner.Decided.{IsGoing}
 

@@ -3,7 +3,7 @@ use Rattle.std.specs.Prelude.{◌≡◌, ◌<◌, ℕ, Bool, false, true, List, 
 use Rattle.std.specs.List.{Contains}
 use Rattle.game_tables.specs.Kinds.{is_creep}
 use Rattle.room_terrain.specs.Tiles.{tile}
-use Rattle.object_store.specs.declared.object.Object.{Object}
+use Rattle.room_table.specs.declared.object.Object.{Object}
 
 -- A creep stands on the tile.
 abbrev pub IsStoodOn : List Object → ℕ → Type 0

@@ -4,9 +4,9 @@ use Rattle.game_tables.specs.declared.kind.Kind.TheVariants.{Creep}
 use Rattle.room_terrain.specs.Geometry.{Mirrors}
 use Rattle.room_terrain.specs.Tiles.{tile}
 use Rattle.room_terrain.specs.declared.name.RoomName.{RoomName}
-use Rattle.object_store.specs.declared.object.Object.{Object}
+use Rattle.room_table.specs.declared.object.Object.{Object}
 use Rattle.object_store.specs.declared.world.Room.{Room}
-use Rattle.object_store.specs.Tables.{find_object, first_on}
+use Rattle.room_table.specs.Tables.{find_object, first_on}
 use Rattle.object_store.specs.Stored.{Stored, IsRoomNamed}
 use Rattle.world_rules.specs.Moves.{is_open_ground}
 use Rattle.room_rules.specs.Crossed.{left_by, entered_by}

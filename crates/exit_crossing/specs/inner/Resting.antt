@@ -1,6 +1,6 @@
 -- Objects of which some have moved no more.
 use Rattle.std.specs.Prelude.{ℕ, zero, suc, List, [], ◌∷◌}
-use Rattle.object_store.specs.declared.object.Object.{Object}
+use Rattle.room_table.specs.declared.object.Object.{Object}
 use Rattle.world_rules.specs.Crossings.{still}
 
 -- the objects with the one at a place made one that has not moved

@@ -1,7 +1,7 @@
 use Rattle.std.proofs.Common.{◌≤◌, ℕ, List, length, sym, subst, arith}
 use Rattle.std.proofs.lemmas.Result.{err_from_is_err_and}
-use Rattle.wasm_module.specs.sections.Sections.{Spells, module_view}
-use Rattle.wasm_module.specs.sections.Limits.{WithinBytes}
+use Rattle.wasm_module.specs.Sections.{Spells, module_view}
+use Rattle.wasm_module.specs.Limits.{WithinBytes}
 use Rattle.module_round_trip.proofs.written_and_read.Goals as goal
 
 pub returns-clause-same : goal.returns-clause-same

@@ -6,8 +6,8 @@ use Rattle.std.specs.List.{AllByRecursion}
 use Rattle.std.specs.List.Sorted.{IsPartitionPoint}
 use Rattle.room_terrain.specs.declared.name.RoomName.{RoomName}
 use Rattle.object_store.specs.declared.world.Room.{Room}
-use Rattle.object_store.specs.inner.Ordered.{Rises}
-use Rattle.object_store.specs.inner.Placed.{Among}
+use Rattle.room_table.specs.inner.Ordered.{Rises}
+use Rattle.room_table.specs.inner.Placed.{Among}
 
 -- each name has a number of its own
 abbrev pub name_number : RoomName → ℕ

@@ -1,7 +1,7 @@
 -- What one room and one account add to a record.
 use Rattle.std.specs.Prelude.{◌≡◌, ◌⊎◌, List, [], ◌∷◌, ◌++◌}
 use Rattle.object_store.specs.declared.account.Account.{Account}
-use Rattle.object_store.specs.Tables.{Table}
+use Rattle.room_table.specs.Tables.{Table}
 use Rattle.recorded_tick.specs.Recording.{AreAlike}
 
 -- Where the tables are not alike, one that is like the second stands behind those before.

@@ -1,9 +1,9 @@
 -- The damage that is done to the objects of a table. For private clauses.
 use Rattle.std.specs.Prelude.{◌≡◌, ℕ, ◌==◌, if◌then◌else◌, Some}
-use Rattle.object_store.specs.declared.object.Object.{Object}
-use Rattle.object_store.specs.declared.tally.Tally.{Tally}
-use Rattle.object_store.specs.Tables.{Table, find_object}
-use Rattle.object_store.specs.Tallies.{sum_with, tally_of}
+use Rattle.room_table.specs.declared.object.Object.{Object}
+use Rattle.room_table.specs.declared.tally.Tally.{Tally}
+use Rattle.room_table.specs.Tables.{Table, find_object}
+use Rattle.room_table.specs.Tallies.{sum_with, tally_of}
 
 -- a tally with so much damage more
 abbrev pub with_damage : ℕ → Tally → Tally

@@ -6,7 +6,7 @@ use Rattle.intent_book.specs.declared.intent.Intent.{Intent}
 use Rattle.intent_book.specs.declared.player_run.PlayerRun.{PlayerRun}
 use Rattle.object_store.specs.declared.account.Account.{Account}
 use Rattle.object_store.specs.declared.world.Room.{Room}
-use Rattle.object_store.specs.Tables.{IsOnTile, IsRising}
+use Rattle.room_table.specs.Tables.{IsOnTile, IsRising}
 use Rattle.world_rules.specs.RoomTick.{room_tick}
 use Rattle.world_rules.specs.Tick.{account_after, book, run_of, total_for}
 use Rattle.room_rules.specs.Followed.{part_stored}

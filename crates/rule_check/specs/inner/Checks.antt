@@ -7,7 +7,7 @@ use Rattle.game_tables.specs.Kinds.{is_site_kind, build_total, is_controller, is
 use Rattle.game_tables.specs.Limits.{most_rooms, most_objects, most_players}
 use Rattle.game_tables.specs.Numbers.{kind_number}
 use Rattle.room_terrain.specs.declared.name.RoomName.{RoomName}
-use Rattle.object_store.specs.declared.object.Object.{Object}
+use Rattle.room_table.specs.declared.object.Object.{Object}
 use Rattle.object_store.specs.declared.account.Account.{Account}
 use Rattle.world_rules.specs.Rules.{IsFrom1To, IsProgress, Broken, rule_place}
 use Rattle.world_rules.specs.World.{Listing}

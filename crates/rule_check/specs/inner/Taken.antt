@@ -4,7 +4,7 @@ use Rattle.std.specs.List.{list_any}
 use Rattle.game_tables.specs.declared.kind.Kind.{Kind}
 use Rattle.game_tables.specs.Kinds.{obstructs, is_creep, is_pile, stands_fixed}
 use Rattle.room_terrain.specs.Tiles.{tile}
-use Rattle.object_store.specs.declared.object.Object.{Object}
+use Rattle.room_table.specs.declared.object.Object.{Object}
 use Rattle.rule_check.specs.declared.shared.Taken.{Taken}
 
 abbrev pub nothing : Taken

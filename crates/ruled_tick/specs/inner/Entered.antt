@@ -7,8 +7,8 @@ use Rattle.std.specs.Option.{option_to_list}
 use Rattle.room_terrain.specs.declared.terrain.Ground.{Ground}
 use Rattle.object_store.specs.declared.account.Account.{Account}
 use Rattle.object_store.specs.declared.world.Room.{Room}
-use Rattle.object_store.specs.Tables.{Table, IsRising, AreTalliesOf}
-use Rattle.object_store.specs.Tallies.{no_tallies}
+use Rattle.room_table.specs.Tables.{Table, IsRising, AreTalliesOf}
+use Rattle.room_table.specs.Tallies.{no_tallies}
 use Rattle.object_store.specs.Stored.{Stored}
 use Rattle.intent_book.specs.declared.intent.Intent.{Intent}
 use Rattle.kept_entries.specs.declared.entries.Entry.{Entry}

@@ -7,7 +7,7 @@ use Rattle.game_tables.specs.declared.action.Action.TheVariants.{Move}
 use Rattle.room_terrain.specs.declared.terrain.Ground.{Ground}
 use Rattle.object_store.specs.declared.account.Account.{Account}
 use Rattle.object_store.specs.declared.world.Room.{Room}
-use Rattle.object_store.specs.Tables.{Table, IsRising, IsOnTile, HasNoId}
+use Rattle.room_table.specs.Tables.{Table, IsRising, IsOnTile, HasNoId}
 use Rattle.object_store.specs.Stored.{Stored}
 use Rattle.intent_book.specs.declared.intent.Intent.{Intent}
 use Rattle.kept_entries.specs.declared.entries.Entry.{Entry}

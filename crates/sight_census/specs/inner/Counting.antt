@@ -1,7 +1,7 @@
 -- The course of the counting, room by room and object by object.
 use Rattle.std.specs.Prelude.{◌≡◌, ℕ, ◌+◌, ◌-◌, ◌^◌, ◌==◌, min, if◌then◌else◌}
 use Rattle.std.specs.Prelude.{List, length, slice_get, Option, Some}
-use Rattle.object_store.specs.declared.object.Object.{Object}
+use Rattle.room_table.specs.declared.object.Object.{Object}
 use Rattle.world_rules.specs.Sites.{count_of}
 use Rattle.world_rules.specs.Spawns.{held_by}
 use Rattle.sight_census.specs.declared.told.Told.{Told}

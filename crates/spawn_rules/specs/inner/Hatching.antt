@@ -4,8 +4,8 @@ use Rattle.std.specs.Prelude.{if◌then◌else◌, Option, Some, None, option_an
 use Rattle.std.specs.List.{AllByRecursion, filter}
 use Rattle.room_terrain.specs.declared.direction.Direction.{Direction}
 use Rattle.room_terrain.specs.declared.terrain.Ground.{Ground}
-use Rattle.object_store.specs.declared.object.Object.{Object}
-use Rattle.object_store.specs.Tables.{Table}
+use Rattle.room_table.specs.declared.object.Object.{Object}
+use Rattle.room_table.specs.Tables.{Table}
 use Rattle.world_rules.specs.RoomParts.{RoomPart, table_part}
 use Rattle.world_rules.specs.Moves.{tile_towards}
 use Rattle.world_rules.specs.Spawns.{hatched, hatched_as, is_free_for_creep}

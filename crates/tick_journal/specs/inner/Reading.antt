@@ -4,7 +4,7 @@ use Rattle.std.specs.List.{AllByRecursion}
 use Rattle.byteorder.specs.Endian.{little_bytes}
 use Rattle.game_tables.specs.Actions.{action_number}
 use Rattle.intent_book.specs.declared.intent.Intent.{Intent}
-use Rattle.object_store.specs.Tables.{Table, without_spare}
+use Rattle.room_table.specs.Tables.{Table, without_spare}
 use Rattle.world_bytes.specs.Forms.{HasIntentForm, HasRoomForm}
 use Rattle.tick_journal.specs.TickForms.{HasRunForm, HasTickForm, HasUploadForm, IsRisingBy, tick_as_read}
 use Rattle.tick_journal.specs.TickForms.{most_kept}

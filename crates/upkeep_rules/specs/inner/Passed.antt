@@ -1,9 +1,9 @@
 -- What a step leaves in which each object changes by itself, or goes.
 use Rattle.std.specs.Prelude.{◌≡◌, ℕ, List, ◌++◌, length, filter_map, Option, Some, None}
 use Rattle.std.specs.List.{AllByRecursion}
-use Rattle.object_store.specs.declared.object.Object.{Object}
-use Rattle.object_store.specs.Tables.{Table, IsOnTile}
-use Rattle.object_store.specs.Tallies.{Tallies}
+use Rattle.room_table.specs.declared.object.Object.{Object}
+use Rattle.room_table.specs.Tables.{Table, IsOnTile}
+use Rattle.room_table.specs.Tallies.{Tallies}
 use Rattle.world_rules.specs.Claims.{controller_aged_as}
 use Rattle.world_rules.specs.Upkeep.{recovered_as, renewed_as, decayed_as}
 use Rattle.upkeep_rules.specs.declared.pass.Step.{Step}

@@ -6,10 +6,10 @@ use Rattle.game_tables.specs.Bodies.{load_room}
 use Rattle.game_tables.specs.Kinds.{is_building, is_creep}
 use Rattle.game_tables.specs.declared.kind.Kind.{Kind}
 use Rattle.room_terrain.specs.declared.terrain.Ground.{Ground}
-use Rattle.object_store.specs.declared.object.Object.{Object}
-use Rattle.object_store.specs.declared.tally.Tally.{Tally}
-use Rattle.object_store.specs.Tables.{Table}
-use Rattle.object_store.specs.Tallies.{tally_of}
+use Rattle.room_table.specs.declared.object.Object.{Object}
+use Rattle.room_table.specs.declared.tally.Tally.{Tally}
+use Rattle.room_table.specs.Tables.{Table}
+use Rattle.room_table.specs.Tallies.{tally_of}
 use Rattle.world_rules.specs.RoomParts.{RoomPart, table_part}
 use Rattle.world_rules.specs.RuleBook.{Sums}
 use Rattle.world_rules.specs.Changes.{with_object, without}

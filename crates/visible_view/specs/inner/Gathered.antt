@@ -4,15 +4,15 @@ use Rattle.std.specs.Prelude.{[], ◌∷◌, ◌++◌, length, map, slice_get, s
 use Rattle.std.specs.Prelude.{option_map, option_and_then}
 use Rattle.std.specs.List.{AllByRecursion, count_by, filter, find, list_any, sum_by}
 use Rattle.std.specs.Option.{unwrap_or}
-use Rattle.object_store.specs.declared.object.Object.{Object}
-use Rattle.object_store.specs.declared.standing.Standing.{Standing}
+use Rattle.room_table.specs.declared.object.Object.{Object}
+use Rattle.room_table.specs.declared.standing.Standing.{Standing}
 use Rattle.object_store.specs.declared.world.Room.{Room}
 use Rattle.game_tables.specs.Kinds.{is_controller, is_site}
 use Rattle.world_rules.specs.World.{Placed}
 use Rattle.visible_view.specs.Sights.{SeenRoom, gives_sight}
 use Rattle.visible_view.specs.declared.gather.RoomInView.{RoomInView}
 use Rattle.visible_view.specs.declared.gather.Gathered.{Gathered}
-use Rattle.object_store.proofs.Rising.{Rises}
+use Rattle.room_table.proofs.Rising.{Rises}
 
 -- ---- what is kept of a room
 

@@ -4,8 +4,8 @@ use Rattle.std.specs.Prelude.{slice_get, option_map}
 use Rattle.std.specs.List.{AllByRecursion, count_by, filter_map}
 use Rattle.std.specs.Option.{unwrap_or}
 use Rattle.std.specs.FinMap.{entries}
-use Rattle.object_store.specs.declared.standing.Standing.{Standing}
-use Rattle.object_store.proofs.Rising.{Rises}
+use Rattle.room_table.specs.declared.standing.Standing.{Standing}
+use Rattle.room_table.proofs.Rising.{Rises}
 use Rattle.world_rules.specs.World.{Objects, Placed}
 use Rattle.visible_view.specs.declared.gather.RoomInView.{RoomInView}
 use Rattle.visible_view.specs.declared.listed.Listed.{Listed}

@@ -1,17 +1,17 @@
 -- The bytes of a module in parts: one for each section that may stand there.
 use Rattle.std.specs.Prelude.{ℕ, List, [], ◌∷◌, ◌++◌, Option, None}
-use Rattle.wasm_module.specs.values.Spelling.{SpellsU32, SpellsList, SpellsSized}
-use Rattle.wasm_module.specs.values.Syntax.{Ops, no_ops}
-use Rattle.wasm_module.specs.values.Values.{SpellsFuncType, SpellsImport, SpellsTableType, SpellsBounds}
-use Rattle.wasm_module.specs.values.Values.{SpellsExport}
-use Rattle.wasm_module.specs.values.Instructions.{SpellsOps, SpellsExpression}
-use Rattle.wasm_module.specs.sections.Entries.{Global, SpellsGlobal, Elements, SpellsElement, Function}
-use Rattle.wasm_module.specs.sections.Entries.{SpellsCode, Data, SpellsSegment}
-use Rattle.wasm_module.specs.sections.Sections.{SpellsStart}
-use Rattle.wasm_module.specs.declared.values.types.FuncType.{FuncType}
-use Rattle.wasm_module.specs.declared.values.types.Bounds.{Bounds}
-use Rattle.wasm_module.specs.declared.sections.imports.Import.{Import}
-use Rattle.wasm_module.specs.declared.sections.exports.Export.{Export}
+use Rattle.wasm_values.specs.Spelling.{SpellsU32, SpellsList, SpellsSized}
+use Rattle.wasm_values.specs.Syntax.{Ops, no_ops}
+use Rattle.wasm_values.specs.Values.{SpellsFuncType, SpellsImport, SpellsTableType, SpellsBounds}
+use Rattle.wasm_values.specs.Values.{SpellsExport}
+use Rattle.wasm_values.specs.Instructions.{SpellsOps, SpellsExpression}
+use Rattle.wasm_module.specs.Entries.{Global, SpellsGlobal, Elements, SpellsElement, Function}
+use Rattle.wasm_module.specs.Entries.{SpellsCode, Data, SpellsSegment}
+use Rattle.wasm_module.specs.Sections.{SpellsStart}
+use Rattle.wasm_values.specs.declared.types.FuncType.{FuncType}
+use Rattle.wasm_values.specs.declared.types.Bounds.{Bounds}
+use Rattle.wasm_values.specs.declared.imports.Import.{Import}
+use Rattle.wasm_values.specs.declared.exports.Export.{Export}
 
 -- The two parts of an `if`, of which the second may be left out where it is empty.
 pub data SpellsBranches : List ℕ → Ops × Ops → Type 0 where

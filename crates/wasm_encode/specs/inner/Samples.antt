@@ -1,8 +1,8 @@
 -- The modules of the tests.
 use Rattle.std.specs.Prelude.{List, [], ◌∷◌, None}
-use Rattle.wasm_module.specs.values.Syntax.{Ops}
-use Rattle.wasm_module.specs.sections.Sections.{Syntax}
-use Rattle.wasm_module.specs.declared.sections.exports.Export.{Export}
+use Rattle.wasm_values.specs.Syntax.{Ops}
+use Rattle.wasm_module.specs.Sections.{Syntax}
+use Rattle.wasm_values.specs.declared.exports.Export.{Export}
 
 -- A module that holds nothing.
 abbrev pub nothing : Syntax Ops

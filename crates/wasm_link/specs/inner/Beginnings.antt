@@ -1,8 +1,8 @@
 -- What a linked module keeps of the store that an instance begins with.
 use Rattle.std.specs.Prelude.{◌≡◌, ℕ, List, length, None}
-use Rattle.wasm_module.specs.values.Syntax.{Ops}
-use Rattle.wasm_module.specs.sections.Sections.{Syntax}
-use Rattle.wasm_validate.specs.typing.Context.{module_context}
+use Rattle.wasm_values.specs.Syntax.{Ops}
+use Rattle.wasm_module.specs.Sections.{Syntax}
+use Rattle.wasm_typing.specs.Context.{module_context}
 use Rattle.wasm_soundness.specs.Typed.{IsTypedStore}
 use Rattle.wasm_link.specs.Linking.{first_store, first_memory, table_size}
 use Rattle.wasm_link.specs.Kept.{IsKept}

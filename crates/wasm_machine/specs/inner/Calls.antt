@@ -1,12 +1,12 @@
 -- What calls do to a thread, the memory and the host.
 use Rattle.std.specs.Prelude.{◌≡◌, ◌⊎◌, ℕ, ℤ, ◌+◌, ◌<◌, ◌≤◌, List, ◌++◌, length, map, drop, take, reverse}
 use Rattle.std.specs.Prelude.{zip, Result, MatchResult, IfOk}
-use Rattle.wasm_module.specs.values.Syntax.{Ops}
-use Rattle.wasm_module.specs.declared.values.types.ValType.{ValType}
-use Rattle.wasm_module.specs.declared.values.types.FuncType.{FuncType}
+use Rattle.wasm_values.specs.Syntax.{Ops}
+use Rattle.wasm_values.specs.declared.types.ValType.{ValType}
+use Rattle.wasm_values.specs.declared.types.FuncType.{FuncType}
 use Rattle.wasm_store.specs.Memory.{Memory}
-use Rattle.wasm_validate.specs.typing.Context.{Context}
-use Rattle.wasm_validate.specs.typing.Typing.{types_of}
+use Rattle.wasm_typing.specs.Context.{Context}
+use Rattle.wasm_typing.specs.Typing.{types_of}
 use Rattle.wasm_steps.specs.Program.{Function, Store, most_frames, most_values}
 use Rattle.wasm_steps.specs.Threads.{frame_count, size}
 use Rattle.wasm_steps.specs.Steps.{Meaning, Calls, CallFails, argument, answered}

@@ -1,15 +1,15 @@
 -- How the sections that a reader found are seen, and what it read of them.
 use Rattle.std.specs.Prelude.{ℕ, List, [], Option, None, map}
-use Rattle.wasm_module.specs.values.Spelling.{SpellsU32, SpellsList}
-use Rattle.wasm_module.specs.values.Values.{SpellsFuncType, SpellsImport, SpellsTableType, SpellsBounds}
-use Rattle.wasm_module.specs.values.Values.{SpellsExport}
-use Rattle.wasm_module.specs.sections.Entries.{Global, SpellsGlobal, Elements, SpellsElement}
-use Rattle.wasm_module.specs.sections.Entries.{Function, SpellsCode, Data, SpellsSegment}
-use Rattle.wasm_module.specs.sections.Sections.{Section, Syntax, Holds, SpellsStart, content_of}
-use Rattle.wasm_module.specs.declared.sections.exports.Export.{Export}
-use Rattle.wasm_module.specs.declared.sections.parts.Declared.{Declared}
-use Rattle.wasm_module.specs.declared.sections.parts.Parts.{Parts}
-use Rattle.wasm_module.specs.declared.sections.outline.Section.{Section as Found}
+use Rattle.wasm_values.specs.Spelling.{SpellsU32, SpellsList}
+use Rattle.wasm_values.specs.Values.{SpellsFuncType, SpellsImport, SpellsTableType, SpellsBounds}
+use Rattle.wasm_values.specs.Values.{SpellsExport}
+use Rattle.wasm_module.specs.Entries.{Global, SpellsGlobal, Elements, SpellsElement}
+use Rattle.wasm_module.specs.Entries.{Function, SpellsCode, Data, SpellsSegment}
+use Rattle.wasm_module.specs.Sections.{Section, Syntax, Holds, SpellsStart, content_of}
+use Rattle.wasm_values.specs.declared.exports.Export.{Export}
+use Rattle.wasm_module.specs.declared.parts.Declared.{Declared}
+use Rattle.wasm_module.specs.declared.parts.Parts.{Parts}
+use Rattle.wasm_module.specs.declared.outline.Section.{Section as Found}
 
 abbrev pub section_view : Found → Section
 section_view section = (section.number, section.content.now)

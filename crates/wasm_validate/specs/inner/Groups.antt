@@ -1,13 +1,14 @@
 -- The rules of a valid module in groups, for any context.
 use Rattle.std.specs.Prelude.{◌≡◌, ℕ, ◌<◌, ◌≤◌, List, length, slice_get, Some, All}
-use Rattle.wasm_module.specs.values.Syntax.{Ops}
-use Rattle.wasm_module.specs.sections.Sections.{Syntax}
-use Rattle.wasm_module.specs.sections.Entries.{Function, code_view}
-use Rattle.wasm_module.specs.declared.sections.codes.Code.{Code}
-use Rattle.wasm_module.specs.declared.values.types.GlobalType.{GlobalType}
-use Rattle.wasm_validate.specs.typing.Context.{Context}
-use Rattle.wasm_validate.specs.modules.Modules.{AreOrdered, IsMemoryType, IsGlobal, IsElements, IsData}
-use Rattle.wasm_validate.specs.modules.Modules.{IsStart, IsFunction, Exists}
+use Rattle.wasm_values.specs.Syntax.{Ops}
+use Rattle.wasm_module.specs.Sections.{Syntax}
+use Rattle.wasm_module.specs.Entries.{Function, code_view}
+use Rattle.wasm_module.specs.declared.codes.Code.{Code}
+use Rattle.wasm_values.specs.declared.types.GlobalType.{GlobalType}
+use Rattle.wasm_typing.specs.Context.{Context}
+use Rattle.wasm_validate.specs.Modules.{AreOrdered, IsMemoryType, IsGlobal, IsElements, IsData}
+use Rattle.wasm_typing.specs.Functions.{IsFunction}
+use Rattle.wasm_validate.specs.Modules.{IsStart, Exists}
 
 -- what is declared and imported
 pub record AreDeclared (cx : Context) (m : Syntax Ops) : Type 0 where

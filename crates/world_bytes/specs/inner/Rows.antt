@@ -8,8 +8,8 @@ use Rattle.game_tables.specs.Kinds.{is_in_rules}
 use Rattle.game_tables.specs.Limits.{most_memory}
 use Rattle.game_tables.specs.Numbers.{kind_number, part_number}
 use Rattle.game_tables.specs.declared.kind.Part.{Part}
-use Rattle.object_store.specs.declared.object.Object.{Object}
-use Rattle.object_store.specs.Tables.{IsRising}
+use Rattle.room_table.specs.declared.object.Object.{Object}
+use Rattle.room_table.specs.Tables.{IsRising}
 use Rattle.world_bytes.specs.declared.object.Head.{Head}
 use Rattle.world_bytes.specs.declared.object.Counts.{Counts}
 use Rattle.world_bytes.specs.Forms.{HasObjectForm, object_bytes}

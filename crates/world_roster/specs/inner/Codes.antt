@@ -1,8 +1,8 @@
 -- The code of an object with its room.
 use Rattle.std.specs.Prelude.{ℕ, refl}
 use Rattle.std.specs.Coded.{Coded, code_by, coded×, coded_ℕ}
-use Rattle.object_store.specs.contracts.object.Object.{the_row}
-use Rattle.object_store.specs.declared.object.Object.{Object}
+use Rattle.room_table.specs.contracts.object.Object.{the_row}
+use Rattle.room_table.specs.declared.object.Object.{Object}
 use Rattle.world_rules.specs.World.{Placed}
 
 -- as a pair of its parts

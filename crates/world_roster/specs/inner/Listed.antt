@@ -1,8 +1,8 @@
 -- The entries of objects in the world, room by room, and what is found among them.
 use Rattle.std.specs.Prelude.{ℕ, ◌==◌, List, Option, map, option_map}
 use Rattle.std.specs.List.{find}
-use Rattle.object_store.specs.declared.object.Object.{Object}
-use Rattle.object_store.specs.declared.standing.Standing.{Standing}
+use Rattle.room_table.specs.declared.object.Object.{Object}
+use Rattle.room_table.specs.declared.standing.Standing.{Standing}
 use Rattle.object_store.specs.declared.world.Room.{Room}
 use Rattle.world_rules.specs.World.{Placed, placed_from, listed_room, shown}
 use Rattle.world_roster.specs.Rosters.{id_in}

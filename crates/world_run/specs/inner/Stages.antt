@@ -6,8 +6,6 @@ use Rattle.upload_stream.specs.Streams.{Upload}
 use Rattle.hosted_tick.specs.Hosting.{Held}
 use Rattle.world_form.specs.declared.fault.WorldFault.{WorldFault}
 use Rattle.world_form.specs.declared.fault.WorldFault.TheVariants as faults
-use Rattle.world_journal.specs.declared.fault.AtFault.{AtFault}
-use Rattle.world_journal.specs.declared.fault.AtFault.TheVariants as at_faults
 use Rattle.world_run.specs.Runs.{AppendsPart}
 use Rattle.object_store.specs.Stored.{Stored}
 use Rattle.tick_journal.specs.declared.tick_record.TickRecord.{TickRecord}
@@ -147,11 +145,3 @@ abbrev pub Continues : Kept → Option (List ℕ) → List Moment → Option (Li
 Continues first seen moments seen_after steps = (base : Stored) (entries : List TickRecord)
     → IsKeptAt base entries first seen moments
     → IfSome seen_after (IsWholeJournal base (entries ++ recorded_of steps))
-
--- the status where the journal answers no world
-abbrev pub status_of_at : AtFault → Status
-status_of_at at_faults.NoJournal = statuses.NoJournal
-status_of_at (at_faults.NoSuchTick first last) = statuses.NoSuchTick first last
-status_of_at at_faults.DiskFault = statuses.DiskFault
-status_of_at (at_faults.NotAJournal at) = statuses.NotAJournal at
-status_of_at at_faults.Memory = statuses.Memory

@@ -4,7 +4,7 @@ use Rattle.std.specs.List.{AllByRecursion}
 use Rattle.std.specs.List.Sorted.{IsPermutation, IsNonDecreasingBy}
 use Rattle.serde_json.specs.Data.{Data}
 use Rattle.object_store.specs.declared.world.Room.{Room}
-use Rattle.object_store.specs.Tables.{IsOnTile, IsRising}
+use Rattle.room_table.specs.Tables.{IsOnTile, IsRising}
 use Rattle.world_rules.specs.World.{ListedRoom, Listing}
 use Rattle.world_rules.specs.Rules.{IsFirstBroken}
 use Rattle.world_form.specs.declared.fault.WorldFault.{WorldFault}

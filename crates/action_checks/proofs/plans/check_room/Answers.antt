@@ -3,8 +3,8 @@ use Rattle.std.specs.Option.{is_some}
 use Rattle.std.proofs.lemmas.Result.{err_from_is_err_and}
 use Rattle.game_tables.specs.declared.code.Code.TheVariants.{InvalidArgs, NotOwner, RoomLevelNotEnough}
 use Rattle.game_tables.specs.Kinds.{needs_owned_room}
-use Rattle.object_store.specs.Controllers.{controller_among, is_anothers}
-use Rattle.object_store.specs.declared.object.Object.{Object}
+use Rattle.room_table.specs.Controllers.{controller_among, is_anothers}
+use Rattle.room_table.specs.declared.object.Object.{Object}
 use Rattle.world_rules.specs.Checks.{Check}
 use Rattle.world_rules.specs.Sites.{has_place, is_inner, is_owners, of_kind}
 use Rattle.action_checks.specs.Plans.{plan_view}

@@ -2,8 +2,8 @@ use Rattle.std.proofs.Common.{◌≡◌, ◌&&◌, Bool, true, not, List, slice_
 use Rattle.std.specs.FinMap.{values}
 use Rattle.world_rules.specs.RoomParts.{table_part}
 use Rattle.room_terrain.specs.Tiles.{tile}
-use Rattle.object_store.specs.declared.object.Object.{Object}
-use Rattle.object_store.specs.Tables.{is_obstructed}
+use Rattle.room_table.specs.declared.object.Object.{Object}
+use Rattle.room_table.specs.Tables.{is_obstructed}
 use Rattle.world_rules.specs.Moves.{is_open_ground}
 use Rattle.world_rules.proofs.TableParts.{part_values}
 use Rattle.action_checks.proofs.tiles.is_open.Goals as goal

@@ -3,7 +3,7 @@ use Rattle.std.specs.List.{IsDistinct}
 use Rattle.std.specs.BTreeSet.{contains}
 use Rattle.std.specs.Ordering.{nat_cmp}
 use Rattle.std.specs.Cmp.{unsigned_tied}
-use Rattle.object_store.specs.Tables.{Table}
+use Rattle.room_table.specs.Tables.{Table}
 use Rattle.changed_rules.specs.Census.{indices}
 use Rattle.changed_rules.proofs.Lists.{AreNoted, mapped_more, note_new, note_old}
 use Rattle.changed_rules.proofs.places.places_of.Goals as goal

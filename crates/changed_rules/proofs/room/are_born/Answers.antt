@@ -1,4 +1,4 @@
-use Rattle.object_store.specs.declared.object.Object.{Object}
+use Rattle.room_table.specs.declared.object.Object.{Object}
 use Rattle.changed_rules.specs.Census.{IsUnborn}
 use Rattle.changed_rules.proofs.Lists.{rest_of, with_rest}
 use Rattle.changed_rules.proofs.room.are_born.Goals as goal

@@ -1,7 +1,7 @@
-use Rattle.object_store.proofs.Rising.{non_decreasing}
+use Rattle.room_table.proofs.Rising.{non_decreasing}
 use Rattle.std.proofs.Common.{sym, subst}
 use Rattle.std.specs.List.{AllByRecursion}
-use Rattle.object_store.specs.Tables.{IsOnTile, IsRising}
+use Rattle.room_table.specs.Tables.{IsOnTile, IsRising}
 use Rattle.changed_rules.proofs.room.keeps_in.Goals as goal
 
 pub keeps_room_rules-requires : goal.keeps_room_rules-requires

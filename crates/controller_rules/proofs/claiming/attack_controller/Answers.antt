@@ -1,7 +1,7 @@
 use Rattle.std.proofs.Common.{sym, ap, subst, ◌∙◌}
 use Rattle.game_tables.specs.declared.action.Action.TheVariants.{AttackController}
-use Rattle.object_store.specs.declared.object.Object.{Object}
-use Rattle.object_store.specs.Tables.{HasId, IsOnTile}
+use Rattle.room_table.specs.declared.object.Object.{Object}
+use Rattle.room_table.specs.Tables.{HasId, IsOnTile}
 use Rattle.room_rules.proofs.Calls.{set_in}
 use Rattle.world_rules.specs.Claims.{controller_hurt, hurt_by}
 use Rattle.room_rules.proofs.Parties.{are_there, ruled_by}

@@ -1,6 +1,6 @@
 use Rattle.std.proofs.Common.{ap, ◌∙◌}
 use Rattle.game_tables.specs.declared.action.Action.TheVariants.{Reserve}
-use Rattle.object_store.specs.declared.object.Object.{Object}
+use Rattle.room_table.specs.declared.object.Object.{Object}
 use Rattle.world_rules.specs.RoomParts.{table_part}
 use Rattle.world_rules.specs.Changes.{with_object as with_in_part}
 use Rattle.world_rules.specs.Claims.{reserved_by}

@@ -1,7 +1,7 @@
 use Rattle.std.proofs.Common.{◌≡◌, ◌∷◌, [], Bool, if◌then◌else◌, Some, None, sym, ap, subst, ◌∙◌}
 use Rattle.game_tables.specs.declared.action.Action.TheVariants.{Attack}
-use Rattle.object_store.specs.Tables.{Table, find_object}
-use Rattle.object_store.specs.Tallies.{damaged}
+use Rattle.room_table.specs.Tables.{Table, find_object}
+use Rattle.room_table.specs.Tallies.{damaged}
 use Rattle.world_rules.specs.RuleBook.{Harm}
 use Rattle.world_rules.specs.Fights.{attacked_by, strength, struck_back}
 use Rattle.world_rules.proofs.TableParts.{has_the_id}

@@ -1,7 +1,7 @@
 use Rattle.std.proofs.Common.{◌*◌, ℕ, Some, None, sym, ap, subst, ◌∙◌}
 use Rattle.game_tables.specs.declared.action.Action.TheVariants.{RangedAttack}
-use Rattle.object_store.specs.Tables.{Table}
-use Rattle.object_store.specs.Tallies.{damaged}
+use Rattle.room_table.specs.Tables.{Table}
+use Rattle.room_table.specs.Tallies.{damaged}
 use Rattle.world_rules.specs.RuleBook.{Harm}
 use Rattle.world_rules.specs.Fights.{blow, shot_by}
 use Rattle.world_rules.proofs.TableParts.{has_the_id}

@@ -1,7 +1,7 @@
 use Rattle.std.proofs.Common.{◌==◌, refl, sym, ap, subst, ◌∙◌}
 use Rattle.game_tables.specs.declared.action.Action.TheVariants.{Suicide}
-use Rattle.object_store.specs.declared.object.Object.{Object}
-use Rattle.object_store.specs.Tables.{IsOnTile}
+use Rattle.room_table.specs.declared.object.Object.{Object}
+use Rattle.room_table.specs.Tables.{IsOnTile}
 use Rattle.world_rules.specs.Fights.{without_hits}
 use Rattle.world_rules.specs.RoomParts.{table_part}
 use Rattle.world_rules.specs.Steps.{by_object}

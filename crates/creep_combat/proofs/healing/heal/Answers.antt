@@ -1,7 +1,7 @@
 use Rattle.std.proofs.Common.{Some, None, sym, subst, ◌∙◌}
 use Rattle.game_tables.specs.declared.action.Action.TheVariants.{Heal}
-use Rattle.object_store.specs.Tables.{Table}
-use Rattle.object_store.specs.Tallies.{healed}
+use Rattle.room_table.specs.Tables.{Table}
+use Rattle.room_table.specs.Tallies.{healed}
 use Rattle.world_rules.specs.RuleBook.{Harm}
 use Rattle.world_rules.specs.Fights.{cure, healed_by}
 use Rattle.world_rules.proofs.TableParts.{has_the_id}

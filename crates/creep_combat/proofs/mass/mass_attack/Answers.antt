@@ -1,7 +1,7 @@
 use Rattle.std.proofs.Common.{◌==◌, map, sym, subst}
 use Rattle.std.specs.List.{filter}
 use Rattle.game_tables.specs.declared.action.Action.TheVariants.{RangedMassAttack}
-use Rattle.object_store.specs.Tables.{IsOnTile}
+use Rattle.room_table.specs.Tables.{IsOnTile}
 use Rattle.world_rules.specs.Fights.{all_struck_by, is_struck, mass_blow}
 use Rattle.world_rules.specs.RuleBook.{Harm}
 use Rattle.world_rules.proofs.TableParts.{all_found, part_values}

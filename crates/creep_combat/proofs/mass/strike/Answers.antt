@@ -1,6 +1,6 @@
 use Rattle.std.proofs.Common.{◌≡◌, ◌+◌, ◌==◌, true, false, if◌then◌else◌, refl, sym, subst, arith}
-use Rattle.object_store.specs.Tables.{Table}
-use Rattle.object_store.specs.Tallies.{damaged}
+use Rattle.room_table.specs.Tables.{Table}
+use Rattle.room_table.specs.Tallies.{damaged}
 use Rattle.room_rules.specs.inner.Damage.{IsDamaged, to_one}
 use Rattle.room_rules.proofs.Harmed.{damaged_more, damaged_same, is_undamaged, with_tallies}
 use Rattle.creep_combat.proofs.mass.strike.Goals as goal

@@ -1,5 +1,5 @@
 use Rattle.std.proofs.Common.{◌+◌, ◌==◌, ◌&&◌, nat_lt}
-use Rattle.object_store.specs.Tables.{IsOnTile, is_on}
+use Rattle.room_table.specs.Tables.{IsOnTile, is_on}
 use Rattle.world_rules.proofs.TableParts.{all_found}
 use Rattle.creep_combat.specs.inner.Damage.{damage_where, is_in_row, mass_damage}
 use Rattle.room_rules.proofs.Harmed.{damaged_both, damaged_same}

@@ -1,5 +1,5 @@
 use Rattle.std.proofs.Common.{nat_lt, ◌&&◌, ◌-◌, ◌^◌}
-use Rattle.object_store.specs.Tables.{is_on}
+use Rattle.room_table.specs.Tables.{is_on}
 use Rattle.room_rules.specs.inner.Damage.{IsDamaged}
 use Rattle.creep_combat.specs.inner.Damage.{damage_where}
 use Rattle.creep_combat.proofs.mass.strike_tile.Given as goal

@@ -1,6 +1,6 @@
 use Rattle.std.proofs.Common.{◌-◌, sym, ap, ◌∙◌, Option}
-use Rattle.object_store.specs.declared.object.Object.{Object}
-use Rattle.object_store.specs.Stores.{free_room}
+use Rattle.room_table.specs.declared.object.Object.{Object}
+use Rattle.room_table.specs.Stores.{free_room}
 use Rattle.world_rules.proofs.TableParts.{part_controller}
 use Rattle.creep_logistics.proofs.amounts.free_in.Goals as goal
 

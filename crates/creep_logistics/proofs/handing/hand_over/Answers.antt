@@ -1,5 +1,5 @@
 use Rattle.std.proofs.Common.{ap, subst, sym, ◌∙◌}
-use Rattle.object_store.specs.Tables.{Table, HasId}
+use Rattle.room_table.specs.Tables.{Table, HasId}
 use Rattle.room_rules.specs.Calls.{Keeps}
 use Rattle.room_rules.proofs.Calls.{set_in}
 use Rattle.world_rules.specs.RoomParts.{table_part}

@@ -1,5 +1,5 @@
 use Rattle.std.proofs.Common.{ℕ, ◌-◌, ◌==◌, sym, ap, subst, ◌∙◌}
-use Rattle.object_store.specs.Tables.{Table, with_object}
+use Rattle.room_table.specs.Tables.{Table, with_object}
 use Rattle.room_rules.specs.Calls.{IsReady}
 use Rattle.room_rules.proofs.Calls.{keeps_after, keeps_itself, ready_set}
 use Rattle.world_rules.specs.RoomParts.{table_part}

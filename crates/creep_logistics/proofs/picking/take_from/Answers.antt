@@ -1,5 +1,5 @@
 use Rattle.std.proofs.Common.{◌==◌, ◌-◌, ap, subst, sym, ◌∙◌}
-use Rattle.object_store.specs.Tables.{Table, HasId, removed}
+use Rattle.room_table.specs.Tables.{Table, HasId, removed}
 use Rattle.room_rules.specs.Calls.{Keeps, KeepsTallies}
 use Rattle.room_rules.proofs.Calls.{keeps_itself, ready_without, tallies_removed}
 use Rattle.world_rules.specs.RoomParts.{table_part}

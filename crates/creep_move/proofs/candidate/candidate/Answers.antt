@@ -1,7 +1,7 @@
 use Rattle.std.proofs.Common.{◌≡◌, ◌==◌, true, Some, None, arith, ap, sym, ◌∙◌}
 use Rattle.std.specs.FinMap.{get}
 use Rattle.game_tables.specs.declared.action.Action.TheVariants.{Move}
-use Rattle.object_store.specs.Tables.{IsOnTile}
+use Rattle.room_table.specs.Tables.{IsOnTile}
 use Rattle.world_rules.specs.RoomParts.{RoomPart, table_part}
 use Rattle.world_rules.specs.Checks.{may_take_effect}
 use Rattle.world_rules.proofs.Checked.{creep_acts}

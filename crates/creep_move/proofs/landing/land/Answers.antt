@@ -4,8 +4,8 @@ use Rattle.std.specs.Option.{is_some}
 use Rattle.game_tables.specs.declared.kind.Part.{Part}
 use Rattle.game_tables.specs.Kinds.{is_creep}
 use Rattle.game_tables.specs.declared.kind.Kind.TheVariants.{Road}
-use Rattle.object_store.specs.declared.object.Object.{Object}
-use Rattle.object_store.specs.Tables.{Table, IsOnTile, IsRising, find_object, first_on, with_object}
+use Rattle.room_table.specs.declared.object.Object.{Object}
+use Rattle.room_table.specs.Tables.{Table, IsOnTile, IsRising, find_object, first_on, with_object}
 use Rattle.world_rules.specs.Moves.{pace, weight}
 use Rattle.world_rules.proofs.TableParts.{has_the_id, tiles_replaced}
 use Rattle.creep_move.specs.inner.Landing.{IsLanded, stepped_to, tired_on, worn_by}

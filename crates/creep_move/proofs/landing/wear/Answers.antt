@@ -1,7 +1,7 @@
 use Rattle.std.proofs.Common.{◌==◌, sym, ap, subst, ◌∙◌}
 use Rattle.std.specs.List.{AllByRecursion}
-use Rattle.object_store.specs.declared.object.Object.{Object}
-use Rattle.object_store.specs.Tables.{Table, IsOnTile, find_object}
+use Rattle.room_table.specs.declared.object.Object.{Object}
+use Rattle.room_table.specs.Tables.{Table, IsOnTile, find_object}
 use Rattle.world_rules.proofs.TableParts.{all_found, has_the_id, tiles_replaced}
 use Rattle.creep_move.proofs.landing.wear.Goals as goal
 

@@ -1,7 +1,7 @@
 use Rattle.std.proofs.Common.{◌+◌, ◌<◌, ◌≤◌, refl, arith, ap, sym, subst, ◌∙◌}
 use Rattle.std.proofs.lemmas.Bool.{true≢false}
 use Rattle.std.specs.List.{AllByRecursion}
-use Rattle.object_store.specs.Tables.{Table, IsOnTile, IsRising}
+use Rattle.room_table.specs.Tables.{Table, IsOnTile, IsRising}
 use Rattle.creep_move.specs.inner.Decided.{IsGoing}
 use Rattle.creep_move.specs.inner.Landing.{AreAfter}
 use Rattle.creep_move.proofs.Landed.{after_land, after_none, after_skip}

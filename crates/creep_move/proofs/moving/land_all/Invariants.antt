@@ -1,6 +1,6 @@
 use Rattle.std.proofs.Common.{◌≡◌}
 use Rattle.std.specs.List.{AllByRecursion}
-use Rattle.object_store.specs.Tables.{IsOnTile}
+use Rattle.room_table.specs.Tables.{IsOnTile}
 use Rattle.creep_move.specs.inner.Landing.{AreAfter}
 use Rattle.creep_move.proofs.moving.land_all.Given as goal
 

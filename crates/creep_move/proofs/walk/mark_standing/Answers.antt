@@ -1,7 +1,7 @@
 use Rattle.std.proofs.Common.{◌≡◌, ◌↔◌, ◌<◌, ◌∙◌, ◌∷◌, [], ◌++◌, map, length-set, length, get_or, set, false, true, arith, sym, subst}
 use Rattle.std.specs.List.{AllByRecursion}
 use Rattle.room_terrain.specs.Tiles.{tile}
-use Rattle.object_store.specs.Tables.{IsOnTile}
+use Rattle.room_table.specs.Tables.{IsOnTile}
 use Rattle.creep_move.specs.inner.Walk.{IsStoodOn}
 use Rattle.creep_move.proofs.Tables.{stood_creep, stood_other, marked_rest, marked_front}
 use Rattle.creep_move.proofs.walk.mark_standing.Goals as goal

@@ -1,6 +1,6 @@
 use Rattle.std.proofs.Common.{◌≡◌, ℕ, ◌↔◌, ◌++◌, map, length, get_or, false, true}
 use Rattle.std.specs.List.{AllByRecursion}
-use Rattle.object_store.specs.Tables.{IsOnTile}
+use Rattle.room_table.specs.Tables.{IsOnTile}
 use Rattle.creep_move.specs.inner.Walk.{IsStoodOn}
 use Rattle.creep_move.proofs.walk.mark_standing.Given as goal
 

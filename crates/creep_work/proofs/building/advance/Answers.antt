@@ -1,7 +1,7 @@
 use Rattle.std.proofs.Common.{ℕ, ◌+◌, ◌-◌, ◌*◌, ◌^◌, ◌<◌, ◌≤◌, ◌==◌, not, [], ◌≡◌, Option, Some, None, refl, sym, ap, subst, ◌∙◌, arith}
-use Rattle.object_store.specs.declared.object.Object.{Object}
-use Rattle.object_store.specs.Tables.{Table, IsOnTile, HasId, HasNoId, find_object, with_new, removed}
-use Rattle.object_store.specs.Tallies.{tally_of}
+use Rattle.room_table.specs.declared.object.Object.{Object}
+use Rattle.room_table.specs.Tables.{Table, IsOnTile, HasId, HasNoId, find_object, with_new, removed}
+use Rattle.room_table.specs.Tallies.{tally_of}
 use Rattle.world_rules.specs.RoomParts.{table_part}
 use Rattle.world_rules.proofs.TableParts.{tiles_filter, tiles_new}
 use Rattle.room_rules.specs.Calls.{Keeps}

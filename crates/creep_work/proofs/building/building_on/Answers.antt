@@ -1,6 +1,6 @@
 use Rattle.std.proofs.Common.{◌≡◌, ℕ, Bool, if◌then◌else◌, sym, ap, ◌∙◌}
 use Rattle.game_tables.specs.Kinds.{full_timer, is_owned}
-use Rattle.object_store.specs.Controllers.{is_owned_room}
+use Rattle.room_table.specs.Controllers.{is_owned_room}
 use Rattle.world_rules.proofs.TableParts.{part_controller}
 use Rattle.creep_work.proofs.building.building_on.Goals as goal
 use Rattle.creep_work.proofs.building.building_on.Goals.{then-is_owned, else-is_owned}

@@ -1,15 +1,15 @@
 use Rattle.std.proofs.Common.{◌≡◌, ℕ, ◌-◌, ◌/◌, min, Some, None, sym, ap, subst, ◌∙◌}
 use Rattle.game_tables.specs.declared.action.Action.TheVariants.{Dismantle}
-use Rattle.object_store.specs.declared.object.Object.{Object}
-use Rattle.object_store.specs.Stores.{free_room}
-use Rattle.object_store.specs.Tables.{Table, HasId}
+use Rattle.room_table.specs.declared.object.Object.{Object}
+use Rattle.room_table.specs.Stores.{free_room}
+use Rattle.room_table.specs.Tables.{Table, HasId}
 use Rattle.world_rules.specs.RoomParts.{RoomPart, controller_of, table_part}
 use Rattle.world_rules.specs.Changes.{with_object as with_in_part}
 use Rattle.world_rules.specs.Drops.{fallen}
 use Rattle.world_rules.specs.Loads.{with_more}
 use Rattle.world_rules.specs.Fights.{blow, dismantled_by, salvage, torn_by}
 use Rattle.world_rules.proofs.TableParts.{part_replaced}
-use Rattle.object_store.specs.Tallies.{damaged, tally_of}
+use Rattle.room_table.specs.Tallies.{damaged, tally_of}
 use Rattle.room_rules.specs.Calls.{IsReady, tally_with}
 use Rattle.room_rules.proofs.Calls.{ready_set, set_in}
 use Rattle.room_rules.proofs.Harmed.{blow_at, harmed_between, unharmed, with_tallies}

@@ -1,8 +1,8 @@
 use Rattle.std.proofs.Common.{◌≡◌, ℕ, ◌-◌, ◌*◌, min, sym, ap, subst, ◌∙◌}
 use Rattle.game_tables.specs.declared.action.Action.TheVariants.{Harvest}
-use Rattle.object_store.specs.declared.object.Object.{Object}
-use Rattle.object_store.specs.Stores.{free_room}
-use Rattle.object_store.specs.Tables.{Table, HasId}
+use Rattle.room_table.specs.declared.object.Object.{Object}
+use Rattle.room_table.specs.Stores.{free_room}
+use Rattle.room_table.specs.Tables.{Table, HasId}
 use Rattle.world_rules.specs.RoomParts.{RoomPart, controller_of, table_part}
 use Rattle.world_rules.specs.Changes.{with_object as with_in_part}
 use Rattle.world_rules.specs.Drops.{fallen}

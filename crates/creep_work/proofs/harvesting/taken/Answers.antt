@@ -1,6 +1,6 @@
 use Rattle.std.proofs.Common.{ℕ, ◌-◌, min, Option, sym, ap, ◌∙◌}
-use Rattle.object_store.specs.declared.object.Object.{Object}
-use Rattle.object_store.specs.Stores.{capacity}
+use Rattle.room_table.specs.declared.object.Object.{Object}
+use Rattle.room_table.specs.Stores.{capacity}
 use Rattle.world_rules.proofs.TableParts.{part_controller}
 use Rattle.creep_work.proofs.harvesting.taken.Goals as goal
 

@@ -1,9 +1,9 @@
 use Rattle.std.proofs.Common.{◌≡◌, ◌∙◌, ◌≤◌, inl, List, Some, ap, sym, subst, slice_get}
 use Rattle.std.proofs.lemmas.Option.{slice_get_within}
-use Rattle.object_store.specs.declared.object.Object.{Object}
+use Rattle.room_table.specs.declared.object.Object.{Object}
 use Rattle.object_store.specs.declared.world.Room.{Room}
 use Rattle.object_store.specs.Stored.{Stored}
-use Rattle.object_store.specs.Tables.{find_object}
+use Rattle.room_table.specs.Tables.{find_object}
 use Rattle.exit_crossing.specs.inner.Landings.{rooms_entered}
 use Rattle.exit_crossing.proofs.Gone.{other_stays, same_other, id_of_creep, absent_there}
 use Rattle.exit_crossing.proofs.crossing.cross_over.Goals as goal

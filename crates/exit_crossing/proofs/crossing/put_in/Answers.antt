@@ -1,6 +1,6 @@
 use Rattle.std.proofs.Common.{◌≡◌, ◌∙◌, ◌-◌, List, Some, ap, sym, option_map}
 use Rattle.object_store.specs.Lending.{with_table}
-use Rattle.object_store.specs.Tables.{Table, with_new}
+use Rattle.room_table.specs.Tables.{Table, with_new}
 use Rattle.object_store.specs.declared.world.Room.{Room}
 use Rattle.exit_crossing.proofs.Rooms.{lent}
 use Rattle.exit_crossing.proofs.crossing.put_in.Goals as goal

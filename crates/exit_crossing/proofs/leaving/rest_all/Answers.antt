@@ -1,7 +1,7 @@
 use Rattle.std.proofs.Common.{◌∙◌, List, length, ap, sym, subst, arith}
 use Rattle.std.specs.List.{AllByRecursion}
-use Rattle.object_store.specs.declared.object.Object.{Object}
-use Rattle.object_store.specs.Tables.{Table, IsOnTile}
+use Rattle.room_table.specs.declared.object.Object.{Object}
+use Rattle.room_table.specs.Tables.{Table, IsOnTile}
 use Rattle.exit_crossing.specs.inner.Resting.{rested_at, rested_to}
 use Rattle.exit_crossing.proofs.Resting.{count_rested, none_rested, one_more, all_rested, tiles_rested}
 use Rattle.exit_crossing.proofs.leaving.rest_all.Goals as goal

@@ -1,5 +1,5 @@
 use Rattle.std.proofs.Common.{◌∙◌, List, ap, sym}
-use Rattle.object_store.specs.declared.object.Object.{Object}
+use Rattle.room_table.specs.declared.object.Object.{Object}
 use Rattle.exit_crossing.proofs.Resting.{already, put_back, has_id, tile_at, resting, no_creep, not_moved}
 use Rattle.exit_crossing.proofs.leaving.rest_one.Goals as goal
 use Rattle.exit_crossing.proofs.leaving.rest_one.Goals.{else-is_creep-via-then-is_creep+else-object-ne0, else-is_creep-via-else-is_creep}

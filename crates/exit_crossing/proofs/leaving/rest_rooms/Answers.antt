@@ -1,7 +1,7 @@
 use Rattle.std.proofs.Common.{◌∙◌, List, set, get_or, ap, sym, subst, arith}
 use Rattle.std.specs.List.{AllByRecursion}
 use Rattle.object_store.specs.declared.world.Room.{Room}
-use Rattle.object_store.specs.Tables.{Table, IsOnTile}
+use Rattle.room_table.specs.Tables.{Table, IsOnTile}
 use Rattle.exit_crossing.specs.Crossing.{rested_room}
 use Rattle.exit_crossing.proofs.Rested.{rooms_to, none_yet, one_room_more, all_rooms, room_tiles}
 use Rattle.exit_crossing.proofs.leaving.rest_rooms.Goals as goal

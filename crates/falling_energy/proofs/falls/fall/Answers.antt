@@ -1,7 +1,7 @@
 use Rattle.std.proofs.Common.{◌≡◌, ℕ, ◌+◌, ◌-◌, ◌^◌, ◌<◌, ◌≤◌, min, refl, sym, ap, subst, ◌∙◌, arith}
-use Rattle.object_store.specs.declared.object.Object.{Object}
-use Rattle.object_store.specs.Tables.{Table, IsOnTile, with_object, with_new}
-use Rattle.object_store.specs.Tallies.{tally_of}
+use Rattle.room_table.specs.declared.object.Object.{Object}
+use Rattle.room_table.specs.Tables.{Table, IsOnTile, with_object, with_new}
+use Rattle.room_table.specs.Tallies.{tally_of}
 use Rattle.world_rules.specs.RoomParts.{table_part}
 use Rattle.world_rules.specs.Drops.{is_pile_on, pile_bound, pile_of}
 use Rattle.world_rules.proofs.TableParts.{found_by_id, found_on_tile, tiles_new, tiles_replaced}

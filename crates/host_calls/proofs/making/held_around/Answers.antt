@@ -1,7 +1,7 @@
 use Rattle.std.proofs.Common.{◌≡◌, List, [], Option, Some, None, option_map, slice_get, sym, ap, ◌∙◌}
 use Rattle.std.specs.Option.{unwrap_or}
-use Rattle.object_store.specs.declared.object.Object.{Object}
-use Rattle.object_store.specs.declared.standing.Standing.{Standing}
+use Rattle.room_table.specs.declared.object.Object.{Object}
+use Rattle.room_table.specs.declared.standing.Standing.{Standing}
 use Rattle.world_rules.specs.World.{shown}
 use Rattle.action_checks.specs.Plans.{held_for}
 use Rattle.sight_census.specs.declared.told.Told.{Told}

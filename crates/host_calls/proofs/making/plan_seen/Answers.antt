@@ -4,10 +4,10 @@ use Rattle.std.specs.Option.{is_some}
 use Rattle.std.proofs.lemmas.Int.{to_z-of_z}
 use Rattle.game_tables.specs.Numbers.{kind_number}
 use Rattle.game_tables.specs.declared.kind.Kind.{Kind}
-use Rattle.object_store.specs.Stores.{site_kinds}
+use Rattle.room_table.specs.Stores.{site_kinds}
 use Rattle.room_terrain.specs.declared.terrain.Terrain.{Terrain}
 use Rattle.object_store.specs.declared.account.Account.{Account}
-use Rattle.object_store.specs.declared.room_table.RoomTable.{RoomTable}
+use Rattle.room_table.specs.declared.room_table.RoomTable.{RoomTable}
 use Rattle.intent_book.specs.Records.{Record}
 use Rattle.game_tables.specs.declared.action.Action.TheVariants.{CreateSite}
 use Rattle.world_rules.specs.Sites.{count_of}

@@ -1,7 +1,7 @@
 use Rattle.std.proofs.Common.{ap, length, sym, Some, ◌∙◌}
 use Rattle.std.specs.Prelude.{option_map}
 use Rattle.std.proofs.lemmas.Option.{slice_get-get_or, slice_get_past}
-use Rattle.wasm_module.specs.declared.host_sig.HostSig.{HostSig}
+use Rattle.wasm_values.specs.declared.host_sig.HostSig.{HostSig}
 use Rattle.host_calls.specs.Calls.{all_calls}
 use Rattle.host_calls.proofs.Arguments.{arguments_at}
 use Rattle.host_calls.proofs.signatures.parameters.Goals as goal

@@ -1,7 +1,7 @@
 use Rattle.std.proofs.Common.{ltb, rules, tests}
 use Rattle.std.proofs.lemmas.List.Sorted.{IsPartitionPoint-from_clause, IsPartitionedBy-ltb}
-use Rattle.object_store.proofs.Keyed.{player_of, rises_from_accounts}
-use Rattle.object_store.proofs.Rising.{non_decreasing, place_from_tests}
+use Rattle.object_store.proofs.Accounts.{player_of, rises_from_accounts}
+use Rattle.room_table.proofs.Rising.{non_decreasing, place_from_tests}
 use Rattle.object_store.proofs.world.account_place.Goals as goal
 
 pub returns-clause-between : goal.returns-clause-between

@@ -2,7 +2,7 @@ use Rattle.std.proofs.Common.{◌≡◌, ◌<◌, ◌≤◌, ◌+◌, ◌-◌, �
 use Rattle.std.proofs.lemmas.Bool.{both_ways, cases_lt}
 use Rattle.std.proofs.lemmas.List.{get_or_default}
 use Rattle.object_store.specs.inner.Naming.{room_names, sort_number}
-use Rattle.object_store.proofs.Rising.{non_decreasing}
+use Rattle.room_table.proofs.Rising.{non_decreasing}
 use Rattle.object_store.proofs.world.name_place.Goals as goal
 
 pub loop-low-preserved-then-comes_before : goal.loop-low-preserved-then-comes_before

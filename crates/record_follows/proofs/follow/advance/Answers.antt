@@ -1,7 +1,7 @@
 use Rattle.std.proofs.Common.{◌≡◌, ◌∙◌, List, [], ◌∷◌, map, ap, sym, subst, refl}
 use Rattle.object_store.specs.declared.account.Account.{Account}
 use Rattle.object_store.specs.Stored.{Stored}
-use Rattle.object_store.specs.Tables.{Table}
+use Rattle.room_table.specs.Tables.{Table}
 use Rattle.changed_rules.specs.Census.{HasLeft, IsChanged, players}
 use Rattle.record_follows.specs.Follows.{account_after}
 use Rattle.record_follows.proofs.Placing.{player_stays}

@@ -2,7 +2,7 @@ use Rattle.std.proofs.Common.{◌≡◌, ◌∙◌, ℕ, List, Some, None, optio
 use Rattle.std.specs.Prelude.{slice_set}
 use Rattle.object_store.specs.declared.world.Room.{Room}
 use Rattle.object_store.specs.Lending.{with_table}
-use Rattle.object_store.specs.Tables.{Table}
+use Rattle.room_table.specs.Tables.{Table}
 use Rattle.record_follows.proofs.Placing.{found_room, lent_set, set_same}
 use Rattle.record_follows.proofs.putting.put_room.Goals as goal
 

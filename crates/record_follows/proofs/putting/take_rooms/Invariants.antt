@@ -1,5 +1,5 @@
 use Rattle.std.proofs.Common.{◌≡◌, List, ◌++◌, vec_len}
-use Rattle.object_store.specs.Tables.{Table}
+use Rattle.room_table.specs.Tables.{Table}
 use Rattle.record_follows.specs.inner.Parts.{with_rooms}
 use Rattle.record_follows.proofs.putting.take_rooms.Given as goal
 

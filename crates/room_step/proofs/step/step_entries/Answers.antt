@@ -1,7 +1,7 @@
 use Rattle.std.proofs.Common.{◌≡◌, ◌≤◌, List, [], length, sym, ap, subst, ◌∙◌}
 use Rattle.std.specs.List.{AllByRecursion, filter}
 use Rattle.intent_book.specs.declared.intent.Intent.{Intent}
-use Rattle.object_store.specs.Tables.{Table, IsRising}
+use Rattle.room_table.specs.Tables.{Table, IsRising}
 use Rattle.room_rules.specs.Calls.{AreActorsOnce}
 use Rattle.ruled_tick.specs.inner.Ticked.{IsTickedTable}
 use Rattle.world_rules.specs.RoomParts.{RoomPart, table_part}

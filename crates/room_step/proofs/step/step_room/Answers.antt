@@ -2,7 +2,7 @@ use Rattle.std.proofs.Common.{◌≡◌, List, ap, sym, ◌∙◌, length, arith
 use Rattle.std.proofs.lemmas.Result.{IfOk-weaker}
 use Rattle.kept_entries.specs.Turns.{in_turn}
 use Rattle.intent_book.specs.declared.intent.Intent.{Intent}
-use Rattle.object_store.specs.Tables.{Table}
+use Rattle.room_table.specs.Tables.{Table}
 use Rattle.world_rules.specs.RoomParts.{RoomPart, table_part}
 use Rattle.world_rules.specs.RoomTick.{kept_in}
 use Rattle.room_step.specs.Stepping.{IsStepped}

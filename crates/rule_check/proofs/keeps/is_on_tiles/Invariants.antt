@@ -1,5 +1,5 @@
 use Rattle.std.specs.List.{AllByRecursion}
-use Rattle.object_store.specs.Tables.{IsOnTile}
+use Rattle.room_table.specs.Tables.{IsOnTile}
 use Rattle.rule_check.proofs.keeps.is_on_tiles.Given as goal
 
 abbrev pub invariant-loop-object : goal.invariant-loop-object

@@ -1,4 +1,4 @@
-use Rattle.object_store.proofs.Rising.{non_decreasing}
+use Rattle.room_table.proofs.Rising.{non_decreasing}
 use Rattle.rule_check.proofs.keeps.view_of.Goals as goal
 
 pub returns-clause-ordered : goal.returns-clause-ordered

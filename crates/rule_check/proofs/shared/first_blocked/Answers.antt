@@ -1,7 +1,7 @@
 use Rattle.std.proofs.Common.{◌≡◌, true, false, take, sym, ap, ◌∙◌}
 use Rattle.std.proofs.lemmas.List.{length-set}
 use Rattle.room_terrain.specs.Tiles.{tile}
-use Rattle.object_store.specs.Tables.{IsOnTile}
+use Rattle.room_table.specs.Tables.{IsOnTile}
 use Rattle.rule_check.specs.inner.Taken.{clash_with, taken_on}
 use Rattle.rule_check.specs.declared.shared.Taken.{Taken}
 use Rattle.rule_check.proofs.Minima.{none_more, all_at, read_at}

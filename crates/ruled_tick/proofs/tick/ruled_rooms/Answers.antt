@@ -6,7 +6,7 @@ use Rattle.object_store.specs.declared.account.Account.{Account}
 use Rattle.object_store.specs.declared.world.Room.{Room}
 use Rattle.world_rules.specs.Tick.{book, gained}
 use Rattle.world_rules.specs.World.{world_of}
-use Rattle.object_store.specs.Tables.{IsOnTile}
+use Rattle.room_table.specs.Tables.{IsOnTile}
 use Rattle.exit_crossing.specs.declared.leaving.Crosser.{Crosser}
 use Rattle.exit_crossing.specs.Crossing.{AreCrossers, AreIdsApart, rested_room}
 use Rattle.ruled_tick.proofs.Players.{takes_account, takes_entry}

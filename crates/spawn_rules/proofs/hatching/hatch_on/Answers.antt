@@ -1,6 +1,6 @@
 use Rattle.std.proofs.Common.{ℕ, ◌+◌, ◌-◌, ◌*◌, ◌^◌, ◌<◌, List, Option, sym, ap, subst, ◌∙◌}
 use Rattle.game_tables.specs.declared.kind.Part.{Part}
-use Rattle.object_store.specs.Tables.{Table, HasNoId, with_new}
+use Rattle.room_table.specs.Tables.{Table, HasNoId, with_new}
 use Rattle.world_rules.specs.RoomParts.{table_part}
 use Rattle.world_rules.specs.Spawns.{hatched_on}
 use Rattle.room_rules.specs.Calls.{KeepsUpTo}

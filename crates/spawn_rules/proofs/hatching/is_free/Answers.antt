@@ -1,7 +1,7 @@
 use Rattle.std.proofs.Common.{◌&&◌, not, sym, ap, ◌∙◌}
 use Rattle.std.specs.Option.{is_some}
 use Rattle.game_tables.specs.declared.kind.Kind.TheVariants.{Creep}
-use Rattle.object_store.specs.Tables.{first_on}
+use Rattle.room_table.specs.Tables.{first_on}
 use Rattle.world_rules.proofs.TableParts.{part_values}
 use Rattle.spawn_rules.proofs.Around.{none_of_id}
 use Rattle.spawn_rules.proofs.hatching.is_free.Goals as goal

@@ -1,5 +1,5 @@
 use Rattle.std.proofs.Common.{sym, subst}
-use Rattle.object_store.specs.Tables.{IsRising}
+use Rattle.room_table.specs.Tables.{IsRising}
 use Rattle.world_rules.specs.Sites.{plan_of}
 use Rattle.world_rules.specs.RoomParts.{table_part}
 use Rattle.world_rules.proofs.TableParts.{part_values}

@@ -1,5 +1,5 @@
 use Rattle.std.proofs.Common.{Option, ap, subst, sym, ◌∙◌}
-use Rattle.object_store.specs.Tables.{removed}
+use Rattle.room_table.specs.Tables.{removed}
 use Rattle.world_rules.specs.World.{Placed}
 use Rattle.world_rules.specs.RoomParts.{table_part}
 use Rattle.world_rules.specs.Checks.{all_hold}

@@ -1,5 +1,5 @@
 use Rattle.std.proofs.Common.{◌≡◌, ◌==◌, ℕ, ◌*◌, None, length, refl, sym, ap, subst, ◌∙◌}
-use Rattle.object_store.specs.Tables.{IsOnTile, find_object, with_object}
+use Rattle.room_table.specs.Tables.{IsOnTile, find_object, with_object}
 use Rattle.world_rules.specs.RoomParts.{table_part}
 use Rattle.world_rules.specs.Spawns.{begun_with}
 use Rattle.world_rules.specs.Steps.{by_object}

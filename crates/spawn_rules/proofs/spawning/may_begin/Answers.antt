@@ -1,5 +1,5 @@
 use Rattle.std.proofs.Common.{◌-◌, min, Some, subst, sym, ◌∙◌}
-use Rattle.object_store.specs.Tables.{IsRising}
+use Rattle.room_table.specs.Tables.{IsRising}
 use Rattle.world_rules.specs.Checks.{all_hold}
 use Rattle.world_rules.specs.Spawns.{held_by, spawn_checks}
 use Rattle.world_rules.proofs.TableParts.{part_values}

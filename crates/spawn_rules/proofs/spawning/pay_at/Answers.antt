@@ -1,5 +1,5 @@
 use Rattle.std.proofs.Common.{ℕ, ◌-◌, true, false, option_copied, refl, sym, ap, ◌∙◌}
-use Rattle.object_store.specs.Tables.{IsOnTile, with_object}
+use Rattle.room_table.specs.Tables.{IsOnTile, with_object}
 use Rattle.upkeep_rules.proofs.Passing.{all_read, found_there}
 use Rattle.spawn_rules.proofs.Paid.{paid_other, paid_share}
 use Rattle.world_rules.specs.Loads.{with_less}

@@ -1,4 +1,4 @@
-use Rattle.object_store.specs.Tables.{Table}
+use Rattle.room_table.specs.Tables.{Table}
 use Rattle.tick_journal.proofs.Rising.{behind_last_test}
 use Rattle.tick_journal.proofs.entry_reader.is_index_behind.Goals as goal
 

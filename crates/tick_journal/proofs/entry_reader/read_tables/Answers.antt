@@ -1,6 +1,6 @@
 use Rattle.std.proofs.Common.{◌≡◌, ℕ, true, false, [], ◌∷◌, length-append, refl, subst, arith, rules}
 use Rattle.std.proofs.lemmas.Result.{err_from_is_err_and}
-use Rattle.object_store.specs.Tables.{Table}
+use Rattle.room_table.specs.Tables.{Table}
 use Rattle.world_bytes.specs.Forms.{room_bytes}
 use Rattle.tick_journal.specs.TickForms.{IsRisingBy}
 use Rattle.tick_journal.specs.inner.Reading.{IsReadTable}

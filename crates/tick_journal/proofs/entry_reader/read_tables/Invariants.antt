@@ -1,5 +1,5 @@
 use Rattle.std.proofs.Common.{◌≡◌, length}
-use Rattle.object_store.specs.Tables.{Table}
+use Rattle.room_table.specs.Tables.{Table}
 use Rattle.world_bytes.specs.Forms.{room_bytes}
 use Rattle.tick_journal.specs.TickForms.{IsRisingBy}
 use Rattle.tick_journal.specs.inner.Reading.{IsReadTable}

@@ -1,7 +1,7 @@
 use Rattle.std.proofs.Common.{Some, None, is_some, option_copied, sym, ap, subst, ◌∙◌}
 use Rattle.std.specs.List.{AllByRecursion}
-use Rattle.object_store.specs.Tables.{Table, IsOnTile}
-use Rattle.object_store.proofs.Rising.{all_filter}
+use Rattle.room_table.specs.Tables.{Table, IsOnTile}
+use Rattle.room_table.proofs.Rising.{all_filter}
 use Rattle.world_rules.proofs.TableParts.{tiles_replaced}
 use Rattle.upkeep_rules.specs.inner.Passed.{left_of}
 use Rattle.upkeep_rules.proofs.Lefts.{left-id}

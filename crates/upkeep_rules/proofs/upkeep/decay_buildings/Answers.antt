@@ -1,5 +1,5 @@
 use Rattle.std.proofs.Common.{sym, ap, subst, ◌∙◌}
-use Rattle.object_store.specs.Controllers.{is_owned_room}
+use Rattle.room_table.specs.Controllers.{is_owned_room}
 use Rattle.world_rules.specs.RoomParts.{table_part}
 use Rattle.world_rules.specs.Steps.{over_objects}
 use Rattle.world_rules.specs.Upkeep.{weathered_as}

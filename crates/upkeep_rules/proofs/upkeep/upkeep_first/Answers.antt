@@ -1,6 +1,6 @@
 use Rattle.std.proofs.Common.{sym, ap, subst, ◌∙◌, arith}
 use Rattle.std.specs.List.{AllByRecursion}
-use Rattle.object_store.specs.Tables.{Table, IsOnTile}
+use Rattle.room_table.specs.Tables.{Table, IsOnTile}
 use Rattle.world_rules.specs.RoomParts.{table_part}
 use Rattle.world_rules.specs.Upkeep.{aged, filled, recovered, unloaded}
 use Rattle.room_rules.specs.Calls.{IsReadyFor}

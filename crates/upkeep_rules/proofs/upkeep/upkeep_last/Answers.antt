@@ -1,7 +1,7 @@
 use Rattle.std.proofs.Common.{ap, ◌∙◌, arith}
 use Rattle.game_tables.specs.Kinds.{source_capacity}
-use Rattle.object_store.specs.Controllers.{is_taken}
-use Rattle.object_store.specs.Tables.{Table}
+use Rattle.room_table.specs.Controllers.{is_taken}
+use Rattle.room_table.specs.Tables.{Table}
 use Rattle.world_rules.specs.Upkeep.{buildings_decayed, decayed}
 use Rattle.upkeep_rules.specs.Falling.{may_fall}
 use Rattle.upkeep_rules.proofs.Renewed.{may_fall_renewed, ready_renewed, renewed_part}

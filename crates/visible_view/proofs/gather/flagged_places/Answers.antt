@@ -1,7 +1,7 @@
 use Rattle.std.proofs.Common.{◌≡◌, ℕ, ◌+◌, ◌++◌, [], ◌∷◌, if◌then◌else◌, List, take, length, sym, ap, ◌∙◌, arith}
 use Rattle.std.specs.Prelude.{vec_capacity, vec_len}
 use Rattle.std.proofs.lemmas.List.{append-nil, length-take-le, take_more}
-use Rattle.object_store.specs.declared.standing.Standing.{Standing}
+use Rattle.room_table.specs.declared.standing.Standing.{Standing}
 use Rattle.visible_view.specs.inner.Gathered.{is_flagged}
 use Rattle.visible_view.specs.inner.Places.{flagged_from}
 use Rattle.visible_view.proofs.Places.{flagged_push}

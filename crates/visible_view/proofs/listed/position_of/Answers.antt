@@ -1,6 +1,6 @@
 use Rattle.std.proofs.Common.{ltb, map, rules, tests}
 use Rattle.std.proofs.lemmas.List.Sorted.{IsPartitionPoint-from_clause, IsPartitionedBy-ltb}
-use Rattle.object_store.proofs.Rising.{non_decreasing, place_from_tests}
+use Rattle.room_table.proofs.Rising.{non_decreasing, place_from_tests}
 use Rattle.world_rules.specs.World.{shown}
 use Rattle.visible_view.specs.inner.Places.{id_at}
 use Rattle.visible_view.proofs.listed.position_of.Goals as goal

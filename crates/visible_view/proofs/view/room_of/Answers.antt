@@ -2,7 +2,7 @@ use Rattle.std.proofs.Common.{Some, sym, ap, ◌∙◌, refl}
 use Rattle.std.proofs.lemmas.Bool.{both_ways, ltb-true}
 use Rattle.std.proofs.lemmas.List.{get_or_default}
 use Rattle.std.specs.Option.{is_some}
-use Rattle.object_store.proofs.Rising.{find-at, absent_there}
+use Rattle.room_table.proofs.Rising.{find-at, absent_there}
 use Rattle.visible_view.specs.inner.Gathered.{index_in}
 use Rattle.visible_view.proofs.view.room_of.Goals as goal
 use Rattle.visible_view.proofs.view.room_of.Goals.{in_default-via-in-Some+else-room-index, in_default-via-in_default}

@@ -1,6 +1,6 @@
 use Rattle.std.proofs.Common.{ltb, rules, tests}
 use Rattle.std.proofs.lemmas.List.Sorted.{IsPartitionPoint-from_clause, IsPartitionedBy-ltb}
-use Rattle.object_store.proofs.Rising.{non_decreasing, place_from_tests}
+use Rattle.room_table.proofs.Rising.{non_decreasing, place_from_tests}
 use Rattle.visible_view.specs.inner.Gathered.{index_in}
 use Rattle.visible_view.proofs.view.room_place.Goals as goal
 

@@ -1,9 +1,9 @@
 use Rattle.std.proofs.lemmas.Result.{on_ok_weaker}
 use Rattle.std.proofs.lemmas.List.{map-id}
-use Rattle.wasm_module.specs.values.Spelling.{SpellsList}
-use Rattle.wasm_module.specs.sections.Entries.{SpellsLocalRun}
-use Rattle.wasm_module.specs.values.Instructions.{SpellsExpression}
-use Rattle.wasm_module.specs.values.View.{instrs_view}
+use Rattle.wasm_values.specs.Spelling.{SpellsList}
+use Rattle.wasm_module.specs.Entries.{SpellsLocalRun}
+use Rattle.wasm_values.specs.Instructions.{SpellsExpression}
+use Rattle.wasm_values.specs.View.{instrs_view}
 use Rattle.wasm_encode.proofs.Shortest.{gains_then}
 use Rattle.wasm_encode.proofs.entries.put_function.Goals as goal
 

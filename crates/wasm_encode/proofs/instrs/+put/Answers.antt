@@ -1,13 +1,13 @@
 use Rattle.std.proofs.Common.{◌≡◌, ◌+◌, suc, map, take, ap, ◌∙◌, refl, arith}
 use Rattle.std.proofs.lemmas.List.{take_all}
 use Rattle.std.proofs.lemmas.Result.{on_ok_weaker}
-use Rattle.wasm_module.specs.values.View.{instr_view, instrs_view}
-use Rattle.wasm_module.specs.values.Spelling.{SpellsU32, SpellsMark, SpellsEach}
-use Rattle.wasm_module.specs.values.Syntax.{block, loop, if_else}
-use Rattle.wasm_module.specs.values.Instructions.{SpellsOp}
+use Rattle.wasm_values.specs.View.{instr_view, instrs_view}
+use Rattle.wasm_values.specs.Spelling.{SpellsU32, SpellsMark, SpellsEach}
+use Rattle.wasm_values.specs.Syntax.{block, loop, if_else}
+use Rattle.wasm_values.specs.Instructions.{SpellsOp}
 use Rattle.wasm_encode.specs.inner.Gains.{IsSpelled}
 use Rattle.wasm_encode.proofs.Heights.{op_height, ops_height, item_height}
-use Rattle.wasm_module.proofs.Views.{view_unreachable, view_nop, view_return, view_drop_value, view_select, view_memory_size, view_memory_grow, view_br, view_br_if, view_call, view_call_indirect, view_local_get, view_local_set, view_local_tee, view_global_get, view_global_set, view_numeric, view_float_plain, view_load, view_store, view_float_memory, view_block, view_loop, view_if}
+use Rattle.wasm_values.proofs.Views.{view_unreachable, view_nop, view_return, view_drop_value, view_select, view_memory_size, view_memory_grow, view_br, view_br_if, view_call, view_call_indirect, view_local_get, view_local_set, view_local_tee, view_global_get, view_global_set, view_numeric, view_float_plain, view_load, view_store, view_float_memory, view_block, view_loop, view_if}
 use Rattle.wasm_encode.proofs.Shortest.{gains_then, gains_mark, gains_none, gains_item, item_spelled}
 use Rattle.wasm_encode.proofs.Tagged.{gains_tagged}
 use Rattle.wasm_encode.proofs.Ops.{unreachable_tagged, nop_tagged, return_tagged, drop_tagged, select_tagged, br_tagged, br_if_tagged, call_tagged, call_indirect_tagged, local_get_tagged, local_set_tagged, local_tee_tagged, global_get_tagged, global_set_tagged, memory_size_tagged, memory_grow_tagged, block_tagged, loop_tagged}

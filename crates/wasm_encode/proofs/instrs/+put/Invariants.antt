@@ -1,9 +1,9 @@
 use Rattle.std.proofs.Common.{map, take}
 use Rattle.wasm_encode.proofs.Heights.{op_height, ops_height}
 use Rattle.wasm_encode.specs.inner.Gains.{Gains}
-use Rattle.wasm_module.specs.values.Instructions.{SpellsOp}
-use Rattle.wasm_module.specs.values.Spelling.{SpellsEach}
-use Rattle.wasm_module.specs.values.View.{instr_view, instrs_view}
+use Rattle.wasm_values.specs.Instructions.{SpellsOp}
+use Rattle.wasm_values.specs.Spelling.{SpellsEach}
+use Rattle.wasm_values.specs.View.{instr_view, instrs_view}
 use Rattle.wasm_encode.proofs.instrs.+put.Given as goal
 
 abbrev pub invariant-put_instrs-loop-instr : goal.invariant-put_instrs-loop-instr

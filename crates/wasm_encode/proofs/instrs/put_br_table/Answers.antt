@@ -1,8 +1,8 @@
 use Rattle.std.proofs.lemmas.Result.{on_ok_weaker}
 use Rattle.std.proofs.Common.{refl}
 use Rattle.std.proofs.lemmas.List.{map-id}
-use Rattle.wasm_module.specs.values.Spelling.{SpellsU32, SpellsList}
-use Rattle.wasm_module.specs.values.Syntax.{br_table}
+use Rattle.wasm_values.specs.Spelling.{SpellsU32, SpellsList}
+use Rattle.wasm_values.specs.Syntax.{br_table}
 use Rattle.wasm_encode.proofs.Shortest.{gains_then, first_spelled}
 use Rattle.wasm_encode.proofs.Tagged.{gains_tagged, inner_spelled}
 use Rattle.wasm_encode.proofs.Ops.{br_table_tagged}

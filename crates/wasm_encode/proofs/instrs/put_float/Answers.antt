@@ -1,6 +1,6 @@
 use Rattle.std.proofs.lemmas.Result.{on_ok_weaker}
 use Rattle.std.proofs.Common.{ap, arith}
-use Rattle.wasm_module.specs.values.Syntax.{float_const}
+use Rattle.wasm_values.specs.Syntax.{float_const}
 use Rattle.wasm_encode.proofs.Numbers.{gains_little}
 use Rattle.wasm_encode.proofs.Tagged.{gains_tagged}
 use Rattle.wasm_encode.proofs.Ops.{f32_const_tagged, f64_const_tagged}

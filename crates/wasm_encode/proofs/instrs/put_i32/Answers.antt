@@ -1,7 +1,7 @@
 use Rattle.std.proofs.lemmas.Result.{on_ok_weaker}
 use Rattle.std.proofs.Common.{◌≡◌, refl, arith, w32, w64, to_z, of_z, ap, ◌∙◌, FitsSigned}
 use Rattle.std.proofs.lemmas.Int.{to_z-of_z, ints}
-use Rattle.wasm_module.specs.values.Syntax.{i32_const}
+use Rattle.wasm_values.specs.Syntax.{i32_const}
 use Rattle.wasm_encode.proofs.Numbers.{gains_signed}
 use Rattle.wasm_encode.proofs.Tagged.{gains_tagged, inner_spelled}
 use Rattle.wasm_encode.proofs.Ops.{i32_const_tagged}

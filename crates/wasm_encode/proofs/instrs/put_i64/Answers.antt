@@ -1,7 +1,7 @@
 use Rattle.std.proofs.lemmas.Result.{on_ok_weaker}
 use Rattle.std.proofs.Common.{refl, w64}
 use Rattle.std.proofs.lemmas.Int.{to_z-of_z}
-use Rattle.wasm_module.specs.values.Syntax.{i64_const}
+use Rattle.wasm_values.specs.Syntax.{i64_const}
 use Rattle.wasm_encode.proofs.Tagged.{gains_tagged}
 use Rattle.wasm_encode.proofs.Ops.{i64_const_tagged}
 use Rattle.wasm_encode.proofs.instrs.put_i64.Goals as goal

@@ -1,5 +1,5 @@
 use Rattle.std.proofs.lemmas.List.{map-id}
-use Rattle.wasm_module.specs.sections.Sections.{module_view}
+use Rattle.wasm_module.specs.Sections.{module_view}
 use Rattle.wasm_encode.proofs.Whole.{types_spelled, imports_spelled, funcs_spelled, tables_spelled, memories_spelled, globals_spelled, exports_spelled, start_spelled, elements_spelled, codes_spelled, segments_spelled, gains_whole, whole_one}
 use Rattle.wasm_encode.proofs.sections.encode.Goals as goal
 

@@ -1,7 +1,7 @@
 use Rattle.std.proofs.lemmas.Result.{on_ok_weaker}
 use Rattle.std.proofs.Common.{[], map, sym}
 use Rattle.std.proofs.lemmas.Bool.{eqb-true, eqb-false}
-use Rattle.wasm_module.specs.values.Spelling.{SpellsList}
+use Rattle.wasm_values.specs.Spelling.{SpellsList}
 use Rattle.wasm_encode.proofs.Numbers.{content_shortest, sized_below, sized_spelled}
 use Rattle.wasm_encode.proofs.Present.{gains_absent, part_spelled, gains_present, map_some, map_none}
 use Rattle.wasm_encode.proofs.sections.put_part.Goals as goal

@@ -1,8 +1,8 @@
 use Rattle.std.proofs.lemmas.Result.{on_ok_weaker}
-use Rattle.wasm_module.specs.sections.Sections.{SpellsStart}
+use Rattle.wasm_module.specs.Sections.{SpellsStart}
 use Rattle.std.proofs.Common.{None}
 use Rattle.wasm_encode.proofs.Numbers.{content_shortest, sized_below}
-use Rattle.wasm_module.specs.values.Spelling.{SpellsU32}
+use Rattle.wasm_values.specs.Spelling.{SpellsU32}
 use Rattle.wasm_encode.proofs.Present.{part_spelled, gains_present, start_some, start_shortest}
 use Rattle.wasm_encode.proofs.sections.put_start.Goals as goal
 

@@ -1,4 +1,4 @@
-use Rattle.wasm_module.specs.values.Values.{spells_no_result, spells_one_result}
+use Rattle.wasm_values.specs.Values.{spells_no_result, spells_one_result}
 use Rattle.wasm_encode.proofs.values.block_code.Goals as goal
 
 pub returns-in-None : goal.returns-in-None

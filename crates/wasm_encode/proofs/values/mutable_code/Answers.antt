@@ -1,4 +1,4 @@
-use Rattle.wasm_module.specs.values.Values.{spells_constant, spells_variable}
+use Rattle.wasm_values.specs.Values.{spells_constant, spells_variable}
 use Rattle.wasm_encode.proofs.values.mutable_code.Goals as goal
 
 pub returns-then-mutable : goal.returns-then-mutable

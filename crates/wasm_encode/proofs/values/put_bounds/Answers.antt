@@ -1,5 +1,5 @@
 use Rattle.std.proofs.lemmas.Result.{on_ok_weaker}
-use Rattle.wasm_module.specs.values.Spelling.{SpellsU32}
+use Rattle.wasm_values.specs.Spelling.{SpellsU32}
 use Rattle.wasm_encode.proofs.Shortest.{gains_then}
 use Rattle.wasm_encode.proofs.Tagged.{gains_tagged}
 use Rattle.wasm_encode.proofs.Types.{open_tagged, closed_tagged, bounds_open, bounds_closed}

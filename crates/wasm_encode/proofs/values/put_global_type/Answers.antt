@@ -1,4 +1,4 @@
-use Rattle.wasm_module.specs.values.Values.{SpellsValType, SpellsMutable}
+use Rattle.wasm_values.specs.Values.{SpellsValType, SpellsMutable}
 use Rattle.wasm_encode.proofs.Shortest.{gains_then}
 use Rattle.wasm_encode.proofs.Types.{gains_mutable}
 use Rattle.wasm_encode.proofs.values.put_global_type.Goals as goal

@@ -1,4 +1,4 @@
-use Rattle.wasm_module.specs.values.Values.{spells_i32, spells_i64, spells_f32, spells_f64}
+use Rattle.wasm_values.specs.Values.{spells_i32, spells_i64, spells_f32, spells_f64}
 use Rattle.wasm_encode.proofs.values.val_code.Goals as goal
 
 pub returns-in-I32 : goal.returns-in-I32

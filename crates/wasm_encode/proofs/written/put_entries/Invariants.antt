@@ -1,6 +1,6 @@
 use Rattle.std.proofs.Common.{map, take}
 use Rattle.wasm_encode.specs.inner.Gains.{Gains}
-use Rattle.wasm_module.specs.values.Spelling.{SpellsEach}
+use Rattle.wasm_values.specs.Spelling.{SpellsEach}
 use Rattle.wasm_encode.proofs.written.put_entries.Given as goal
 
 abbrev pub invariant-each : goal.invariant-each

@@ -1,7 +1,7 @@
 use Rattle.std.proofs.Common.{arith, length, map}
 use Rattle.std.proofs.lemmas.List.{length-map}
 use Rattle.std.proofs.lemmas.Result.{on_ok_weaker}
-use Rattle.wasm_module.specs.values.Spelling.{SpellsU32}
+use Rattle.wasm_values.specs.Spelling.{SpellsU32}
 use Rattle.wasm_encode.specs.inner.Gains.{Gains}
 use Rattle.wasm_encode.proofs.Shortest.{gains_list, count_spelled}
 use Rattle.wasm_encode.proofs.Numbers.{u32_below}

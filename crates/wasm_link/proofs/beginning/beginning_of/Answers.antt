@@ -2,12 +2,12 @@ use Rattle.std.proofs.Common.{◌≡◌, ◌∙◌, ℕ, ◌^◌, [], None, List
 use Rattle.std.specs.Prelude.{replicate}
 use Rattle.std.proofs.lemmas.List.{length-replicate}
 use Rattle.std.proofs.lemmas.List.Elements.{All-weaker}
-use Rattle.wasm_module.specs.sections.Entries.{global_view, segment_view, element_view}
-use Rattle.wasm_module.specs.values.View.{instrs_view}
-use Rattle.wasm_module.specs.declared.sections.elements.Element.{Element}
-use Rattle.wasm_module.specs.declared.sections.globals.GlobalDef.{GlobalDef}
-use Rattle.wasm_module.specs.declared.sections.segments.Segment.{Segment}
-use Rattle.wasm_validate.specs.typing.Typing.{IsConstant}
+use Rattle.wasm_module.specs.Entries.{global_view, segment_view, element_view}
+use Rattle.wasm_values.specs.View.{instrs_view}
+use Rattle.wasm_module.specs.declared.elements.Element.{Element}
+use Rattle.wasm_module.specs.declared.globals.GlobalDef.{GlobalDef}
+use Rattle.wasm_module.specs.declared.segments.Segment.{Segment}
+use Rattle.wasm_typing.specs.Typing.{IsConstant}
 use Rattle.wasm_soundness.specs.Typed.{IsValue}
 use Rattle.wasm_link.specs.Linking.{Fits, constant, first_memory, first_table, table_size, with_segments}
 use Rattle.wasm_link.specs.Made.{element_span, data_span}

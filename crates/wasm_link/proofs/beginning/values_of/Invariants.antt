@@ -1,6 +1,6 @@
 use Rattle.std.proofs.Common.{◌≡◌, ◌-◌, ◌≤◌, length, map, take, All}
-use Rattle.wasm_module.specs.sections.Entries.{global_view}
-use Rattle.wasm_module.specs.values.View.{instrs_view}
+use Rattle.wasm_module.specs.Entries.{global_view}
+use Rattle.wasm_values.specs.View.{instrs_view}
 use Rattle.wasm_soundness.specs.Typed.{IsValue}
 use Rattle.wasm_link.specs.Linking.{constant}
 use Rattle.wasm_link.proofs.beginning.values_of.Given as goal

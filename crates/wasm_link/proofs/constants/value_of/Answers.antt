@@ -1,8 +1,8 @@
 use Rattle.std.proofs.Common.{◌∙◌, sym, ap, subst, []}
-use Rattle.wasm_module.specs.values.Syntax.{Ops}
-use Rattle.wasm_module.specs.values.View.{items_view}
-use Rattle.wasm_module.proofs.Views.{view_instrs}
-use Rattle.wasm_validate.specs.typing.Typing.{IsConstant}
+use Rattle.wasm_values.specs.Syntax.{Ops}
+use Rattle.wasm_values.specs.View.{items_view}
+use Rattle.wasm_values.proofs.Views.{view_instrs}
+use Rattle.wasm_typing.specs.Typing.{IsConstant}
 use Rattle.wasm_validate.proofs.OneConstant.{one_item, is_single}
 use Rattle.wasm_link.specs.Linking.{constant}
 use Rattle.wasm_link.proofs.Begun.{no_constant}

@@ -1,5 +1,5 @@
 use Rattle.std.proofs.Common.{ℕ, ◌≡◌, ◌<◌, ◌-◌, ◌≤◌, length, map, Some, slice_get}
-use Rattle.wasm_module.specs.declared.sections.exports.Export.{Export}
+use Rattle.wasm_values.specs.declared.exports.Export.{Export}
 use Rattle.wasm_link.specs.Made.{kind_of, IsLoop}
 use Rattle.wasm_link.proofs.exports.find_loop.Given as goal
 

@@ -1,7 +1,7 @@
 use Rattle.std.proofs.Common.{◌∙◌, List, ap, sym, refl, subst, length, arith}
 use Rattle.std.specs.List.{sum_by}
-use Rattle.wasm_module.specs.sections.Sections.{module_view}
-use Rattle.wasm_validate.specs.typing.Context.{locals_of}
+use Rattle.wasm_module.specs.Sections.{module_view}
+use Rattle.wasm_typing.specs.Context.{locals_of}
 use Rattle.wasm_link.specs.declared.entries.Entry.{Entry}
 use Rattle.wasm_link.specs.Made.{EachAt, IsOwnAt}
 use Rattle.wasm_link.proofs.Owned.{kind_within, few_locals, few_params, own_more, own_kinds_more}

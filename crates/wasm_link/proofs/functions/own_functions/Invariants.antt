@@ -1,5 +1,5 @@
 use Rattle.std.proofs.Common.{◌≡◌, ◌-◌, ◌≤◌, length, map, take}
-use Rattle.wasm_module.specs.sections.Sections.{module_view}
+use Rattle.wasm_module.specs.Sections.{module_view}
 use Rattle.wasm_link.specs.Made.{kind_of, EachAt, IsOwnAt}
 use Rattle.wasm_link.proofs.functions.own_functions.Given as goal
 

@@ -1,4 +1,4 @@
-use Rattle.wasm_validate.proofs.Entries.{values_Decides}
+use Rattle.wasm_typing.proofs.Entries.{values_Decides}
 use Rattle.wasm_validate.proofs.OneConstant.{exactly_from}
 use Rattle.std.proofs.lemmas.Slice.Eq.{slice_eq-Decides}
 use Rattle.wasm_link.proofs.imports.are_same.Goals as goal

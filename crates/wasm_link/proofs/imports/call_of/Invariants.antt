@@ -1,5 +1,5 @@
 use Rattle.std.proofs.Common.{ℕ, ◌≡◌, ◌<◌, ◌-◌, ◌≤◌, length, Some, slice_get}
-use Rattle.wasm_module.specs.declared.host_sig.HostSig.{HostSig}
+use Rattle.wasm_values.specs.declared.host_sig.HostSig.{HostSig}
 use Rattle.wasm_link.specs.Made.{HasNames}
 use Rattle.wasm_link.proofs.imports.call_of.Given as goal
 

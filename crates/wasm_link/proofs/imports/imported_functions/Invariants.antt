@@ -1,6 +1,6 @@
 use Rattle.std.proofs.Common.{◌≡◌, ◌-◌, ◌≤◌, length, map, take}
 use Rattle.std.specs.List.{filter_map}
-use Rattle.wasm_validate.specs.typing.Context.{imported_func}
+use Rattle.wasm_typing.specs.Context.{imported_func}
 use Rattle.wasm_link.specs.Made.{kind_of, EachAt, IsImportedAt}
 use Rattle.wasm_link.proofs.imports.imported_functions.Given as goal
 

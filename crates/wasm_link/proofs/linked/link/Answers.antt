@@ -1,7 +1,7 @@
 use Rattle.std.proofs.Common.{subst, sym}
 use Rattle.std.proofs.lemmas.Result.{err_from_is_err_and}
-use Rattle.wasm_module.specs.sections.Sections.{module_view}
-use Rattle.wasm_module.specs.declared.sections.module.Module.{Module}
+use Rattle.wasm_module.specs.Sections.{module_view}
+use Rattle.wasm_module.specs.declared.module.Module.{Module}
 use Rattle.wasm_link.specs.Kept.{link_of}
 use Rattle.wasm_link.specs.inner.Beginnings.{IsReady}
 use Rattle.wasm_link.specs.Linking.{IsFault, IsLinked}

@@ -1,7 +1,7 @@
 use Rattle.std.proofs.Common.{◌∙◌, ap, sym, subst, List, ℕ, map}
 use Rattle.std.proofs.lemmas.Result.{err_from_is_err_and}
-use Rattle.wasm_module.specs.sections.Sections.{module_view}
-use Rattle.wasm_module.specs.declared.values.types.FuncType.{FuncType}
+use Rattle.wasm_module.specs.Sections.{module_view}
+use Rattle.wasm_values.specs.declared.types.FuncType.{FuncType}
 use Rattle.wasm_link.specs.declared.entries.Entry.{Entry}
 use Rattle.wasm_link.specs.Made.{AreOwn, AreNamed, AreClasses, kind_of}
 use Rattle.wasm_link.proofs.Links.{named_whole, imported_whole, other_fault, no_loop_by, has_loop_by, kinds_hold, linked_by, kept_by, joined_kinds}

@@ -1,6 +1,6 @@
 use Rattle.std.proofs.Common.{◌≡◌, ◌+◌, ◌*◌, ◌<◌, ◌^◌, ◌∙◌, sym, ap, refl, length, arith}
 use Rattle.std.proofs.lemmas.List.{length-map}
-use Rattle.wasm_module.specs.sections.Entries.{element_view, segment_view}
+use Rattle.wasm_module.specs.Entries.{element_view, segment_view}
 use Rattle.wasm_link.specs.Linking.{Fits, first_memory, table_size}
 use Rattle.wasm_link.specs.Made.{element_span, data_span}
 use Rattle.wasm_link.proofs.Places.{memory_size, spans_are, all_fit, misfit_element, misfit_data, place_fits}

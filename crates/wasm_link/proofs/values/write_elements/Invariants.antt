@@ -1,5 +1,5 @@
 use Rattle.std.proofs.Common.{◌≡◌, ℕ, ◌-◌, ◌≤◌, List, Option, None, length, map, drop, All}
-use Rattle.wasm_module.specs.sections.Entries.{element_view}
+use Rattle.wasm_module.specs.Entries.{element_view}
 use Rattle.wasm_link.specs.Linking.{Fits, first_table}
 use Rattle.wasm_link.specs.Made.{element_span}
 use Rattle.wasm_link.specs.inner.Images.{Stands}

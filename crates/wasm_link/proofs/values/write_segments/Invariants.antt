@@ -1,5 +1,5 @@
 use Rattle.std.proofs.Common.{◌≡◌, ◌-◌, ◌≤◌, length, map, drop, All}
-use Rattle.wasm_module.specs.sections.Entries.{segment_view}
+use Rattle.wasm_module.specs.Entries.{segment_view}
 use Rattle.wasm_store.specs.Memory.{Memory}
 use Rattle.wasm_link.specs.Linking.{Fits, with_segments}
 use Rattle.wasm_link.specs.Made.{data_span}

@@ -1,5 +1,5 @@
 use Rattle.std.proofs.Common.{◌≡◌, ◌≢◌, Bool, true, false, None, Some, get_or, slice_get, refl, sym, ap, ◌∙◌, arith}
-use Rattle.wasm_module.specs.values.Syntax.{no_ops, next, call_indirect}
+use Rattle.wasm_values.specs.Syntax.{no_ops, next, call_indirect}
 use Rattle.wasm_steps.specs.Program.{Function, type_of}
 use Rattle.wasm_steps.specs.Steps.{Finds, finds_end, finds_empty, finds_other}
 use Rattle.wasm_soundness.proofs.Calls.{call_indirect_on, table_names}

@@ -1,5 +1,5 @@
 use Rattle.std.proofs.Common.{sym, ◌∙◌}
-use Rattle.wasm_module.specs.values.View.{items_view}
+use Rattle.wasm_values.specs.View.{items_view}
 use Rattle.wasm_stack.specs.Standing.{held}
 use Rattle.wasm_stack.specs.View.{ops_at}
 use Rattle.wasm_machine.proofs.Called.{same_found, host_called, host_refused, own_runs, frame_fits}

@@ -1,7 +1,7 @@
 use Rattle.std.proofs.Common.{◌≡◌, ap, sym, ◌∙◌, subst, ℕ, arith}
 use Rattle.std.specs.Option.{unwrap_or}
 use Rattle.std.proofs.Common.{slice_get}
-use Rattle.wasm_module.specs.values.Syntax.{no_ops}
+use Rattle.wasm_values.specs.Syntax.{no_ops}
 use Rattle.wasm_steps.specs.Steps.{target_of}
 use Rattle.wasm_soundness.specs.Ready.{CanBranch}
 use Rattle.wasm_soundness.proofs.Branches.{br_table_on}

@@ -1,5 +1,5 @@
 use Rattle.std.proofs.Common.{arith}
-use Rattle.wasm_module.specs.values.Syntax.{no_ops}
+use Rattle.wasm_values.specs.Syntax.{no_ops}
 use Rattle.wasm_soundness.proofs.Branches.{br_if_on}
 use Rattle.wasm_stack.specs.Held.{running, without}
 use Rattle.wasm_stack.specs.Standing.{held}

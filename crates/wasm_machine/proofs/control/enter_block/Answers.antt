@@ -1,5 +1,5 @@
 use Rattle.std.proofs.Common.{refl}
-use Rattle.wasm_module.specs.values.View.{instrs_view}
+use Rattle.wasm_values.specs.View.{instrs_view}
 use Rattle.wasm_soundness.proofs.Blocks.{enters_block}
 use Rattle.wasm_stack.specs.Held.{running}
 use Rattle.wasm_stack.specs.Standing.{held}

@@ -1,5 +1,5 @@
 use Rattle.std.proofs.Common.{◌<◌, length, refl, subst, sym, arith}
-use Rattle.wasm_module.specs.values.View.{instrs_view}
+use Rattle.wasm_values.specs.View.{instrs_view}
 use Rattle.wasm_soundness.proofs.Blocks.{enters_if}
 use Rattle.wasm_stack.specs.Held.{Held, running}
 use Rattle.wasm_stack.specs.Standing.{held}

@@ -1,5 +1,5 @@
 use Rattle.std.proofs.Common.{ℕ, subst, sym, refl}
-use Rattle.wasm_module.specs.values.Syntax.{no_ops}
+use Rattle.wasm_values.specs.Syntax.{no_ops}
 use Rattle.wasm_steps.specs.Threads.{Branches}
 use Rattle.wasm_soundness.specs.Ready.{CanBranch}
 use Rattle.wasm_soundness.proofs.Branches.{return_on, returns_by_branch}

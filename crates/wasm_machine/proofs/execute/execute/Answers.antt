@@ -2,9 +2,9 @@ use Rattle.std.proofs.Common.{rules, w32, w64, SFits, true, inl, refl, sym, ap, 
 use mir.Val.{to_z, of_z}
 use Rattle.std.proofs.lemmas.Int.{to_z-of_z}
 use Rattle.std.proofs.lemmas.Option.{slice_get_within}
-use Rattle.wasm_module.specs.values.Syntax.{Op, Ops, next, no_ops, unreachable, nop, block, loop, if_else, br, br_if, br_table, return, call, call_indirect, drop_value, select, local_get, local_set, local_tee, global_get, global_set, load, store, memory_size, memory_grow, i32_const, i64_const, numeric}
-use Rattle.wasm_module.specs.values.View.{instr_view, instrs_view}
-use Rattle.wasm_module.proofs.Views.{view_block, view_br, view_br_if, view_br_table, view_call, view_call_indirect, view_drop_value, view_float_const, view_float_memory, view_float_plain, view_global_get, view_global_set, view_i32_const, view_i64_const, view_if, view_load, view_local_get, view_local_set, view_local_tee, view_loop, view_memory_grow, view_memory_size, view_nop, view_numeric, view_return, view_select, view_store, view_unreachable}
+use Rattle.wasm_values.specs.Syntax.{Op, Ops, next, no_ops, unreachable, nop, block, loop, if_else, br, br_if, br_table, return, call, call_indirect, drop_value, select, local_get, local_set, local_tee, global_get, global_set, load, store, memory_size, memory_grow, i32_const, i64_const, numeric}
+use Rattle.wasm_values.specs.View.{instr_view, instrs_view}
+use Rattle.wasm_values.proofs.Views.{view_block, view_br, view_br_if, view_br_table, view_call, view_call_indirect, view_drop_value, view_float_const, view_float_memory, view_float_plain, view_global_get, view_global_set, view_i32_const, view_i64_const, view_if, view_load, view_local_get, view_local_set, view_local_tee, view_loop, view_memory_grow, view_memory_size, view_nop, view_numeric, view_return, view_select, view_store, view_unreachable}
 use Rattle.wasm_steps.specs.Plain.{fails_unreachable}
 use Rattle.wasm_soundness.proofs.Plain.{no_float_memory, no_float_const, no_float_plain}
 use Rattle.wasm_soundness.proofs.Branches.{br_on}

@@ -1,6 +1,6 @@
 use Rattle.std.proofs.Common.{rules, ◌≡◌, ℤ, ℕ, List, ◌++◌, length, take, drop, reverse, w64, SFits, ap, ◌∙◌, subst}
 use Rattle.std.proofs.lemmas.Int.{to_z-of_z}
-use Rattle.wasm_module.specs.declared.values.types.FuncType.{FuncType}
+use Rattle.wasm_values.specs.declared.types.FuncType.{FuncType}
 use Rattle.wasm_steps.specs.Steps.{answered}
 use Rattle.wasm_stack.specs.Held.{Held, without}
 use Rattle.wasm_stack.specs.Standing.{held}

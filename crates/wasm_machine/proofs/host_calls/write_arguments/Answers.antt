@@ -2,7 +2,7 @@ use Rattle.std.proofs.Common.{rules, ℤ, List, w64, SFits, ◌≡◌, ◌+◌, 
 use mir.Val.{to_z, of_z}
 use Rattle.std.proofs.lemmas.Int.{to_z-of_z}
 use Rattle.std.proofs.lemmas.List.{length_push}
-use Rattle.wasm_module.specs.declared.values.types.ValType.TheVariants.{I32}
+use Rattle.wasm_values.specs.declared.types.ValType.TheVariants.{I32}
 use Rattle.wasm_soundness.proofs.Values.{values_length}
 use Rattle.wasm_machine.proofs.Arguments.{arguments_more, value_here, arguments_end}
 use Rattle.wasm_machine.proofs.host_calls.write_arguments.Goals as goal

@@ -1,6 +1,6 @@
 use Rattle.std.proofs.Common.{refl, ◌∙◌, arith}
-use Rattle.wasm_module.specs.values.Syntax.{next}
-use Rattle.wasm_module.specs.values.View.{instr_view}
+use Rattle.wasm_values.specs.Syntax.{next}
+use Rattle.wasm_values.specs.View.{instr_view}
 use Rattle.wasm_steps.specs.Runs.{no_step, one_more}
 use Rattle.wasm_stack.specs.Standing.{held}
 use Rattle.wasm_stack.specs.View.{ops_at}

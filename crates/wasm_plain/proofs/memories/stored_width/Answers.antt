@@ -1,7 +1,7 @@
 use Rattle.std.proofs.Common.{◌≡◌, Some, sym, ◌∙◌, arith}
 use Rattle.std.proofs.lemmas.Bool.Decides.{nat_tests}
-use Rattle.wasm_validate.specs.inner.Ranges.{store_by_bounds}
-use Rattle.wasm_validate.proofs.Ranges.{store_is}
+use Rattle.wasm_typing.specs.inner.Ranges.{store_by_bounds}
+use Rattle.wasm_typing.proofs.Ranges.{store_is}
 use Rattle.wasm_plain.proofs.memories.stored_width.Goals as goal
 
 pub returns-in-58-clause-access : goal.returns-in-58-clause-access

@@ -1,5 +1,5 @@
 use Rattle.std.proofs.Common.{◌≡◌, ℕ, sym, subst, inl, inr, arith}
-use Rattle.wasm_module.specs.values.Syntax.{numeric}
+use Rattle.wasm_values.specs.Syntax.{numeric}
 use Rattle.wasm_steps.specs.Program.{Store}
 use Rattle.wasm_stack.specs.Standing.{held}
 use Rattle.wasm_plain.specs.Done.{IsNext, IsRun}

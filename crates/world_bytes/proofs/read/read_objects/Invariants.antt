@@ -1,6 +1,6 @@
 use Rattle.std.proofs.Common.{◌≡◌, ◌+◌, length}
 use Rattle.std.specs.List.{AllByRecursion}
-use Rattle.object_store.specs.Tables.{IsRising}
+use Rattle.room_table.specs.Tables.{IsRising}
 use Rattle.world_bytes.specs.Forms.{HasObjectForm}
 use Rattle.world_bytes.specs.inner.Rows.{objects_row}
 use Rattle.world_bytes.proofs.read.read_objects.Given as goal

@@ -1,4 +1,4 @@
-use Rattle.wasm_module.specs.sections.Sections.{module_view}
+use Rattle.wasm_module.specs.Sections.{module_view}
 use Rattle.world_gen.proofs.Streamed.{shortest_of, shortest_once}
 use Rattle.world_gen.proofs.stream.module_text.Goals as goal
 

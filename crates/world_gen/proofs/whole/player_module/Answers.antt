@@ -1,5 +1,5 @@
 use Rattle.std.proofs.Common.{refl, ◌∙◌, None}
-use Rattle.wasm_module.specs.declared.sections.module.Module.{Module}
+use Rattle.wasm_module.specs.declared.module.Module.{Module}
 use Rattle.world_gen.proofs.Wholes.{module_whole}
 use Rattle.world_gen.proofs.whole.player_module.Goals as goal
 

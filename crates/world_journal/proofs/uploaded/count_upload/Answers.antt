@@ -1,7 +1,7 @@
 use Rattle.std.proofs.Common.{ltb, rules, tests, arith, ap, ◌∙◌}
 use Rattle.std.proofs.lemmas.List.{get_or_default}
 use Rattle.std.proofs.lemmas.List.Sorted.{IsPartitionPoint-from_clause, IsPartitionedBy-ltb}
-use Rattle.object_store.proofs.Rising.{non_decreasing, parted, place_from_tests}
+use Rattle.room_table.proofs.Rising.{non_decreasing, parted, place_from_tests}
 use Rattle.world_journal.proofs.Counts.{counted_absent, counted_at, counted_here, counted_player}
 use Rattle.world_journal.proofs.uploaded.count_upload.Goals as goal
 use Rattle.world_journal.proofs.uploaded.count_upload.Goals.{else-place-counts-via-then-place-counts+else-counts-place, else-place-counts-via-else-place-counts}

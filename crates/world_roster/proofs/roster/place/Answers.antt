@@ -1,6 +1,6 @@
 use Rattle.std.proofs.Common.{ltb, rules, tests}
 use Rattle.std.proofs.lemmas.List.Sorted.{IsPartitionPoint-from_clause, IsPartitionedBy-ltb}
-use Rattle.object_store.proofs.Rising.{non_decreasing, place_from_tests}
+use Rattle.room_table.proofs.Rising.{non_decreasing, place_from_tests}
 use Rattle.world_roster.specs.Rosters.{id_in}
 use Rattle.world_roster.proofs.roster.place.Goals as goal
 

@@ -2,7 +2,7 @@ use Rattle.std.proofs.Common.{Some, sym, ap, ◌∙◌, option_map, refl}
 use Rattle.std.proofs.lemmas.Bool.{both_ways, ltb-true}
 use Rattle.std.proofs.lemmas.List.{get_or_default}
 use Rattle.std.specs.Option.{is_some}
-use Rattle.object_store.proofs.Rising.{find-at, absent_there}
+use Rattle.room_table.proofs.Rising.{find-at, absent_there}
 use Rattle.world_rules.specs.World.{shown}
 use Rattle.world_roster.specs.Rosters.{id_in}
 use Rattle.world_roster.proofs.roster.standing_of.Goals as goal

@@ -5,7 +5,7 @@ use Rattle.std.specs.Cmp.{nat_cmp_total}
 use Rattle.std.specs.List.{filter, find as first_that, list_any}
 use Rattle.std.specs.FinMap.{find, put, get-from_entries, is_sorted}
 use Rattle.room_terrain.specs.declared.terrain.Ground.TheVariants.{Plain, Swamp, Wall}
-use Rattle.object_store.specs.declared.object.Object.{Object}
+use Rattle.room_table.specs.declared.object.Object.{Object}
 use Rattle.world_rules.specs.World.{Placed, Frame}
 use Rattle.game_tables.specs.Kinds.{is_creep}
 use Rattle.world_rules.specs.Crossings.{Place, NamedTile, mirrored, same_name, place_of, beyond, is_open_in, may_enter, with_place, with_object_on, crossed_to, crossed_by, crossed_over, is_crosser, rested, all_rested, crossed}

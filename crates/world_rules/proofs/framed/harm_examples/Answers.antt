@@ -7,7 +7,7 @@ use Rattle.std.specs.Option.{option_to_list}
 use Rattle.std.specs.FinMap.{find, get, from_entries, get-from_entries, is_sorted}
 use Rattle.game_tables.specs.declared.action.Action.{Action}
 use Rattle.game_tables.specs.declared.action.Action.TheVariants.{Attack, RangedAttack}
-use Rattle.object_store.specs.declared.object.Object.{Object}
+use Rattle.room_table.specs.declared.object.Object.{Object}
 use Rattle.intent_book.specs.declared.intent.Intent.{Intent}
 use Rattle.world_rules.specs.World.{Placed, Frame, World, stands_in}
 use Rattle.world_rules.specs.RoomParts.{RoomPart, standing_in, part_of, part_at, placed_in, with_part, in_frame, in_room}

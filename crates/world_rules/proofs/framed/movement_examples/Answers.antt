@@ -4,7 +4,7 @@ use Rattle.std.specs.Ordering.{nat_cmp}
 use Rattle.std.specs.Cmp.{nat_cmp_total}
 use Rattle.std.specs.List.{filter, find as first_that}
 use Rattle.std.specs.FinMap.{find, put, values, from_entries, get-from_entries, is_sorted}
-use Rattle.object_store.specs.declared.object.Object.{Object}
+use Rattle.room_table.specs.declared.object.Object.{Object}
 use Rattle.world_rules.specs.RoomParts.{RoomPart}
 use Rattle.world_rules.specs.Changes.{put as put_object, with_object}
 use Rattle.world_rules.specs.Steps.{by_object, over_ids, over_objects}

@@ -1,7 +1,7 @@
 use Rattle.std.proofs.Common.{◌≡◌, List, ℕ, sym, subst, ◌∙◌}
 use Rattle.world_form.specs.Files.{HasFault, WorldForm}
 use Rattle.world_io.specs.Told.{GaveAll}
-use Rattle.world_run.proofs.Checked.{gave_whole}
+use Rattle.world_run.proofs.Gave.{gave_whole}
 use Rattle.world_run.proofs.Starting.{may_start}
 use Rattle.world_run.proofs.WorldFaults.{fault_read, fault_memory}
 use Rattle.world_run.proofs.inputs.load_world.Goals as goal

@@ -5,7 +5,7 @@ use Rattle.world_io.specs.Told.{GaveAll}
 use Rattle.object_store.specs.Stored.{Stored}
 use Rattle.upload_stream.specs.Streams.{UploadList}
 use Rattle.world_run.specs.Runs.{Stood}
-use Rattle.world_run.proofs.Checked.{gave_whole}
+use Rattle.world_run.proofs.Gave.{gave_whole}
 use Rattle.world_run.proofs.Worldly.{file_read}
 use Rattle.world_run.proofs.run.run_stored.Goals as goal
 

@@ -4,8 +4,8 @@ use Rattle.std.proofs.lemmas.List.{get_or_default}
 use Rattle.std.specs.Option.{is_some}
 use Rattle.object_store.specs.declared.account.Account.{Account}
 use Rattle.object_store.specs.Stored.{Stored, find_account}
-use Rattle.object_store.proofs.Keyed.{player_of, rises_from_accounts}
-use Rattle.object_store.proofs.Rising.{find-at, absent_there}
+use Rattle.object_store.proofs.Accounts.{player_of, rises_from_accounts}
+use Rattle.room_table.proofs.Rising.{find-at, absent_there}
 use Rattle.object_store.proofs.world.World.account.Goals as goal
 use Rattle.object_store.proofs.world.World.account.Goals.{in_default-via-in-Some+else-account-player, in_default-via-in_default}
 

@@ -1,8 +1,8 @@
 use Rattle.std.proofs.Common.{length, sym, ap, subst, refl, arith, length-set}
 use Rattle.object_store.specs.declared.account.Account.{Account}
 use Rattle.object_store.specs.Stored.{Stored, HasAccount}
-use Rattle.object_store.proofs.Keyed.{player_of, rises_from_accounts, accounts_from_rises}
-use Rattle.object_store.proofs.Rising.{Rises, replaced_there, rises-replaced}
+use Rattle.object_store.proofs.Accounts.{player_of, rises_from_accounts, accounts_from_rises}
+use Rattle.room_table.proofs.Rising.{Rises, replaced_there, rises-replaced}
 use Rattle.object_store.proofs.world.World.set_account.Goals as goal
 
 pub index_mut-requires : goal.index_mut-requires

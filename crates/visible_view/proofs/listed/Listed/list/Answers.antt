@@ -1,5 +1,5 @@
 use Rattle.std.proofs.Common.{ℕ, ◌≡◌, map, List, [], ◌∷◌, refl, sym, ap, ◌∙◌}
-use Rattle.object_store.specs.declared.standing.Standing.{Standing}
+use Rattle.room_table.specs.declared.standing.Standing.{Standing}
 use Rattle.world_rules.specs.World.{Placed, shown}
 use Rattle.world_roster.specs.Rosters.{shown_entry}
 use Rattle.visible_view.specs.inner.Places.{all_of}

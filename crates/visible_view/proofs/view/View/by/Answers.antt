@@ -6,7 +6,7 @@ use Rattle.std.proofs.lemmas.List.{length-map}
 use Rattle.object_store.specs.declared.account.Account.{Account}
 use Rattle.object_store.specs.declared.world.Room.{Room}
 use Rattle.object_store.specs.Stored.{find_account}
-use Rattle.object_store.proofs.Rising.{Rises}
+use Rattle.room_table.proofs.Rising.{Rises}
 use Rattle.world_rules.specs.World.{Objects, Placed, shown, world_of}
 use Rattle.world_roster.specs.Rosters.{shown_entry}
 use Rattle.visible_view.specs.inner.Gathered.{is_controller_of, is_flagged, is_seen, is_site_of, shown_room, IsGathered}

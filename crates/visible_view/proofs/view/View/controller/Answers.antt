@@ -1,7 +1,7 @@
 use Rattle.std.proofs.Common.{Bor, ◌==◌, option_map, sym, ap, ◌∙◌}
 use Rattle.std.specs.List.{find}
-use Rattle.object_store.specs.Controllers.{controller_among}
-use Rattle.object_store.specs.declared.object.Object.{Object}
+use Rattle.room_table.specs.Controllers.{controller_among}
+use Rattle.room_table.specs.declared.object.Object.{Object}
 use Rattle.visible_view.specs.Sights.{Sight}
 use Rattle.visible_view.specs.inner.Gathered.{index_in}
 use Rattle.visible_view.specs.declared.gather.RoomInView.{RoomInView}

@@ -1,7 +1,7 @@
 use Rattle.std.proofs.Common.{Bor, ◌==◌, Option, Some, option_map, [], sym, ap, ◌∙◌}
 use Rattle.std.specs.List.{find}
 use Rattle.std.specs.Option.{unwrap_or}
-use Rattle.object_store.specs.declared.room_table.RoomTable.{RoomTable}
+use Rattle.room_table.specs.declared.room_table.RoomTable.{RoomTable}
 use Rattle.visible_view.specs.Sights.{SeenRoom, Sight}
 use Rattle.visible_view.specs.Fields.{objects_at}
 use Rattle.visible_view.specs.inner.Gathered.{shown_room, index_in}

@@ -1,7 +1,7 @@
 use Rattle.std.proofs.lemmas.Result.{on_ok_weaker}
-use Rattle.wasm_module.specs.values.Spelling.{Then, SpellsList}
-use Rattle.wasm_module.specs.sections.Entries.{SpellsLocalRun, code_view}
-use Rattle.wasm_module.specs.values.Instructions.{SpellsExpression}
+use Rattle.wasm_values.specs.Spelling.{Then, SpellsList}
+use Rattle.wasm_module.specs.Entries.{SpellsLocalRun, code_view}
+use Rattle.wasm_values.specs.Instructions.{SpellsExpression}
 use Rattle.wasm_encode.proofs.Numbers.{content_shortest, sized_below, gains_sized}
 use Rattle.wasm_encode.proofs.entries.CodeEntryWritten.put.Goals as goal
 

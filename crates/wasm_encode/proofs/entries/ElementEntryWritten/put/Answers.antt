@@ -1,8 +1,8 @@
 use Rattle.std.proofs.lemmas.Result.{on_ok_weaker}
 use Rattle.std.proofs.lemmas.List.{map-id}
-use Rattle.wasm_module.specs.values.Spelling.{Then, SpellsU32, SpellsList}
-use Rattle.wasm_module.specs.values.Instructions.{SpellsExpression}
-use Rattle.wasm_module.specs.values.View.{instrs_view}
+use Rattle.wasm_values.specs.Spelling.{Then, SpellsU32, SpellsList}
+use Rattle.wasm_values.specs.Instructions.{SpellsExpression}
+use Rattle.wasm_values.specs.View.{instrs_view}
 use Rattle.wasm_encode.proofs.Shortest.{gains_then, second_spelled}
 use Rattle.wasm_encode.proofs.entries.ElementEntryWritten.put.Goals as goal
 

@@ -1,5 +1,5 @@
 use Rattle.std.proofs.lemmas.Result.{on_ok_weaker}
-use Rattle.wasm_module.specs.values.Values.{SpellsName, SpellsExportDesc}
+use Rattle.wasm_values.specs.Values.{SpellsName, SpellsExportDesc}
 use Rattle.wasm_encode.proofs.Shortest.{gains_then}
 use Rattle.wasm_encode.proofs.entries.ExportEntryWritten.put.Goals as goal
 

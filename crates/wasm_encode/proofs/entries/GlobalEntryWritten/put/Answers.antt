@@ -1,7 +1,7 @@
 use Rattle.std.proofs.lemmas.Result.{on_ok_weaker}
-use Rattle.wasm_module.specs.values.Values.{SpellsGlobalType}
-use Rattle.wasm_module.specs.values.Instructions.{SpellsExpression}
-use Rattle.wasm_module.specs.values.View.{instrs_view}
+use Rattle.wasm_values.specs.Values.{SpellsGlobalType}
+use Rattle.wasm_values.specs.Instructions.{SpellsExpression}
+use Rattle.wasm_values.specs.View.{instrs_view}
 use Rattle.wasm_encode.proofs.Shortest.{gains_then}
 use Rattle.wasm_encode.proofs.entries.GlobalEntryWritten.put.Goals as goal
 

@@ -1,6 +1,6 @@
 use Rattle.std.proofs.lemmas.Result.{on_ok_weaker}
-use Rattle.wasm_module.specs.values.Spelling.{Then}
-use Rattle.wasm_module.specs.values.Values.{SpellsName, SpellsImportDesc}
+use Rattle.wasm_values.specs.Spelling.{Then}
+use Rattle.wasm_values.specs.Values.{SpellsName, SpellsImportDesc}
 use Rattle.wasm_encode.proofs.Shortest.{gains_then}
 use Rattle.wasm_encode.proofs.entries.ImportEntryWritten.put.Goals as goal
 

@@ -1,7 +1,7 @@
 use Rattle.std.proofs.lemmas.Result.{on_ok_weaker}
-use Rattle.wasm_module.specs.values.Spelling.{Then, SpellsU32, SpellsBytes}
-use Rattle.wasm_module.specs.values.Instructions.{SpellsExpression}
-use Rattle.wasm_module.specs.values.View.{instrs_view}
+use Rattle.wasm_values.specs.Spelling.{Then, SpellsU32, SpellsBytes}
+use Rattle.wasm_values.specs.Instructions.{SpellsExpression}
+use Rattle.wasm_values.specs.View.{instrs_view}
 use Rattle.wasm_encode.proofs.Numbers.{u32_below}
 use Rattle.wasm_encode.proofs.Shortest.{gains_then, second_spelled}
 use Rattle.wasm_encode.proofs.Types.{bytes_below}

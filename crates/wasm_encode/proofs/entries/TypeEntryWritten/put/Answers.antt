@@ -1,7 +1,7 @@
 use Rattle.std.proofs.lemmas.Result.{on_ok_weaker}
 use Rattle.std.proofs.lemmas.List.{map-id}
-use Rattle.wasm_module.specs.values.Spelling.{Then, SpellsMark, SpellsList}
-use Rattle.wasm_module.specs.values.Values.{SpellsValType, SpellsResult}
+use Rattle.wasm_values.specs.Spelling.{Then, SpellsMark, SpellsList}
+use Rattle.wasm_values.specs.Values.{SpellsValType, SpellsResult}
 use Rattle.wasm_encode.proofs.Shortest.{gains_then, gains_mark, first_spelled, second_spelled}
 use Rattle.wasm_encode.proofs.entries.TypeEntryWritten.put.Goals as goal
 

@@ -1,7 +1,7 @@
 use Rattle.std.proofs.Common.{◌<◌, ◌∙◌, subst, sym, ap, length, map, arith}
 use Rattle.std.proofs.lemmas.List.{length-map}
-use Rattle.wasm_module.specs.sections.Sections.{module_view}
-use Rattle.wasm_module.specs.declared.sections.module.Module.{Module}
+use Rattle.wasm_module.specs.Sections.{module_view}
+use Rattle.wasm_module.specs.declared.module.Module.{Module}
 use Rattle.wasm_link.specs.Kept.{Kept, link_view}
 use Rattle.wasm_link.specs.Made.{function_of}
 use Rattle.wasm_link.proofs.Each.{read_at}

@@ -1,6 +1,6 @@
 use Rattle.std.proofs.Common.{subst}
-use Rattle.wasm_module.specs.sections.Sections.{module_view}
-use Rattle.wasm_validate.specs.typing.Context.{module_context}
+use Rattle.wasm_module.specs.Sections.{module_view}
+use Rattle.wasm_typing.specs.Context.{module_context}
 use Rattle.wasm_soundness.specs.Typed.{IsTypedProgram}
 use Rattle.wasm_link.specs.Callee.{IsEntry}
 use Rattle.wasm_link.specs.Kept.{Kept, link_view}

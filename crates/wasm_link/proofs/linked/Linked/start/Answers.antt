@@ -1,6 +1,6 @@
 use Rattle.std.proofs.Common.{subst, sym, ap, IfSome, Option, ℕ}
-use Rattle.wasm_module.specs.sections.Sections.{module_view}
-use Rattle.wasm_module.specs.declared.sections.module.Module.{Module}
+use Rattle.wasm_module.specs.Sections.{module_view}
+use Rattle.wasm_module.specs.declared.module.Module.{Module}
 use Rattle.wasm_link.specs.Callee.{IsEntry}
 use Rattle.wasm_link.specs.Kept.{Kept, link_view}
 use Rattle.wasm_link.specs.Made.{program_of}

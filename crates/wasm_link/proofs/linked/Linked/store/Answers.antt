@@ -1,9 +1,9 @@
 use Rattle.std.proofs.Common.{◌≡◌, ◌∙◌, ap, sym, subst, length, List, All}
-use Rattle.wasm_module.specs.sections.Sections.{module_view}
-use Rattle.wasm_module.specs.declared.sections.module.Module.{Module}
-use Rattle.wasm_module.specs.declared.values.types.Bounds.{Bounds}
+use Rattle.wasm_module.specs.Sections.{module_view}
+use Rattle.wasm_module.specs.declared.module.Module.{Module}
+use Rattle.wasm_values.specs.declared.types.Bounds.{Bounds}
 use Rattle.wasm_steps.specs.Program.{Store}
-use Rattle.wasm_validate.specs.typing.Context.{module_context}
+use Rattle.wasm_typing.specs.Context.{module_context}
 use Rattle.wasm_soundness.specs.Typed.{IsTypedStore}
 use Rattle.wasm_link.specs.Kept.{Kept, link_view}
 use Rattle.wasm_link.specs.Linking.{first_memory, first_store, table_size}

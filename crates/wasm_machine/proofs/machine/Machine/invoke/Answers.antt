@@ -1,6 +1,6 @@
 use Rattle.std.proofs.Common.{◌≡◌, Some, slice_get, ap, ◌∙◌}
-use Rattle.wasm_module.specs.values.Syntax.{Ops}
-use Rattle.wasm_module.specs.values.View.{items_view}
+use Rattle.wasm_values.specs.Syntax.{Ops}
+use Rattle.wasm_values.specs.View.{items_view}
 use Rattle.wasm_steps.specs.Program.{defined}
 use Rattle.wasm_stack.specs.Held.{running}
 use Rattle.wasm_stack.specs.Standing.{held}

@@ -1,5 +1,5 @@
 use Rattle.std.proofs.Common.{◌≡◌, ℕ, ◌-◌, Bool, true, false, List, ◌++◌, ◌∷◌, [], length, reverse, sym, ap, ◌∙◌, subst, arith}
-use Rattle.wasm_module.specs.values.Syntax.{Ops, no_ops}
+use Rattle.wasm_values.specs.Syntax.{Ops, no_ops}
 use Rattle.wasm_steps.specs.Threads.{Leaves}
 use Rattle.call_frames.specs.Stack as frames
 use Rattle.wasm_stack.specs.Held.{running, IsAtEnd}

@@ -1,5 +1,5 @@
 use Rattle.std.proofs.Common.{reverse, sym, ap, ◌∙◌}
-use Rattle.wasm_module.specs.values.Syntax.{no_ops}
+use Rattle.wasm_values.specs.Syntax.{no_ops}
 use Rattle.wasm_steps.specs.Threads.{size}
 use Rattle.wasm_stack.specs.Held.{running}
 use Rattle.wasm_stack.specs.Standing.{Standing, held}

@@ -1,5 +1,5 @@
 use Rattle.std.proofs.Common.{◌-◌, List}
-use Rattle.object_store.specs.inner.Ordered.{Rises}
+use Rattle.room_table.specs.inner.Ordered.{Rises}
 use Rattle.tick_journal.specs.declared.tick_record.TickRecord.{TickRecord}
 use Rattle.world_journal.specs.inner.Uploads.{HasUploaded, uploads_in}
 use Rattle.world_journal.specs.inner.Found.{IsReading}

@@ -4,7 +4,7 @@ use Rattle.world_journal.specs.inner.Counting.{counted}
 use Rattle.world_journal.proofs.Counts.{counts_more, counted_player, rises_counted}
 use Rattle.world_journal.proofs.Modules.{modules_kept, modules_put, modules_stay}
 use Rattle.world_journal.proofs.uploaded.Uploaded.add.Goals as goal
-use Rattle.object_store.specs.inner.Ordered.{Rises}
+use Rattle.room_table.specs.inner.Ordered.{Rises}
 
 pub returns-in_ok-insert-clause-added : goal.returns-in_ok-insert-clause-added
 returns-in_ok-insert-clause-added c = λ accounts uploads has.

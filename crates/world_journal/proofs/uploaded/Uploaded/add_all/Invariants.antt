@@ -1,6 +1,6 @@
 use Rattle.std.proofs.Common.{List, ◌++◌}
 use Rattle.object_store.specs.declared.account.Account.{Account}
-use Rattle.object_store.specs.inner.Ordered.{Rises}
+use Rattle.room_table.specs.inner.Ordered.{Rises}
 use Rattle.tick_journal.specs.declared.entries.UploadEntry.{UploadEntry}
 use Rattle.world_journal.specs.inner.Uploads.{HasUploaded}
 use Rattle.world_journal.proofs.uploaded.Uploaded.add_all.Given as goal

@@ -1,5 +1,5 @@
 use Rattle.std.proofs.Common.{subst, sym}
-use Rattle.object_store.specs.inner.Ordered.{Rises}
+use Rattle.room_table.specs.inner.Ordered.{Rises}
 use Rattle.world_journal.proofs.Counts.{counted_player, rising_none}
 use Rattle.world_journal.proofs.uploaded.Uploaded.none.Goals as goal
 

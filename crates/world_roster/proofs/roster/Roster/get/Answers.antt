@@ -1,7 +1,7 @@
 use Rattle.std.proofs.Common.{List, map, sym, ap, ◌∙◌}
 use Rattle.std.specs.Cmp.{nat_cmp_total}
 use Rattle.std.specs.FinMap.{get, get-from_entries}
-use Rattle.object_store.specs.declared.standing.Standing.{Standing}
+use Rattle.room_table.specs.declared.standing.Standing.{Standing}
 use Rattle.world_rules.specs.World.{Objects}
 use Rattle.world_roster.specs.Rosters.{shown_entry}
 use Rattle.world_roster.specs.inner.Listed.{standing_at}

@@ -1,8 +1,0 @@
-use Rattle.std.proofs.Common.{◌∙◌, ◌||◌}
-use Rattle.object_store.proofs.Obstructed.{any_kind}
-use Rattle.object_store.proofs.room_table.RoomTable.obstructed.Goals as goal
-
-pub returns : goal.returns
-returns c =
-    (λ i. (((c.stands.ensures i || c.stands-2.ensures i) || c.stands-3.ensures i) || c.stands-4.ensures i) || c.stands-5.ensures i)
-    ∙ any_kind c.args.x c.args.y c.args.player c.args.self.now.objects

@@ -1,7 +1,0 @@
-use Rattle.std.proofs.Common.{◌≡◌, ℕ, ◌<◌, get_or}
-use Rattle.object_store.specs.Tallies.{no_tally}
-use Rattle.object_store.specs.declared.tally.Tally.{Tally}
-use Rattle.object_store.proofs.slots.clear.Given as goal
-
-abbrev pub invariant-loop-tally : goal.invariant-loop-tally
-invariant-loop-tally l = (k : ℕ) (d : Tally) → k < l.tally-index → get_or l.tallies k d ≡ no_tally

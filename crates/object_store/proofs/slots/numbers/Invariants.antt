@@ -1,6 +1,0 @@
-use Rattle.std.proofs.Common.{◌≡◌, ◌≤◌, vec_capacity}
-use Rattle.std.specs.List.{range_with_len}
-use Rattle.object_store.proofs.slots.numbers.Given as goal
-
-abbrev pub invariant-loop-slot : goal.invariant-loop-slot
-invariant-loop-slot l = (l.order.items ≡ range_with_len 0 l.slot) × (l.room ≤ vec_capacity l.order)

@@ -1,6 +1,0 @@
-use Rattle.std.proofs.Common.{◌≡◌, ◌≤◌, replicate, vec_capacity}
-use Rattle.object_store.specs.Tallies.{no_tally}
-use Rattle.object_store.proofs.slots.untallied.Given as goal
-
-abbrev pub invariant-loop-i : goal.invariant-loop-i
-invariant-loop-i l = (l.tallies.items ≡ replicate l._i no_tally) × (l.count ≤ vec_capacity l.tallies)

@@ -1,0 +1,16 @@
+pub mod Owned
+pub mod Chained
+pub mod Searched
+pub mod Placed
+pub mod Changed
+pub mod Kept
+pub mod OnTiles
+pub mod NextOnTile
+pub mod Tallied
+pub mod TallyChanges
+pub mod Obstructed
+pub mod Rising
+pub mod Keyed
+pub mod Moved
+pub mod Capped
+pub mod Greatest

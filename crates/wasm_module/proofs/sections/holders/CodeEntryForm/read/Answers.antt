@@ -1,4 +1,0 @@
-use Rattle.wasm_module.proofs.sections.holders.CodeEntryForm.read.Goals as goal
-
-pub returns-clause-only : goal.returns-clause-only
-returns-clause-only g c = rw c.code.ensures c.in_ok-locals.ensures.only

@@ -1,0 +1,12 @@
+pub mod Stacks
+pub mod Images
+pub mod Instructions
+pub mod Lists
+pub mod Seen
+pub mod Applied
+pub mod Ranges
+pub mod Entries
+pub mod Ends
+pub mod Parts
+pub mod Imported
+pub mod Gathered

@@ -1,0 +1,14 @@
+use Rattle.std.proofs.Common.{sym, [], ◌∷◌}
+use Rattle.wasm_values.specs.Syntax.{local_tee}
+use Rattle.wasm_typing.specs.Typing.{local_tee_typed}
+use Rattle.wasm_typing.specs.inner.Scopes.{scope_view}
+use Rattle.wasm_typing.proofs.Images.{never}
+use Rattle.wasm_typing.proofs.Applied.{any_applied}
+use Rattle.wasm_typing.proofs.Instructions.{only_local_tee, no_local_tee}
+use Rattle.wasm_typing.proofs.variables.local_tee.Goals as goal
+
+pub returns-in_default : goal.returns-in_default
+returns-in_default c = λ labels. never _ (no_local_tee (sym c.in_default.ensures))
+
+pub returns : goal.returns
+returns c = any_applied c.apply.result (scope_view c.args.scope.now) (local_tee c.args.index) (c.in-Some.value ∷ []) (c.in-Some.value ∷ []) c.args.operands.now c.apply.new.self (λ labels. local_tee_typed (sym c.in-Some.ensures)) (λ labels. only_local_tee (sym c.in-Some.ensures)) c.apply.ensures

@@ -1,5 +1,0 @@
-use Rattle.wasm_validate.proofs.Applied.{aligned}
-use Rattle.wasm_validate.proofs.typing.memories.allows.Goals as goal
-
-pub returns-then-has_memory : goal.returns-then-has_memory
-returns-then-has_memory c = aligned c.args.align c.args.access.power c.if-has_memory.ensures

@@ -1,4 +1,0 @@
-use Rattle.wasm_validate.proofs.typing.operands.joined.Goals as goal
-
-pub returns-in-None : goal.returns-in-None
-returns-in-None c = λ t. rw c.in-None.is (λ f. (tt, f), λ _ f. f)

@@ -1,3 +1,0 @@
--- The rules of whole modules.
-pub mod Modules
-pub mod Floats

@@ -1,0 +1,16 @@
+pub mod Fronts
+pub mod Lists
+pub mod Tags
+pub mod Spelled
+pub mod Groups
+pub mod Opcodes
+pub mod Fixed
+pub mod Views
+pub mod Bodies
+pub mod Nests
+pub mod Sizes
+pub mod Results
+pub mod Wholes
+pub mod Once
+pub mod OnceOps
+pub mod Opens

@@ -1,0 +1,9 @@
+pub mod formers
+pub mod Spelling
+pub mod Syntax
+pub mod View
+pub mod Values
+pub mod Opcodes
+pub mod Instructions
+pub mod Nesting
+pub mod inner

@@ -1,0 +1,4 @@
+pub mod Checks
+pub mod Made
+pub mod Shown
+pub mod inner
