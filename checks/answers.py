@@ -52,9 +52,6 @@ RUNS = {
     "kept_entries::no_intents_by_room": "program.py",
     "object_store::Bytes::of": "desk.py",
     "object_store::Bytes::push": "desk.py",
-    "object_store::RoomTable::copy": "rooms.py",
-    "object_store::RoomTable::of": "program.py",
-    "object_store::RoomTable::reserve": "fights.py",
     "object_store::World::push_account": "program.py",
     "object_store::World::push_room": "program.py",
     "player_run::admit": "program.py",
@@ -73,6 +70,9 @@ RUNS = {
     "room_step::all_intents": "rooms.py",
     "room_step::next_world": "rooms.py",
     "room_step::step_taken": "rooms.py",
+    "room_table::RoomTable::copy": "rooms.py",
+    "room_table::RoomTable::of": "program.py",
+    "room_table::RoomTable::reserve": "fights.py",
     "room_terrain::Terrain::of": "program.py",
     "rule_check::first_broken": "world_files.py",
     "rule_check::keeps_room_rules": "journals.py",
@@ -90,15 +90,31 @@ RUNS = {
     "wasm_link::Linked::store": "desk.py",
     "wasm_machine::Machine::new": "desk.py",
     "wasm_machine::Machine::run": "desk.py",
-    "wasm_module::Entries::of": "modules.py",
-    "wasm_module::Entries::push": "modules.py",
-    "wasm_module::Instrs::push": "modules.py",
     "wasm_module::decode": "modules.py",
     "wasm_stack::Stack::new": "desk.py",
     "wasm_store::FuncTable::new": "desk.py",
     "wasm_store::GlobalValues::new": "desk.py",
     "wasm_store::Pages::new": "desk.py",
+    "wasm_typing::Context::of": "modules.py",
+    "wasm_typing::is_function": "modules.py",
     "wasm_validate::validate": "modules.py",
+    "wasm_values::Entries::of": "modules.py",
+    "wasm_values::Entries::push": "modules.py",
+    "wasm_values::Instrs::push": "modules.py",
+    "wasm_values::blob": "modules.py",
+    "wasm_values::bounds": "modules.py",
+    "wasm_values::counted": "modules.py",
+    "wasm_values::entries": "modules.py",
+    "wasm_values::export_desc": "modules.py",
+    "wasm_values::global_type": "modules.py",
+    "wasm_values::import_desc": "modules.py",
+    "wasm_values::indices": "modules.py",
+    "wasm_values::inner": "modules.py",
+    "wasm_values::mark": "modules.py",
+    "wasm_values::name": "modules.py",
+    "wasm_values::skim_expression": "modules.py",
+    "wasm_values::table_type": "modules.py",
+    "wasm_values::val_type": "modules.py",
     "run_lines::later_lines": "program.py",
     "run_lines::start_line": "program.py",
     "run_status::Status::fault_line": "program.py",
@@ -193,9 +209,9 @@ def exported(text):
 
 
 def variants(texts):
-    """The answers of each enum that has one for want of memory, but for that one."""
+    """The answers of each enum that has one for want of memory, but for that one, by its crate and name."""
     found = {}
-    for text in texts.values():
+    for (crate, _), text in texts.items():
         for name, body in re.findall(r"^pub enum (\w+)[^{;]*\{\n(.*?)\n\}", text, re.M | re.S):
             plain, depth = "", 0
             for letter in re.sub(r"//.*", "", body):
@@ -203,13 +219,14 @@ def variants(texts):
                 plain += letter if depth == 0 else ""
             answers = re.findall(r"\b([A-Z]\w*)\b", plain)
             if "Memory" in answers:
-                found[name] = [it for it in answers if it != "Memory"]
+                found[crate, name] = [it for it in answers if it != "Memory"]
     return found
 
 
 def public_calls(texts):
     """The public calls that may want memory, each with its answers but that one."""
-    errors, found = variants(texts), {}
+    by_crate, found = variants(texts), {}
+    by_name = {name: answers for (_, name), answers in by_crate.items()}
     for (crate, file), text in texts.items():
         names = exported(texts[crate, "lib.rt"]) if (crate, "lib.rt") in texts else set()
         owners = [(it.start(), it[1]) for it in re.finditer(r"^impl(?:<[^>]*>)? (\w+)(?:<[^>]*>)? \{", text, re.M)]
@@ -219,9 +236,10 @@ def public_calls(texts):
             if not answer or (owner or it[2]) not in names:
                 continue
             error = re.split(r",\s*", answer[1])[-1]
-            if error in FREE or error in errors:
+            if error in FREE or error in by_name:
                 call = f"{crate}::{owner}::{it[2]}" if owner else f"{crate}::{it[2]}"
-                found[call] = ["Ok", *(it for it in errors.get(error, []) if it not in NEVER.get(call, ()))]
+                answers = by_crate.get((crate, error), by_name.get(error, []))
+                found[call] = ["Ok", *(it for it in answers if it not in NEVER.get(call, ()))]
     return found
 
 
@@ -261,12 +279,15 @@ def tests_of(texts):
     return found
 
 
-def makes(call, text):
-    """A text makes the call."""
+def makes(crate, call, text):
+    """A text of the crate makes the call."""
     *_, name = call.split("::")
     owner = call.split("::")[1] if call.count("::") == 2 else None
     if owner and name not in COMMON and re.search(rf"\b{owner}\b", text) and f".{name}(" in text:
         return True
+    if not owner and call.split("::")[0] != crate and re.search(rf"\bfn {name}\b", text):
+        # (the text has a function of its own of this name)
+        return False
     return re.search(rf"\b{owner}::{name}\(" if owner else rf"(?<![\w.:]){name}\(", text) is not None
 
 
@@ -283,7 +304,7 @@ def met_by(call, answer, tests, may_make):
     found = [f"`checks/{script}`"] if script else []
     modules = collections.defaultdict(set)
     for (crate, file, _), text in tests.items():
-        if may_make(crate, call) and makes(call, text) and (answer == "Ok" or re.search(rf"\b{answer}\b", text)):
+        if may_make(crate, call) and makes(crate, call, text) and (answer == "Ok" or re.search(rf"\b{answer}\b", text)):
             modules[crate].add(file)
     found += [f"`{crate}` ({', '.join(sorted(files))})" if len(files) < 3 else f"`{crate}`" for crate, files in sorted(modules.items())]
     return found or ([f"`{THROUGH[call]}`, which makes it"] if call in THROUGH else [])

@@ -18,7 +18,7 @@ from module_texts import OPENING, rows  # noqa: E402
 from modules import leb  # noqa: E402
 
 checks = Checks(__file__)
-OTHERS = ("Invalid", "FloatRefused", "NoLoop")
+OTHERS = ("Invalid", "FloatRefused", "UnknownImport", "NoLoop")
 
 
 def answer_to(content):
@@ -137,13 +137,33 @@ def check_limits():
         ("65,536 entries", sections((4, b"\1\x70\0\x80\x80\4")), "spelled"),
         ("65,537 entries", sections((4, b"\1\x70\0\x81\x80\4")), "TooLarge"),
         ("two results", sections((1, b"\1\x60\0\2\x7f\x7f")), "Malformed"),
-        ("a table of something else", sections((4, b"\1\x6f\0\0")), "Malformed"),
-        ("a memory with another mark", sections((5, b"\1\2\0")), "Malformed"),
         ("half the opening", OPENING[:7], "Malformed"),
         ("another version", OPENING[:4] + b"\2\0\0\0", "Malformed"),
     ]
     for name, content, wanted in rows:
         check_refusal(name, content, wanted)
+
+
+def check_entries():
+    """The last section of each module has one entry: it is read, and with another byte in a place of it, or less of it, it is none."""
+    rows = [
+        ("a type", (1, b"\1\x60\1\x7f\1\x7e"), [("another mark", 1, 0x5F), ("a parameter of no type", 3, 0x7B), ("a result of no type", 5, 0x40)]),
+        ("an imported function", (2, b"\1\1a\1b\0\0"), [("names that are no text", 2, 0xFF), ("another kind", 5, 4), ("an index that goes on", 6, 0x80)]),
+        ("an imported table", (2, b"\1\0\0\1\x70\0\0"), [("of something else", 4, 0x6F), ("other limits", 5, 2)]),
+        ("an imported memory", (2, b"\1\0\0\2\1\0\1"), [("other limits", 4, 2), ("a greatest size that goes on", 6, 0x80)]),
+        ("an imported global", (2, b"\1\0\0\3\x7f\1"), [("of no type", 4, 0x40), ("another mark", 5, 2)]),
+        ("a table", (4, b"\1\x70\1\0\1"), [("of something else", 1, 0x6F), ("other limits", 2, 2)]),
+        ("a memory", (5, b"\1\0\0"), [("other limits", 1, 2)]),
+        ("a global", (6, b"\1\x7f\0\x41\0\x0b"), [("of no type", 1, 0x40), ("another mark", 2, 2), ("a value without end", 5, 1)]),
+        ("an export", (7, b"\1\1a\0\0"), [("a name that is no text", 2, 0xFF), ("another kind", 3, 4), ("an index that goes on", 4, 0x80)]),
+        ("elements", (9, b"\1\0\x41\0\x0b\1\0"), [("an offset without end", 4, 1), ("more than there are", 5, 2)]),
+        ("data", (11, b"\1\0\x41\0\x0b\1a"), [("an offset without end", 4, 1), ("more than there are", 5, 2), ("fewer than there are", 5, 0)]),
+    ]
+    for name, (number, content), changes in rows:
+        check_refusal(name, sections((number, content)), "spelled")
+        check_refusal(f"{name}, cut short", sections((number, content[:-1])), "Malformed")
+        for change, place, byte in changes:
+            check_refusal(f"{name}: {change}", sections((number, content[:place] + bytes([byte]) + content[place + 1 :])), "Malformed")
 
 
 # ---- which modules are valid
@@ -164,6 +184,7 @@ def main():
     check_sections()
     check_expressions()
     check_limits()
+    check_entries()
     check_validity()
     checks.finish()
 

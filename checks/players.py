@@ -167,7 +167,7 @@ def codes_in(text, names):
 def further_codes(text, names):
     """The codes of the further checks of each action, in their order. A check by a name is defined beside them; one that bars tiles
     is passed over, as long as no tile is barred."""
-    bars_none = re.search(r"^is_barred [\w ]+ = false$", text_of("crates/object_store/specs/Tables.antt"), re.M)
+    bars_none = re.search(r"^is_barred [\w ]+ = false$", text_of("crates/room_table/specs/Tables.antt"), re.M)
     further = {}
     for action, body in re.findall(r"^further_checks (\w+) scene =((?:[^\n]*)(?:\n    [^\n]*)*)", text, re.M):
         codes = []
@@ -519,8 +519,10 @@ def check_path(text, constants):
 
 
 def check_limits(text, header):
-    limits = "wasm_module/specs/sections/Limits.antt"
-    wanted = [MIB, *(defined_number(limits, name) for name in ("most_functions", "most_nesting", "most_locals", "most_pages_at_first", "most_entries_at_first"))]
+    limits, nesting = "wasm_module/specs/Limits.antt", "wasm_values/specs/Nesting.antt"
+    names = [(limits, "most_functions"), (nesting, "most_nesting")]
+    names += [(limits, name) for name in ("most_locals", "most_pages_at_first", "most_entries_at_first")]
+    wanted = [MIB, *(defined_number(path, name) for path, name in names)]
     rows = table_under(text, "| Limit | Most |")
     note("the limits of the table", differ("limits", [whole(most) for _, most in rows], wanted))
     named = {name: defined_number("game_tables/specs/Limits.antt", name) for name in ("most_limit", "most_bucket", "unit_instructions", "most_memory")}
