@@ -38,13 +38,18 @@ struct Ended {
     journal: Vec<u8>,
 }
 
-// A room with a source that is renewed at once and a pile of 1,001, on plain ground with walls at the corners.
+// A room with a source that is renewed at once and a pile of 1,001, on plain ground with walls at the
+// corners.
 fn small_world(alloc: Global) -> Result<Vec<u8>, AllocError> {
     // (tiles of plain ground: a zero that is padded to so many)
     let plain = 0;
-    let text = format!(in alloc;
-        "{{\"version\":1,\"tick\":0,\"rooms\":[{{\"name\":\"E0S0\",\"terrain\":\"1{plain:048}1{plain:02400}1{plain:048}1\",\"next\":3,\"objects\":[{{\"id\":1,\"kind\":\"source\",\"x\":10,\"y\":10,\"timer\":1}},{{\"id\":2,\"kind\":\"pile\",\"x\":20,\"y\":20,\"energy\":1001}}]}}]}}"
+    let ground = format!(in alloc; "1{plain:048}1{plain:02400}1{plain:048}1")?;
+    let source = "{\"id\":1,\"kind\":\"source\",\"x\":10,\"y\":10,\"timer\":1}";
+    let pile = "{\"id\":2,\"kind\":\"pile\",\"x\":20,\"y\":20,\"energy\":1001}";
+    let room = format!(in alloc;
+        "{{\"name\":\"E0S0\",\"terrain\":\"{ground}\",\"next\":3,\"objects\":[{source},{pile}]}}"
     )?;
+    let text = format!(in alloc; "{{\"version\":1,\"tick\":0,\"rooms\":[{room}]}}")?;
     Ok(text.into_bytes())
 }
 

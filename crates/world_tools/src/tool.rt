@@ -7,8 +7,8 @@ ghost use Rattle.tick_journal.specs.declared.tick_record.TickRecord.{TickRecord}
 ghost use Rattle.world_io.specs.Causes.{Rose};
 ghost use Rattle.world_io.specs.Told.{AppendsPrefix};
 ghost use Rattle.world_journal.specs.Journals.{IsJournal};
-ghost use Rattle.world_tools.specs.Checks.{Checks, answer_line, ReadsAnswer, IsAnswer, IsBeforeLine, IsOfCheck};
-ghost use Rattle.world_tools.specs.Checks.{IsOfReading};
+ghost use Rattle.world_tools.specs.Checks.{Checks, answer_line, ReadsAnswer, IsAnswer};
+ghost use Rattle.world_tools.specs.Checks.{IsBeforeLine, IsOfCheck, IsOfReading};
 ghost use Rattle.world_run.specs.Runs.{IsPastWords};
 ghost use Rattle.world_run.specs.Demo.{EndsDemonstrating};
 ghost use Rattle.world_tools.specs.Made.{EndsWriting, IsMade};
