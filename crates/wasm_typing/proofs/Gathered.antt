@@ -1,16 +1,14 @@
 -- The context of a module, from what was gathered.
-use Rattle.std.proofs.Common.{◌≡◌, ℕ, List, [], ◌∷◌, ◌++◌, map, refl, ap, sym, ◌∙◌, Option, None, length, take, ◌-◌, arith}
+use Rattle.std.proofs.Common.{◌≡◌, ℕ, List, [], ◌∷◌, ◌++◌, map, refl, ap, ◌∙◌, Option, None, ◌-◌}
 use Rattle.std.proofs.lemmas.List.{append-nil}
 use Rattle.std.specs.List.{filter_map}
 use Rattle.wasm_module.specs.Entries.{global_view}
-use Rattle.wasm_module.specs.Sections.{module_view}
 use Rattle.wasm_values.specs.declared.imports.Import.{Import}
 use Rattle.wasm_module.specs.declared.globals.GlobalDef.{GlobalDef}
-use Rattle.wasm_module.specs.declared.module.Module.{Module}
 use Rattle.wasm_values.specs.declared.types.FuncType.{FuncType}
 use Rattle.wasm_values.specs.declared.types.Bounds.{Bounds}
 use Rattle.wasm_values.specs.declared.types.GlobalType.{GlobalType}
-use Rattle.wasm_typing.specs.Context.{Context, module_context, imported_func, imported_table, imported_memory, imported_global}
+use Rattle.wasm_typing.specs.Context.{Context, imported_global}
 
 pub gathered : {Y : Type 0} (h : Import → Option Y) (start imported middle new own own_there : List Y) (imports imports_there : List Import)
     → start ≡ [] → imported ≡ start ++ filter_map h imports_there → imports_there ≡ imports → middle ≡ imported ++ own_there → own_there ≡ own → new ≡ middle ++ []

@@ -6,7 +6,7 @@ use Rattle.std.proofs.lemmas.Bool.Decides.{nat_tests}
 use native.Mathlib.Decide.{dec_le}
 use Rattle.wasm_values.specs.Opcodes.{Meaning, meaning, meaning_in, opcodes}
 use Rattle.wasm_values.proofs.Groups.{numbers, same_among, none_high}
-use Rattle.wasm_typing.specs.Operations.{Signature, signature_in, signature_of, Access, load_in, load_of, store_in, store_of}
+use Rattle.wasm_typing.specs.Operations.{signature_in, signature_of, Access, load_in, load_of, store_in, store_of}
 use Rattle.wasm_typing.specs.inner.Ranges.{signature_by_bounds, load_by_bounds, store_by_bounds}
 
 -- ---- operations on numbers

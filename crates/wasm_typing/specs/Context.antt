@@ -9,7 +9,6 @@ use Rattle.wasm_values.specs.declared.types.FuncType.{FuncType}
 use Rattle.wasm_values.specs.declared.types.Bounds.{Bounds}
 use Rattle.wasm_values.specs.declared.types.GlobalType.{GlobalType}
 use Rattle.wasm_module.specs.declared.codes.LocalRun.{LocalRun}
-use Rattle.wasm_values.specs.declared.imports.Import.{Import}
 use Rattle.wasm_values.specs.declared.imports.ImportDesc.{ImportDesc}
 use Rattle.wasm_values.specs.declared.imports.ImportDesc.TheVariants as import
 

@@ -1,5 +1,5 @@
 -- Which instructions are a constant.
-use Rattle.std.proofs.Common.{◌≡◌, ℕ, ℤ, ◌+◌, List, [], ◌∷◌, length, get_or, refl, ap, sym, ◌∙◌, subst, arith, Bool, true, false, Some, slice_get}
+use Rattle.std.proofs.Common.{◌≡◌, ℕ, ℤ, List, [], ◌∷◌, length, get_or, refl, ap, sym, ◌∙◌, subst, arith, Bool, true, false, Some, slice_get}
 use Rattle.std.specs.Bool.{Decides}
 use Rattle.wasm_values.specs.Syntax.{Op, Ops, i32_const, i64_const, global_get, next, no_ops}
 use Rattle.wasm_values.specs.View.{instr_view, items_view}
@@ -9,7 +9,7 @@ use Rattle.wasm_values.specs.declared.types.ValType.TheVariants.{I32, I64}
 use Rattle.wasm_values.specs.declared.types.GlobalType.{GlobalType}
 use Rattle.wasm_typing.specs.Typing.{IsConstant, constant_i32, constant_i64, constant_global}
 use Rattle.wasm_typing.specs.inner.Stands.{Exactly}
-use Rattle.wasm_typing.proofs.Instructions.{one_found, not_found}
+use Rattle.wasm_typing.proofs.Instructions.{one_found}
 
 pub exactly_from : {P : Type 0} (b : Bool) → Decides b P → Exactly P b
 exactly_from true d = d.0 refl

@@ -1,5 +1,5 @@
 -- Modules without floats: no float type and no instruction on floats stands in them.
-use Rattle.std.specs.Prelude.{List, Option, Some, None, All}
+use Rattle.std.specs.Prelude.{Option, Some, None, All}
 use Rattle.wasm_values.specs.Syntax.{Op, Ops, block, loop, if_else, float_memory, float_const}
 use Rattle.wasm_values.specs.Syntax.{float_plain, no_ops, next}
 use Rattle.wasm_module.specs.Sections.{Syntax}

@@ -11,8 +11,8 @@ use Rattle.wasm_values.specs.declared.exports.Export.{Export}
 use Rattle.wasm_values.specs.declared.exports.ExportDesc.{ExportDesc}
 use Rattle.wasm_values.specs.declared.exports.ExportDesc.TheVariants as export
 use Rattle.wasm_typing.specs.Functions.{IsFunction}
-use Rattle.wasm_typing.specs.Context.{Context, imported_globals, module_context, function_context}
-use Rattle.wasm_typing.specs.Typing.{HasType, TypedBody, IsConstant}
+use Rattle.wasm_typing.specs.Context.{Context, imported_globals, module_context}
+use Rattle.wasm_typing.specs.Typing.{HasType, IsConstant}
 
 -- 3.2.1: a least size is at most the greatest.
 abbrev pub AreOrdered : Bounds → Type 0

@@ -3,7 +3,6 @@ use Rattle.std.proofs.Common.{◌≡◌, ℕ, zero, suc, ◌≤◌, ◌<◌, ◌
 use Rattle.std.specs.Prelude.{Bool, nat_lt, ◌==◌, if◌then◌else◌, true, false}
 use Rattle.std.proofs.lemmas.Bool.Decides.{nat_tests}
 use native.Mathlib.Decide.{dec_le}
-use Rattle.wasm_values.specs.declared.types.ValType.{ValType}
 use Rattle.wasm_values.specs.Opcodes.{Meaning, meaning, meaning_in, opcodes, loads, stores, unary, binary, moves_float, works_on_floats}
 use Rattle.wasm_values.specs.Instructions.{IsLoad, load_row, IsStore, store_row, IsFloatMemory, IsNumeric, unary_row, binary_row, IsFloatPlain}
 

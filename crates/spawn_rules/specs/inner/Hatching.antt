@@ -10,7 +10,7 @@ use Rattle.world_rules.specs.RoomParts.{RoomPart, table_part}
 use Rattle.world_rules.specs.Moves.{tile_towards}
 use Rattle.world_rules.specs.Spawns.{hatched, hatched_as, is_free_for_creep}
 use Rattle.world_rules.specs.Steps.{over_ids}
-use Rattle.room_rules.specs.Calls.{IsReadyFor, KeepsUpTo}
+use Rattle.room_rules.specs.Calls.{IsReadyFor}
 use Rattle.spawn_rules.specs.Spare.{is_spawn, may_hatch}
 
 -- a spawn whose id is at least this one

@@ -1,6 +1,6 @@
 -- The types of operations by the bounds of their opcodes, as the code tells them apart. Loads stand without
 -- their signs, which no type shows.
-use Rattle.std.specs.Prelude.{ℕ, ◌==◌, if◌then◌else◌, Bool, false, Option, Some, None, nat_lt}
+use Rattle.std.specs.Prelude.{ℕ, ◌==◌, if◌then◌else◌, false, Option, Some, None, nat_lt}
 use Rattle.wasm_values.specs.declared.types.ValType.{ValType}
 use Rattle.wasm_values.specs.declared.types.ValType.TheVariants.{I32, I64}
 use Rattle.wasm_typing.specs.Operations.{Signature, of_one, of_two, Access}

@@ -2,7 +2,7 @@
 use Rattle.std.specs.Prelude.{◌≡◌, ℕ, ◌<◌, ◌≤◌, List, length, slice_get, Some, All}
 use Rattle.wasm_values.specs.Syntax.{Ops}
 use Rattle.wasm_module.specs.Sections.{Syntax}
-use Rattle.wasm_module.specs.Entries.{Function, code_view}
+use Rattle.wasm_module.specs.Entries.{code_view}
 use Rattle.wasm_module.specs.declared.codes.Code.{Code}
 use Rattle.wasm_values.specs.declared.types.GlobalType.{GlobalType}
 use Rattle.wasm_typing.specs.Context.{Context}

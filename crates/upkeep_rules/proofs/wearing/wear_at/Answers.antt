@@ -1,4 +1,4 @@
-use Rattle.std.proofs.Common.{◌≡◌, true, false, option_copied, sym, ap, subst, ◌∙◌}
+use Rattle.std.proofs.Common.{◌≡◌, true, false, option_copied, sym, ap, ◌∙◌}
 use Rattle.upkeep_rules.specs.inner.Worn.{concerns}
 use Rattle.upkeep_rules.proofs.Turns.{turned_past, turned_same}
 use Rattle.upkeep_rules.proofs.wearing.wear_at.Goals as goal

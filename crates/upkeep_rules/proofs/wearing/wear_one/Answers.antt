@@ -1,4 +1,4 @@
-use Rattle.std.proofs.Common.{◌≡◌, ◌<◌, true, false, option_copied, refl, sym, ap, subst, ◌∙◌}
+use Rattle.std.proofs.Common.{◌≡◌, ◌<◌, true, option_copied, refl, sym, ap, subst, ◌∙◌}
 use Rattle.upkeep_rules.specs.inner.Worn.{concerns, goes, left_of, stays, tasks, IsTurn}
 use Rattle.upkeep_rules.proofs.Turns.{its_there, its_tile, ready_gone, ready_standing, turned_dropped, turned_gone, turned_same, turned_standing}
 use Rattle.upkeep_rules.proofs.wearing.wear_one.Goals as goal

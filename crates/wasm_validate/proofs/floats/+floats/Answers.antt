@@ -1,4 +1,4 @@
-use Rattle.std.proofs.Common.{rules, arith, List, subst, sym, ap, ◌∙◌}
+use Rattle.std.proofs.Common.{arith, List, subst, sym, ap, ◌∙◌}
 use Rattle.std.proofs.lemmas.List.{take_all}
 use Rattle.wasm_values.specs.Syntax.{Ops}
 use Rattle.wasm_values.specs.View.{items_view}

@@ -1,7 +1,6 @@
 use Rattle.std.proofs.Common.{ap, length, subst, ◌∙◌, sym}
 use Rattle.std.specs.Map.Iter.{TakesFirst, deref}
 use Rattle.std.proofs.iter.runs.Sources.{from_front}
-use Rattle.room_table.specs.declared.object.Object.{Object}
 use Rattle.room_table.specs.Tables.{Table, AreTalliesOf}
 use Rattle.room_table.proofs.Changed.{standing_equal}
 use Rattle.room_table.proofs.room_table.RoomTable.objects.Goals as goal
