@@ -61,9 +61,14 @@ fn a_file_is_read_from_a_place(rt: HostRuntime) -> Result<(), Fail> {
 #[test]
 fn a_disk_is_the_file_at_its_path(rt: HostRuntime) -> Result<(), Fail> {
     let path = "world_io_a_disk.bin";
-    let mut made = FileDisk::open_or_make(&rt, path);
-    assert!(rt; made.len() == Ok(0));
-    made.write_at(0, &long_text(rt.alloc(), 0, 200_000)?)?;
+    {
+        let mut made = FileDisk::open_or_make(&rt, path);
+        assert!(rt; made.len() == Ok(0));
+        made.write_at(0, &long_text(rt.alloc(), 0, 200_000)?)?;
+        // It is nobody else's as long as it is open.
+        assert!(rt; FileDisk::open_or_make(&rt, path).len() == Err(Failed));
+        assert!(rt; FileDisk::open(&rt, path).len() == Ok(200_000));
+    }
     let mut disk = FileDisk::open_or_make(&rt, path);
     assert!(rt; disk.len() == Ok(200_000));
     disk.write_at(199_999, b"over the end")?;

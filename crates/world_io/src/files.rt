@@ -122,25 +122,35 @@ impl FileDisk {
         }
     }
 
-    /// Opens a file for reading and writing, and makes an empty one where there is none. A crash then leaves
-    /// the file's name; where the system fails to see to that, each call fails.
+    /// Opens a file for reading and writing, and makes an empty one where there is none. No other process that
+    /// opens it so has it at the same time, and a crash then leaves its name and the bytes that a read gives.
+    /// Where the system fails to see to that, each call fails. The file is let go when it is dropped, and when
+    /// the process ends, however it ends.
     pub fn open_or_make<R: Files<File = File>>(files: &R, path: &str) -> Self
         ensures { result.faults.count ≡ 0 }
     {
-        let mut file = OpenOptions::new()
-            .read(true)
-            .write(true)
-            .create(true)
-            .open(files, path)
-            .ok();
-        if !is_name_kept(files, path) {
-            file = None;
-        }
         FileDisk {
-            file,
+            file: open_alone(files, path),
             faults: FaultCount::ZERO,
         }
     }
+}
+
+// Opens a file for reading and writing, which is made where there is none, locks it, and syncs its name and
+// what an earlier process may have left in it without a sync.
+fn open_alone<R: Files<File = File>>(files: &R, path: &str) -> Option<File> {
+    let file = OpenOptions::new()
+        .read(true)
+        .write(true)
+        .create(true)
+        .open(files, path)
+        .ok()?;
+    file.try_lock().ok()?;
+    if !is_name_kept(files, path) {
+        return None;
+    }
+    file.sync_data().ok()?;
+    Some(file)
 }
 
 // Syncs the folder of a file, so that a crash leaves the file's name. A folder that may not be read, and one
