@@ -7,4 +7,6 @@ mod device_tests;
 #[cfg(test)]
 mod disk_tests;
 #[cfg(test)]
+mod failing_tests;
+#[cfg(test)]
 mod file_tests;

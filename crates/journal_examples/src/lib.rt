@@ -16,4 +16,6 @@ mod record_tests;
 #[cfg(test)]
 mod restored_tests;
 #[cfg(test)]
+mod stop_tests;
+#[cfg(test)]
 mod worlds;

@@ -1,12 +1,13 @@
 -- What a recovery makes of a journal, and what it leaves of the disk.
-use Rattle.std.proofs.Common.{◌≡◌, ℕ, ◌+◌, List, length, ◌∙◌, ap, subst, arith, Option, Some, None, IfSome}
+use Rattle.std.proofs.Common.{◌≡◌, inl, inr, ℕ, ◌+◌, List, length, ◌∙◌, ap, subst, arith, Option, Some, None, IfSome}
 use Rattle.std.specs.FinMap.{empty}
-use Rattle.world_io.specs.Moments.{LeavesSince, Moment, Rests, no_moment}
-use Rattle.world_io.proofs.Moments.{since_weaken}
+use Rattle.world_io.specs.Moments.{IsLeftNow, LeavesNow, LeavesSince, Moment, Rests, no_moment}
+use Rattle.world_io.proofs.Images.{image_settled}
+use Rattle.world_io.proofs.Moments.{left_now, read_has, since_weaken}
 use Rattle.frame_log.specs.Frames.{HasClosed, HasContents, IsClosedAt, Stands}
 use Rattle.object_store.specs.Stored.{Stored}
 use Rattle.tick_journal.specs.declared.tick_record.TickRecord.{TickRecord}
-use Rattle.world_journal.specs.Journals.{AreContents, HasJournal, IsJournal, IsQuiet}
+use Rattle.world_journal.specs.Journals.{AreContents, HasJournal, IsJournal, IsKeptOrCut, IsQuiet}
 use Rattle.world_journal.specs.Recovering.{HasRecovered}
 use Rattle.world_journal.specs.declared.recovered.Recovered.{Recovered}
 use Rattle.world_journal.specs.declared.uploaded.Uploaded.{Uploaded}
@@ -82,6 +83,21 @@ module _ {base : Stored} {entries : List TickRecord} {walk : Walk} {seen : Optio
       let with = closed_with bytes rests in
       let same = journal_once bytes base other entries others (journal_at bytes rests) is in
       since_weaken (λ image stand. subst (λ (l : List TickRecord). IsJournal other l image) same.1 (subst (λ (w : Stored). IsJournal w entries image) same.0 (record { contents = with.contents; stand = stand; are = with.are }))) (each with.contents with.rest with.has)
+
+  pub cut_kept : (moments_after : List Moment) → ((contents : List (List ℕ)) (rest : List ℕ) → HasClosed contents walk.gate rest seen moments → LeavesSince (Stands contents) moments moments_after)
+      → (bytes : List ℕ) → Rests bytes seen moments → LeavesSince (IsKeptOrCut bytes) moments moments_after
+  cut_kept moments_after each bytes rests =
+      let with = closed_with bytes rests in
+      since_weaken (λ image stand. inr (base, entries, journal_at bytes rests, record { contents = with.contents; stand = stand; are = with.are })) (each with.contents with.rest with.has)
+
+-- ---- what a read gives
+
+pub read_kept : (bytes : List ℕ) (seen after : Option (List ℕ)) (moments later : List Moment) → ((before : List ℕ) → Rests before seen moments → LeavesSince (IsKeptOrCut before) moments later) → IsLeftNow after later → Rests bytes seen moments
+    → IfSome after (IsKeptOrCut bytes)
+read_kept bytes seen None moments later kept left rests = tt
+read_kept bytes seen (Some read) moments later kept left rests =
+    let first : LeavesNow (IsKeptOrCut bytes) moments = rw rests.settled_now (λ image is. inl (image_settled bytes image is)) in
+    read_has (IsKeptOrCut bytes) read later left (left_now first (kept bytes rests))
 
 -- ---- a disk that is as it was
 

@@ -6,7 +6,7 @@ ghost use Rattle.frame_log.specs.Frames.{IsLog};
 ghost use Rattle.object_store.specs.Stored.{Stored};
 ghost use Rattle.tick_journal.specs.declared.tick_record.TickRecord.{TickRecord as Recorded};
 ghost use Rattle.world_journal.specs.Answers.{IsRecoverFaultOf};
-ghost use Rattle.world_journal.specs.Journals.{HasJournal, IsJournal, IsQuiet};
+ghost use Rattle.world_journal.specs.Journals.{HasJournal, IsJournal, IsKeptOrCut, IsQuiet};
 ghost use Rattle.world_journal.specs.Recovering.{HasRecovered};
 ghost use Rattle.world_journal.specs.declared.fault.RecoverFault.TheVariants.{DiskFault};
 
@@ -32,6 +32,10 @@ impl Journal {
         ensures each_moment { (base : Stored) (entries : List Recorded) (bytes : List ℕ)
             → IsJournal base entries bytes → Rests bytes (D.seen disk.old) (D.moments disk.old)
             → LeavesSince (IsJournal base entries) (D.moments disk.old) (D.moments disk.new) }
+        ensures kept { (bytes : List ℕ) → Rests bytes (D.seen disk.old) (D.moments disk.old)
+            → LeavesSince (IsKeptOrCut bytes) (D.moments disk.old) (D.moments disk.new) }
+        ensures left { (bytes : List ℕ) → Rests bytes (D.seen disk.old) (D.moments disk.old)
+            → IfSome (D.seen disk.new) (IsKeptOrCut bytes) }
         ensures rests { IfOk result (λ found.
             IsLog found.journal.log.gate (D.seen disk.new) (D.moments disk.new)) }
         ensures is_open { IfOk result (λ found. found.journal.log.is_closed ≡ false) }

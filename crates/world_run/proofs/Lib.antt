@@ -10,3 +10,6 @@ pub mod Uploaded
 pub mod Ended
 pub mod Opened
 pub mod Recorded
+pub mod Crashes
+pub mod Outlasting
+pub mod Outliving

@@ -28,6 +28,9 @@ still_told Before After None (Some new) alike has done = absurd alike
 still_told Before After (Some old) None alike has done = tt
 still_told Before After (Some old) (Some new) alike has done = done has
 
+pub may_follow : (base : Stored) (entries : List TickRecord) (kept : Kept) (entry : TickRecord) (seen : Option (List ℕ)) (moments : List Moment) → IsKeptAt base entries kept seen moments → MayFollow (world_as_read kept.hosted.world) entry → MayFollow (world_after base entries) entry
+may_follow base entries kept entry seen moments start follows = subst (λ (w : Stored). MayFollow w entry) start.at_end.world follows
+
 module _ (base : Stored) (entries : List TickRecord) (kept : Kept) (entry : TickRecord) (seen : Option (List ℕ)) (moments : List Moment) (start : IsKeptAt base entries kept seen moments) (follows : MayFollow (world_as_read kept.hosted.world) entry) where
   abbrev longer : List TickRecord
   longer = entries ++ tick_as_read entry ∷ []

@@ -1,5 +1,5 @@
 -- The steps of a run, one after another.
-use Rattle.std.proofs.Common.{◌≡◌, ℕ, ◌+◌, List, [], ◌∷◌, ◌++◌, length, take, Option, Some, None, IfSome, refl, ap, sym, subst, ◌∙◌, append_assoc}
+use Rattle.std.proofs.Common.{◌≡◌, inl, inr, arith, ℕ, ◌+◌, ◌<◌, ◌≤◌, List, [], ◌∷◌, ◌++◌, length, take, Option, Some, None, IfSome, refl, ap, sym, subst, ◌∙◌, append_assoc}
 use Rattle.std.proofs.lemmas.List.{append-nil, length_push, map-append}
 use Rattle.std.proofs.lemmas.List.Concat.{flat_map-append}
 use Rattle.std.specs.List.{flat_map}
@@ -7,7 +7,7 @@ use Rattle.std.specs.Io.KnownBytes.{Appends}
 use Rattle.object_store.specs.Stored.{Stored}
 use Rattle.tick_journal.specs.BaseForms.{world_as_read}
 use Rattle.tick_journal.specs.declared.tick_record.TickRecord.{TickRecord}
-use Rattle.world_io.specs.Moments.{Moment}
+use Rattle.world_io.specs.Moments.{LeavesNow, LeavesSince, Moment, no_moment}
 use Rattle.world_io.specs.Told.{AppendsPrefix}
 use Rattle.world_io.proofs.Known.{appends_more}
 use Rattle.world_journal.specs.Journals.{HasJournal, IsJournal, IsWholeJournal}
@@ -23,6 +23,9 @@ use Rattle.run_lines.specs.Lines.{start_line}
 use Rattle.run_lines.proofs.Giving.{appends_nothing}
 use Rattle.world_run.specs.Runs.{AppendsPart, Stood}
 use Rattle.world_run.specs.inner.Stages.{Continues, Grows, GrowsPart}
+use Rattle.world_run.specs.Images.{HasAtLeast}
+use Rattle.world_run.specs.inner.Crashes.{HasRecorded, IsCut, Lasts, Records}
+use Rattle.world_run.proofs.Crashes.{now_all, now_before, now_has, prefix_more, prefix_whole, since_more}
 
 -- ---- known bytes
 
@@ -78,6 +81,8 @@ pub record Along (seen_old : Option (List ℕ)) (moments_old : List Moment) (see
   pub grows : Grows sink_old sink_new stream first.hosted steps
   pub ended : last_of first.hosted steps ≡ last.hosted
   pub keeps : (base : Stored) (entries : List TickRecord) → IsKeptAt base entries first seen_old moments_old → IsKeptAt base (entries ++ recorded_of steps) last seen moments
+  pub crash : (base : Stored) (entries : List TickRecord) → IsKeptAt base entries first seen_old moments_old → HasJournal base entries first.journal.log.gate seen_old moments_old
+      → HasJournal base (entries ++ recorded_of steps) last.journal.log.gate seen moments × LeavesSince (HasAtLeast 0 base entries (recorded_of steps)) moments_old moments
 
 pub along_none : (seen : Option (List ℕ)) (moments : List Moment) (sink : Option (List ℕ)) (stream : List Upload) (first : Kept) → IsHosted first.hosted.world → Along seen moments seen moments sink sink stream first 0 first
 along_none seen moments sink stream first hosted = record {
@@ -86,6 +91,7 @@ along_none seen moments sink stream first hosted = record {
   grows = record { follow = hosted; lines = appends_nothing sink };
   ended = refl;
   keeps = λ base entries kept. subst (λ (l : List TickRecord). IsKeptAt base l first seen moments) (sym (append-nil entries)) kept;
+  crash = λ base entries kept has. (subst (λ (l : List TickRecord). HasJournal base l first.journal.log.gate seen moments) (sym (append-nil entries)) has, no_moment);
 }
 
 -- A step behind the last one.
@@ -102,8 +108,10 @@ follow_last stream first steps last step h e more =
 module _ (seen_old : Option (List ℕ)) (moments_old : List Moment) (seen : Option (List ℕ)) (moments : List Moment) (sink_old sink sink_new : Option (List ℕ)) (stream : List Upload) (first : Kept) (count : ℕ) (last : Kept) (step : Step) (so_far : Along seen_old moments_old seen moments sink_old sink stream first count last) (more : Further stream last.hosted step) where
   pub along_more : (seen_new : Option (List ℕ)) (moments_new : List Moment) (next : Kept) → step.after ≡ next.hosted → Appends sink sink_new (step_lines step)
       → ((base : Stored) (entries : List TickRecord) → IsKeptAt base entries last seen moments → IsKeptAt base (entries ++ step.recorded ∷ []) next seen_new moments_new)
+      → Records last seen moments moments_new step.recorded
+      → ((base : Stored) (entries : List TickRecord) → IsKeptAt base entries last seen moments → HasJournal base entries last.journal.log.gate seen moments → HasJournal base (entries ++ step.recorded ∷ []) next.journal.log.gate seen_new moments_new)
       → Along seen_old moments_old seen_new moments_new sink_old sink_new stream first (count + 1) next
-  along_more seen_new moments_new next after line kept = record {
+  along_more seen_new moments_new next after line kept each has_next = record {
     steps = so_far.steps ++ step ∷ [];
     counted = length_push so_far.steps step ∙ ap (λ n. n + 1) so_far.counted;
     grows = record {
@@ -112,7 +120,55 @@ module _ (seen_old : Option (List ℕ)) (moments_old : List Moment) (seen : Opti
     };
     ended = last_more first.hosted so_far.steps step ∙ after;
     keeps = λ base entries start. subst (λ (l : List TickRecord). IsKeptAt base l next seen_new moments_new) (records_more entries so_far.steps step) (kept base (entries ++ recorded_of so_far.steps) (so_far.keeps base entries start));
+    crash = λ base entries start has.
+        let there = so_far.keeps base entries start in
+        let so = so_far.crash base entries start has in (
+          subst (λ (l : List TickRecord). HasJournal base l next.journal.log.gate seen_new moments_new) (records_more entries so_far.steps step) (has_next base (entries ++ recorded_of so_far.steps) there so.0),
+          since_more base entries so_far.steps step moments_old moments moments_new so.1 (each base (entries ++ recorded_of so_far.steps) there so.0),
+        );
   }
+
+  -- the step was cut short
+  pub lasts_cut : (ticks : ℕ) → count < ticks → (moments_new : List Moment) (stream_now : List Upload) (cut : IsCut sink sink_new stream_now last seen moments moments_new) → cut.step ≡ step → Lasts sink_old sink_new stream first ticks seen_old moments_old moments_new
+  lasts_cut ticks lt moments_new stream_now cut same =
+      let steps = so_far.steps ++ step ∷ [] in
+      let few : length steps ≤ ticks = let more = length_push so_far.steps step in let so_many = so_far.counted in omega (arith, more, so_many, lt) in
+      let follow = follow_last stream first.hosted so_far.steps last.hosted step so_far.grows.follow so_far.ended more in
+      let each : Records last seen moments moments_new step.recorded = subst (λ (s : Step). Records last seen moments moments_new s.recorded) same cut.each in
+      elim cut.printed [
+        | inl nothing ↦ record {
+          steps = steps;
+          begun = so_far.steps;
+          rest = step ∷ [];
+          ordered = refl;
+          few = few;
+          follow = follow;
+          lines = prefix_whole sink_old sink_new (flat_map step_lines so_far.steps) (subst (λ (s : Option (List ℕ)). Appends sink_old s (flat_map step_lines so_far.steps)) (sym nothing) so_far.grows.lines);
+          each = λ base entries start has.
+              let there = so_far.keeps base entries start in
+              let so = so_far.crash base entries start has in
+              let next = each base (entries ++ recorded_of so_far.steps) there so.0 in
+              (since_more base entries so_far.steps step moments_old moments moments_new so.1 next, now_before base entries so_far.steps step last.journal.log.gate seen moments moments_new so.0 next);
+        }
+        | inr part ↦ record {
+          steps = steps;
+          begun = steps;
+          rest = [];
+          ordered = sym (append-nil steps);
+          few = few;
+          follow = follow;
+          lines = subst (λ (l : List ℕ). AppendsPrefix sink_old sink_new l) (flat_more step_lines so_far.steps step)
+              (prefix_more sink_old sink sink_new (flat_map step_lines so_far.steps) (step_lines step) so_far.grows.lines (subst (λ (s : Step). AppendsPrefix sink sink_new (step_lines s)) same part.0));
+          each = λ base entries start has.
+              let there = so_far.keeps base entries start in
+              let so = so_far.crash base entries start has in
+              let next = each base (entries ++ recorded_of so_far.steps) there so.0 in
+              let now = subst (λ (s : Step). HasRecorded last seen moments moments_new s.recorded) same part.1 base (entries ++ recorded_of so_far.steps) there so.0 in (
+                since_more base entries so_far.steps step moments_old moments moments_new so.1 next,
+                now_all base entries steps moments_new (subst (λ (l : List TickRecord). LeavesNow (IsJournal base l) moments_new) (records_more entries so_far.steps step) now),
+              );
+        }
+      ]
 
   pub along_part : (seen_new : Option (List ℕ)) → AppendsPrefix sink sink_new (step_lines step)
       → ((base : Stored) (entries : List TickRecord) → IsKeptAt base entries last seen moments → IfSome seen_new (IsWholeJournal base (entries ++ step.recorded ∷ [])))
@@ -129,6 +185,23 @@ module _ (seen_old : Option (List ℕ)) (moments_old : List Moment) (seen : Opti
     },
     λ base entries start. subst (λ (l : List TickRecord). IfSome seen_new (IsWholeJournal base l)) (records_more entries so_far.steps step) (kept base (entries ++ recorded_of so_far.steps) (so_far.keeps base entries start)),
   )
+
+-- Nothing more was done.
+pub lasts_so_far : (seen_old : Option (List ℕ)) (moments_old : List Moment) (seen : Option (List ℕ)) (moments : List Moment) (sink_old sink : Option (List ℕ)) (stream : List Upload) (first : Kept) (count : ℕ) (last : Kept)
+    → Along seen_old moments_old seen moments sink_old sink stream first count last → (ticks : ℕ) → count ≤ ticks → (sink_new : Option (List ℕ)) (later : List Moment) → later ≡ moments → sink_new ≡ sink → Lasts sink_old sink_new stream first ticks seen_old moments_old later
+lasts_so_far seen_old moments_old seen moments sink_old sink stream first count last along ticks le sink_new later crash printed =
+    subst (λ (m : List Moment). Lasts sink_old sink_new stream first ticks seen_old moments_old m) (sym crash) (subst (λ (s : Option (List ℕ)). Lasts sink_old s stream first ticks seen_old moments_old moments) (sym printed) (record {
+      steps = along.steps;
+      begun = along.steps;
+      rest = [];
+      ordered = sym (append-nil along.steps);
+      few = let so_many = along.counted in omega (arith, so_many, le);
+      follow = along.grows.follow;
+      lines = prefix_whole sink_old sink (flat_map step_lines along.steps) along.grows.lines;
+      each = λ base entries start has.
+          let so = along.crash base entries start has in
+          (so.1, now_all base entries along.steps moments (now_has base (entries ++ recorded_of along.steps) last.journal.log.gate seen moments so.0));
+    }))
 
 -- The journal has the records of all steps.
 pub continues : (seen_old : Option (List ℕ)) (moments_old : List Moment) (seen : Option (List ℕ)) (moments : List Moment) (first : Kept) (last : Kept) (steps : List Step)

@@ -175,6 +175,9 @@ module _ (stream : List Upload) (first : Held) (steps : List held.Step) (f : hel
   steps_sound : AreSound steps
   steps_sound = sound_steps stream first steps f
 
+  pub output_same : output (world_of first.world) (map shown steps) ≡ held.output first.world steps
+  output_same = output_shown first.world steps first_sound steps_sound
+
   pub output_left : (old new : Option (List ℕ)) → Appends old new (held.output first.world steps) → Appends old new (output (world_of first.world) (map shown steps))
   output_left old new given = subst (Appends old new) (sym (output_shown first.world steps first_sound steps_sound)) given
 

@@ -3,13 +3,16 @@ use Rattle.std.specs.Prelude.{◌≡◌, ◌≢◌, ℕ, suc, ◌^◌, ◌≤◌
 use Rattle.std.specs.Prelude.{IfSome}
 use Rattle.std.specs.Io.KnownBytes.{Appends}
 use Rattle.world_io.specs.Causes.{Rose}
+use Rattle.frame_log.specs.Frames.{IsEmpty}
+use Rattle.object_store.specs.Stored.{Stored}
+use Rattle.world_io.specs.Moments.{IsLeftNow, LeavesNow, LeavesSince, Moment, Rests}
 use Rattle.world_io.specs.Told.{AppendsPrefix}
 use Rattle.world_rules.specs.World.{World}
 use Rattle.world_form.specs.Files.{WorldForm}
 use Rattle.upload_stream.specs.Streams.{Upload, UploadList}
 use Rattle.tick_journal.specs.declared.tick_record.TickRecord.{TickRecord}
 use Rattle.world_journal.specs.Faults.{FailsAt}
-use Rattle.world_journal.specs.Journals.{IsWholeJournal}
+use Rattle.world_journal.specs.Journals.{IsJournal, IsQuiet, IsWholeJournal}
 use Rattle.run_lines.specs.Lines.{start_line}
 use Rattle.world_replay.specs.Listed.{listed}
 use Rattle.command_words.specs.Words.{AreRun, Asks, AsksAtLeast}
@@ -17,6 +20,7 @@ use Rattle.world_replay.specs.Serials.{IsExhausted}
 use Rattle.world_run.specs.Runs.{Step, Follow, last_of, output, recorded_of, resumed, step_lines}
 use Rattle.world_run.specs.Runs.{AppendsPart, ReadsWorld, ReadsFault, ReadsUploads, ReadsBad, HasOther}
 use Rattle.world_run.specs.Runs.{IsKept, Stood}
+use Rattle.world_run.specs.Images.{HasAtLeast, IsOpening}
 use Rattle.run_status.specs.declared.status.Status.{Status}
 use Rattle.run_status.specs.declared.status.Status.TheVariants as statuses
 
@@ -27,6 +31,7 @@ pub record Outside : Type 0 where
   pub uploads : Option (List ℕ)
   pub written : Option (List ℕ)
   pub disk : Option (List ℕ)
+  pub moments : List Moment
   pub world_faults : ℕ
   pub uploads_faults : ℕ
   pub sink_faults : ℕ
@@ -188,9 +193,48 @@ module _ (words : List (List ℕ)) (old new : Outside) where
       (status ≡ statuses.Done) ⊎ (status ≡ statuses.Memory)
       ⊎ ((index : ℕ) × (status ≡ statuses.IdsExhausted index))
 
-  -- A run ends so: as its status says; with good inputs and no fault it is whole; and no failure is passed
-  -- over.
+  -- On the disk with these bytes stood a journal of this world and these records; or nothing, and the world is
+  -- the file's.
+  abbrev pub Began : World → List ℕ → Stored → List TickRecord → Type 0
+  Began first bytes base entries =
+      (IsEmpty bytes × (base ≡ listed first) × (entries ≡ [])) ⊎ IsJournal base entries bytes
+
+  -- Ticks that were asked for were made behind the records that stood. At each moment until the journal was opened a crash leaves
+  -- what stood, or the journal of the world alone where nothing did; and at each moment from then on what
+  -- stood and the records of the first of the ticks. If anything was printed, a crash at the end leaves at
+  -- least the records of all ticks of which a byte was printed.
+  pub record Outlasts (stream : List Upload) (bytes : List ℕ) (base : Stored) (entries : List TickRecord)
+      : Type 0 where
+    pub steps : List Step
+    pub begun : List Step
+    pub rest : List Step
+    pub ordered : steps ≡ begun ++ rest
+    pub asked : Asked steps
+    pub follow : Follow stream (resumed base entries) steps
+    pub opened : List Moment
+    pub opening : LeavesSince (IsOpening bytes base entries) old.moments opened
+    pub lasting : LeavesSince (HasAtLeast 0 base entries (recorded_of steps)) opened new.moments
+    pub printed : (new.written ≡ old.written)
+        ⊎ (AppendsPrefix old.written new.written (output (resumed base entries).world begun)
+        × LeavesNow (HasAtLeast (length begun) base entries (recorded_of steps)) new.moments)
+
+  -- With any status, from a disk that rests: the disk was not changed and nothing printed; or the inputs were
+  -- accepted, and what stood and the ticks outlast a crash.
+  abbrev pub Outlives : Type 0
+  Outlives = (bytes : List ℕ) → Rests bytes old.disk old.moments
+      → ((new.moments ≡ old.moments) × IsUntouched)
+      ⊎ ((first : World) × (stream : List Upload) × ReadsWorld old.world new.world first
+      × ReadsUploads old.uploads new.uploads stream
+      × ((base : Stored) (entries : List TickRecord) → Began first bytes base entries
+      → Outlasts stream bytes base entries))
+
+  -- A run ends so: as its status says; what it made outlasts a crash, and what a read gives at the end is one
+  -- of the images that a crash may leave then, with every status but that of a failed disk the only one; with
+  -- good inputs and no fault it is whole; and no failure is passed over.
   pub record Runs (status : Status) : Type 0 where
     pub ends : Ends status
+    pub outlives : Outlives
+    pub read_too : IsLeftNow new.disk new.moments
+    pub rests : status ≢ statuses.DiskFault → IsQuiet new.disk new.moments
     pub whole : IsGood → IsWhole status
     pub steady : IsSteady status

@@ -1,4 +1,5 @@
 pub mod Runs
+pub mod Images
 pub mod Ends
 pub mod Demo
 pub mod inner

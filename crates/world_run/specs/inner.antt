@@ -1,3 +1,4 @@
 -- Definitions that private functions and proofs cite alone.
 pub mod Stages
 pub mod Held
+pub mod Crashes

@@ -1,7 +1,7 @@
 // The opening of a journal: one that stands is gone on with, and else one is begun.
 ghost use Rattle.std.specs.Prelude.{◌≡◌, ◌≢◌, ◌⊎◌, ℕ, ◌≤◌, ◌<◌, ◌^◌, List, [], slice_get, Option, Some, IfOk};
 ghost use Rattle.std.specs.Prelude.{IfErr, IfSome, IfNone, OnOk};
-ghost use Rattle.frame_log.specs.Frames.{IsEmptyDisk};
+ghost use Rattle.frame_log.specs.Frames.{IsEmpty, IsEmptyDisk};
 ghost use Rattle.object_store.specs.Stored.{Stored};
 ghost use Rattle.recorded_tick.specs.Recording.{StandsAt};
 ghost use Rattle.tick_journal.specs.BaseForms.{HasBaseForm, world_as_read};
@@ -9,13 +9,17 @@ ghost use Rattle.tick_journal.specs.Contents.{base_content};
 ghost use Rattle.tick_journal.specs.declared.tick_record.TickRecord.{TickRecord};
 ghost use Rattle.world_io.specs.Causes.{Rose};
 ghost use Rattle.world_journal.specs.Faults.{FailsAt};
-ghost use Rattle.world_journal.specs.Journals.{IsJournal, IsQuiet, MayBegin};
+ghost use Rattle.world_journal.specs.Journals.{IsEmptyOrBase, IsJournal, IsQuiet, MayBegin};
 ghost use Rattle.world_journal.specs.Recovering.{HasRecovered};
 ghost use Rattle.run_lines.specs.Lines.{start_line as start_line_of};
 ghost use Rattle.world_replay.specs.Differing.{DifferAt};
 ghost use Rattle.world_run.specs.Runs.{IsKept, Stood};
 ghost use Rattle.world_run.specs.inner.Held.{IsAt, IsKeptAt, MayStart};
 ghost use Rattle.world_run.specs.inner.Stages.{IsOfOpening};
+ghost use Rattle.world_run.specs.Images.{IsOpening};
+ghost use Rattle.world_run.specs.inner.Crashes.{StoodAs};
+ghost use Rattle.world_io.specs.Disk.{TellsAlike};
+ghost use Rattle.world_io.specs.Moments.{LeavesSince, Rests};
 
 use crate::kept::Kept;
 use hosted_tick::Hosted;
@@ -45,12 +49,18 @@ pub(crate) fn open_journal<D: Disk>(
 ) -> Result<Opening, Status>
     requires starts { MayStart world }
     requires quiet { IsQuiet (D.seen disk.old) (D.moments disk.old) }
+    ensures opening { (bytes : List ℕ) → Rests bytes (D.seen disk.old) (D.moments disk.old)
+        → (base : Stored) (entries : List TickRecord) → StoodAs world bytes base entries
+        → LeavesSince (IsOpening bytes base entries) (D.moments disk.old) (D.moments disk.new) }
+    ensures alike { TellsAlike (D.seen disk.old) (D.seen disk.new) }
     ensures opened { IfOk result (λ opening. (entries : List TickRecord)
         × Stood (D.seen disk.old) (world_as_read world) entries
         × IsKeptAt (world_as_read world) entries opening.kept (D.seen disk.new) (D.moments disk.new)) }
     ensures tick { IfOk result (λ opening. opening.kept.hosted.world.tick < 2 ^ 63) }
     ensures line { IfOk result
         (λ opening. opening.line.items ≡ start_line_of opening.kept.hosted.world) }
+    ensures rests { IfErr result (λ status. status ≢ Status.DiskFault
+        → IsQuiet (D.seen disk.new) (D.moments disk.new)) }
     ensures only { IfErr result IsOfOpening }
     ensures not_a_journal { IfErr result (λ status. (at : ℕ) → status ≡ Status.NotAJournal at
         → IfSome (D.seen disk.old) (FailsAt at) × (D.seen disk.new ≡ D.seen disk.old)) }
@@ -91,11 +101,17 @@ pub(crate) fn open_journal<D: Disk>(
 fn begin<D: Disk>(alloc: Global, world: World, disk: &mut D) -> Result<Opening, Status>
     requires starts { MayStart world }
     requires none { IsEmptyDisk (D.seen disk.old) (D.moments disk.old) }
+    ensures opening { (bytes : List ℕ) → IsEmpty bytes
+        → Rests bytes (D.seen disk.old) (D.moments disk.old)
+        → LeavesSince (IsEmptyOrBase (world_as_read world)) (D.moments disk.old) (D.moments disk.new) }
+    ensures alike { TellsAlike (D.seen disk.old) (D.seen disk.new) }
     ensures opened { IfOk result (λ opening.
         IsKeptAt (world_as_read world) [] opening.kept (D.seen disk.new) (D.moments disk.new)) }
     ensures tick { IfOk result (λ opening. opening.kept.hosted.world.tick < 2 ^ 63) }
     ensures line { IfOk result
         (λ opening. opening.line.items ≡ start_line_of opening.kept.hosted.world) }
+    ensures rests { IfErr result (λ status. status ≢ Status.DiskFault
+        → IsQuiet (D.seen disk.new) (D.moments disk.new)) }
     ensures only { IfErr result (λ status. (status ≡ Status.Memory) ⊎ (status ≡ Status.DiskFault)) }
     ensures memory { IfErr result (λ status. status ≡ Status.Memory → D.seen disk.new ≡ D.seen disk.old) }
     ensures disk_fault { IfErr result (λ status. status ≡ Status.DiskFault

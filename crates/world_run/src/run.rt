@@ -21,6 +21,8 @@ ghost use Rattle.world_run.specs.Runs.{ReadsWorld, ReadsFault, ReadsUploads, Rea
 ghost use Rattle.world_run.specs.Runs.{IsPastWords, Stood};
 ghost use Rattle.world_run.specs.inner.Stages.{IsOfRun, IsPastWorld, IsPastUploads, IsBeforeJournal};
 ghost use Rattle.world_run.specs.Ends.{Runs};
+ghost use Rattle.world_run.specs.inner.Crashes.{Outlasts, StoodAs};
+ghost use Rattle.world_io.specs.Moments.{IsLeftNow, Rests};
 
 use crate::inputs::{Inputs, read_inputs};
 use crate::ticks::keep_journal;
@@ -51,6 +53,7 @@ pub fn run_alone<W: Source, U: Source, O: Sink, D: Disk>(
           uploads = U.left uploads.old;
           written = O.written out.old;
           disk = D.seen disk.old;
+          moments = D.moments disk.old;
           world_faults = W.faults world.old;
           uploads_faults = U.faults uploads.old;
           sink_faults = O.faults out.old;
@@ -61,6 +64,7 @@ pub fn run_alone<W: Source, U: Source, O: Sink, D: Disk>(
           uploads = U.left uploads.new;
           written = O.written out.new;
           disk = D.seen disk.new;
+          moments = D.moments disk.new;
           world_faults = W.faults world.new;
           uploads_faults = U.faults uploads.new;
           sink_faults = O.faults out.new;
@@ -171,6 +175,20 @@ fn run_stored<W: Source, U: Source, O: Sink, D: Disk>(
         × ReadsUploads (U.left uploads.old) (U.left uploads.new) stream
         × Leaves (D.seen disk.old) (D.seen disk.new) (O.written out.old)
         (O.written out.new) stream first steps) }
+
+    // What a crash at any moment leaves.
+    ensures outlives { (bytes : List ℕ) → Rests bytes (D.seen disk.old) (D.moments disk.old)
+        → ((D.moments disk.new ≡ D.moments disk.old) × (D.seen disk.new ≡ D.seen disk.old)
+        × (O.written out.new ≡ O.written out.old))
+        ⊎ ((first : Stored) × (stream : List UploadOfStream) × (ticks : ℕ)
+        × Asks (map string_bytes words.now) ticks
+        × ReadsWorld (W.left world.old) (W.left world.new) (world_of first) × IsSound first
+        × ReadsUploads (U.left uploads.old) (U.left uploads.new) stream
+        × ((base : Stored) (entries : List TickRecord) → StoodAs first bytes base entries
+        → Outlasts (O.written out.old) (O.written out.new) stream bytes base entries ticks
+        (D.moments disk.old) (D.moments disk.new))) }
+    ensures read_too { IsLeftNow (D.seen disk.new) (D.moments disk.new) }
+    ensures rests { result ≢ Status.DiskFault → IsQuiet (D.seen disk.new) (D.moments disk.new) }
 
     // What is not needed is not read.
     ensures unread { result ≡ Status.Usage → (W.left world.new ≡ W.left world.old)

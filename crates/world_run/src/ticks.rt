@@ -7,6 +7,7 @@ ghost use Rattle.frame_log.specs.Frames.{IsLog};
 ghost use Rattle.object_store.specs.Stored.{Stored};
 ghost use Rattle.world_io.specs.Causes.{HasCause, Rose};
 ghost use Rattle.world_io.specs.Disk.{TellsAlike};
+ghost use Rattle.world_io.specs.Moments.{LeavesSince, Rests};
 ghost use Rattle.world_io.specs.Told.{AppendsPrefix};
 ghost use Rattle.world_rules.specs.Sound.{HaveSerials};
 ghost use Rattle.upload_stream.specs.Streams.{Upload, uploads_after, uploads_at};
@@ -21,7 +22,7 @@ ghost use Rattle.tick_journal.specs.Contents.{base_content};
 ghost use Rattle.tick_journal.specs.TickForms.{tick_as_read};
 ghost use Rattle.tick_journal.specs.declared.tick_record.TickRecord.{TickRecord as Recorded};
 ghost use Rattle.world_journal.specs.Faults.{FailsAt};
-ghost use Rattle.world_journal.specs.Journals.{HasJournal, IsJournal, IsQuiet, IsWholeJournal, MayFollow};
+ghost use Rattle.world_journal.specs.Journals.{HasJournal, IsBeforeOrAfter, IsJournal, IsQuiet, IsWholeJournal, MayFollow};
 ghost use Rattle.record_follows.specs.Follows.{after};
 ghost use Rattle.run_lines.specs.Lines.{upload_line};
 ghost use Rattle.world_run.specs.Runs.{IsKept, Stood};
@@ -31,6 +32,7 @@ ghost use Rattle.world_run.specs.inner.Held.{Step, step_lines, IsKeptAt, IsStep,
 ghost use Rattle.world_run.specs.inner.Held.{LeavesPart, MayStart, Prints, last_of};
 ghost use Rattle.world_run.specs.inner.Stages.{Continues, IsOfRecord, IsOfTick, IsOfTicks, IsOfJournal};
 ghost use Rattle.world_run.specs.inner.Stages.{Grows, GrowsPart};
+ghost use Rattle.world_run.specs.inner.Crashes.{IsCut, Lasts, Outlasts, Records, StoodAs};
 
 use crate::kept::Kept;
 use crate::opening::{Opening, open_journal};
@@ -66,6 +68,11 @@ pub(crate) fn keep_journal<O: Sink, D: Disk>(
     requires starts { MayStart world }
     requires ticks { ticks ≤ 1000000 }
     requires quiet { IsQuiet (D.seen disk.old) (D.moments disk.old) }
+    ensures outlasts { (bytes : List ℕ) → Rests bytes (D.seen disk.old) (D.moments disk.old)
+        → (base : Stored) (entries : List Recorded) → StoodAs world bytes base entries
+        → Outlasts (O.written out.old) (O.written out.new) stream.entry bytes base entries ticks
+        (D.moments disk.old) (D.moments disk.new) }
+    ensures rests { result ≢ Status.DiskFault → IsQuiet (D.seen disk.new) (D.moments disk.new) }
     ensures only { IsOfJournal result }
     ensures done { result ≡ Status.Done → (steps : List Step) × (length steps ≡ ticks)
         × Leaves (D.seen disk.old) (D.seen disk.new) (O.written out.old) (O.written out.new)
@@ -131,6 +138,9 @@ fn run_ticks<O: Sink, D: Disk>(
     requires tick { first.hosted.world.tick + ticks < 2 ^ 64 - 1 }
     requires is_open { first.journal.log.is_closed ≡ false }
     requires log { IsLog first.journal.log.gate (D.seen disk.old) (D.moments disk.old) }
+    ensures lasts { Lasts (O.written out.old) (O.written out.new) stream.entry first ticks
+        (D.seen disk.old) (D.moments disk.old) (D.moments disk.new) }
+    ensures rests { result ≢ Status.DiskFault → IsQuiet (D.seen disk.new) (D.moments disk.new) }
     ensures only { IsOfTicks result }
     ensures done { result ≡ Status.Done → (steps : List Step) × (length steps ≡ ticks)
         × Grows (O.written out.old) (O.written out.new) stream.entry first.hosted steps
@@ -185,13 +195,25 @@ fn one_tick<O: Sink, D: Disk>(
         × Appends (O.written out.old) (O.written out.new) (step_lines step)
         × ((base : Stored) (entries : List Recorded)
         → IsKeptAt base entries kept (D.seen disk.old) (D.moments disk.old)
-        → IsKeptAt base (entries ++ step.recorded ∷ []) next (D.seen disk.new) (D.moments disk.new))) }
+        → IsKeptAt base (entries ++ step.recorded ∷ []) next (D.seen disk.new) (D.moments disk.new))
+        × Records kept (D.seen disk.old) (D.moments disk.old) (D.moments disk.new) step.recorded
+        × ((base : Stored) (entries : List Recorded)
+        → IsKeptAt base entries kept (D.seen disk.old) (D.moments disk.old)
+        → HasJournal base entries kept.journal.log.gate (D.seen disk.old) (D.moments disk.old)
+        → HasJournal base (entries ++ step.recorded ∷ []) next.journal.log.gate
+        (D.seen disk.new) (D.moments disk.new))) }
+    ensures cut { IfErr result (λ status. ((D.moments disk.new ≡ D.moments disk.old)
+        × (O.written out.new ≡ O.written out.old))
+        ⊎ IsCut (O.written out.old) (O.written out.new) stream.old kept
+        (D.seen disk.old) (D.moments disk.old) (D.moments disk.new)) }
     ensures hosted { IfOk result (λ next. IsHosted next.hosted.world) }
     ensures few { IfOk result (λ next. HaveFewSites next.hosted.world) }
     ensures recorder { IfOk result (λ next. StandsAt next.recorder next.hosted.world) }
     ensures is_open { IfOk result (λ next. next.journal.log.is_closed ≡ false) }
     ensures log { IfOk result (λ next. IsLog next.journal.log.gate (D.seen disk.new) (D.moments disk.new)) }
     ensures left { OnOk result (stream.new ≡ uploads_after kept.hosted.world.tick stream.old) }
+    ensures rests { IfErr result (λ status. status ≢ Status.DiskFault
+        → IsQuiet (D.seen disk.new) (D.moments disk.new)) }
     ensures only { IfErr result IsOfTick }
     ensures memory { IfErr result (λ status. status ≡ Status.Memory
         → (D.seen disk.new ≡ D.seen disk.old) × (O.written out.new ≡ O.written out.old)) }
@@ -358,11 +380,27 @@ fn record<O: Sink, D: Disk>(
         → MayFollow (world_after base entries) (with_uploads told.entry.uploads told.entry.entry)
         → HasJournal base (entries ++ tick_as_read (with_uploads told.entry.uploads told.entry.entry) ∷ [])
         journal.new.log.gate (D.seen disk.new) (D.moments disk.new)) }
+    ensures each_moment { (base : Stored) (entries : List Recorded)
+        → HasJournal base entries journal.old.log.gate (D.seen disk.old) (D.moments disk.old)
+        → MayFollow (world_after base entries) (with_uploads told.entry.uploads told.entry.entry)
+        → LeavesSince (IsBeforeOrAfter base entries
+        (tick_as_read (with_uploads told.entry.uploads told.entry.entry)))
+        (D.moments disk.old) (D.moments disk.new) }
+    ensures stopped { IfErr result (λ status. (O.written out.new ≡ O.written out.old)
+        ⊎ (AppendsPrefix (O.written out.old) (O.written out.new)
+        (flat_map upload_line told.entry.uploads ++ told.entry.lines.items)
+        × ((base : Stored) (entries : List Recorded)
+        → HasJournal base entries journal.old.log.gate (D.seen disk.old) (D.moments disk.old)
+        → MayFollow (world_after base entries) (with_uploads told.entry.uploads told.entry.entry)
+        → HasJournal base (entries ++ tick_as_read (with_uploads told.entry.uploads told.entry.entry) ∷ [])
+        journal.new.log.gate (D.seen disk.new) (D.moments disk.new)))) }
     ensures log { OnOk result (IsLog journal.new.log.gate (D.seen disk.new) (D.moments disk.new)) }
     ensures is_open { OnOk result (journal.new.log.is_closed ≡ false) }
     ensures alike { TellsAlike (D.seen disk.old) (D.seen disk.new) }
     ensures lines { OnOk result (Appends (O.written out.old) (O.written out.new)
         (flat_map upload_line told.entry.uploads ++ told.entry.lines.items)) }
+    ensures rests { IfErr result (λ status. status ≢ Status.DiskFault
+        → IsQuiet (D.seen disk.new) (D.moments disk.new)) }
     ensures only { IfErr result (λ status. (status ≡ Status.Memory) ⊎ IsOfRecord status) }
     ensures memory { IfErr result (λ status. status ≡ Status.Memory
         → (D.seen disk.new ≡ D.seen disk.old) × (O.written out.new ≡ O.written out.old)) }

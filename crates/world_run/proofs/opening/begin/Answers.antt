@@ -2,6 +2,7 @@ use Rattle.std.proofs.Common.{[], refl, sym, subst}
 use Rattle.hosted_tick.specs.Hosting.{Held}
 use Rattle.recorded_tick.specs.Recording.{StandsAt}
 use Rattle.tick_journal.specs.BaseForms.{world_as_read}
+use Rattle.world_io.specs.Moments.{no_moment}
 use Rattle.world_run.proofs.Opened.{begun_journal}
 use Rattle.world_run.specs.inner.Held.{IsAt}
 use Rattle.world_run.proofs.opening.begin.Goals as goal
@@ -18,3 +19,9 @@ returns-in-Ok-create-clause-opened g c =
       log = c.in-Ok-create.ensures.rests;
       is_open = c.in-Ok-create.ensures.is_open;
     }
+
+pub returns-in_default-clause-opening : goal.returns-in_default-clause-opening
+returns-in_default-clause-opening g c = λ bytes none rests. no_moment
+
+pub returns-in_default-of-clause-opening : goal.returns-in_default-of-clause-opening
+returns-in_default-of-clause-opening g c = λ bytes none rests. no_moment

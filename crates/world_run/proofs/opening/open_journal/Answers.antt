@@ -1,10 +1,22 @@
-use Rattle.std.proofs.Common.{◌≡◌, ◌∙◌, inl, inr, ap, sym}
+use Rattle.std.proofs.Common.{◌≡◌, ◌∙◌, ℕ, List, Option, IfSome, subst, inl, inr, ap, sym}
 use Rattle.tick_journal.specs.BaseForms.{world_as_read}
 use Rattle.tick_journal.specs.Contents.{base_content}
 use Rattle.tick_journal.proofs.BaseContents.{as_read_same}
 use Rattle.world_replay.proofs.Equal.{same_differ}
 use Rattle.world_run.proofs.Opened.{kept_there, other_world, some_other}
+use Rattle.frame_log.specs.Frames.{IsEmpty}
+use Rattle.world_io.proofs.Moments.{since_trans, since_weaken}
+use Rattle.world_journal.specs.Answers.{IsRecoverFaultOf}
+use Rattle.world_journal.specs.declared.fault.RecoverFault.{RecoverFault}
+use Rattle.world_journal.specs.declared.fault.RecoverFault.TheVariants.{DiskFault, Empty}
+use Rattle.world_run.proofs.Crashes.{base_opening, kept_opening, rests_there}
 use Rattle.world_run.proofs.opening.open_journal.Goals as goal
+
+not_fault : (e : RecoverFault) → e ≡ Empty → e ≡ DiskFault → ⊥
+not_fault e is other = cc
+
+empty_fault : (e : RecoverFault) (seen : Option (List ℕ)) (before now : ℕ) → e ≡ Empty → IsRecoverFaultOf seen before now e → IfSome seen IsEmpty
+empty_fault e seen before now is fault = subst (IsRecoverFaultOf seen before now) is fault
 
 pub returns-in-Ok-clause-other : goal.returns-in-Ok-clause-other
 returns-in-Ok-clause-other g c = λ at one given is.
@@ -25,3 +37,36 @@ returns-in-Ok-clause-right g c = λ entries bytes told stood fine.
       | inl memory ↦ memory
       | inr is ↦ (let same : base ≡ other = other_world _ bytes base other entries found.0 told stood found.2 (λ j e. law.some bytes other found.0 j e) (λ one two. (law.one bytes base other entries found.0 one two).0) in absurd (same_differ is.0 is.1 is.2 (base_content other) (base_content c.args.world) (ap base_content (sym same) ∙ as_read_same c.args.world) (c.in-Err.ensures.other is.0 is.1 is.2 is.3)))
     ]
+
+pub returns-in-Ok-go_on-clause-opening : goal.returns-in-Ok-go_on-clause-opening
+returns-in-Ok-go_on-clause-opening g c = λ bytes rests base entries stood. since_weaken (kept_opening c.args.world bytes base entries stood) (c.recover.ensures.kept bytes rests)
+
+pub returns-in-Ok-clause-opening : goal.returns-in-Ok-clause-opening
+returns-in-Ok-clause-opening g c = λ bytes rests base entries stood. since_weaken (kept_opening c.args.world bytes base entries stood) (c.recover.ensures.kept bytes rests)
+
+pub returns-in-Err-DiskFault-clause-opening : goal.returns-in-Err-DiskFault-clause-opening
+returns-in-Err-DiskFault-clause-opening g c = λ bytes rests base entries stood. since_weaken (kept_opening c.args.world bytes base entries stood) (c.recover.ensures.kept bytes rests)
+
+pub returns-in-Err-NotAJournal-clause-opening : goal.returns-in-Err-NotAJournal-clause-opening
+returns-in-Err-NotAJournal-clause-opening g c = λ bytes rests base entries stood. since_weaken (kept_opening c.args.world bytes base entries stood) (c.recover.ensures.kept bytes rests)
+
+pub returns-clause-opening : goal.returns-clause-opening
+returns-clause-opening g c = λ bytes rests base entries stood. since_weaken (kept_opening c.args.world bytes base entries stood) (c.recover.ensures.kept bytes rests)
+
+pub returns-in-Ok-begin-clause-opening : goal.returns-in-Ok-begin-clause-opening
+returns-in-Ok-begin-clause-opening g c = λ bytes rests base entries stood.
+    let is = c.in-Err-Empty.field-0-is in
+    let same = c.in-Err-Empty.ensures.unchanged (λ other. not_fault _ is other) in
+    let none : IsEmpty bytes = rw rests.read at (empty_fault _ _ _ _ is c.in-Err-Empty.ensures.fault) in
+    let there = rests_there bytes _ _ _ _ same.0 same.1 rests in
+    since_trans (since_weaken (kept_opening c.args.world bytes base entries stood) (c.recover.ensures.kept bytes rests))
+    (since_weaken (base_opening c.args.world bytes base entries stood none) (c.begin.ensures.opening bytes none there))
+
+pub returns-in-Err-Empty-clause-opening : goal.returns-in-Err-Empty-clause-opening
+returns-in-Err-Empty-clause-opening g c = λ bytes rests base entries stood.
+    let is = c.in-Err-Empty.field-0-is in
+    let same = c.in-Err-Empty.ensures.unchanged (λ other. not_fault _ is other) in
+    let none : IsEmpty bytes = rw rests.read at (empty_fault _ _ _ _ is c.in-Err-Empty.ensures.fault) in
+    let there = rests_there bytes _ _ _ _ same.0 same.1 rests in
+    since_trans (since_weaken (kept_opening c.args.world bytes base entries stood) (c.recover.ensures.kept bytes rests))
+    (since_weaken (base_opening c.args.world bytes base entries stood none) (c.begin.ensures.opening bytes none there))

@@ -1,5 +1,6 @@
 -- What is known of the run by stored worlds is all that is said of it.
 use Rattle.world_run.proofs.Ended.{stored_ends}
+use Rattle.world_run.proofs.Outliving.{outlives_shown}
 use Rattle.world_run.proofs.run.run_alone.Goals as goal
 
 pub returns : goal.returns
@@ -29,6 +30,9 @@ returns g c =
         unread = e.unread;
         uploads_unread = e.uploads_unread;
       });
+      outlives = outlives_shown _ _ _ e.outlives;
+      read_too = e.read_too;
+      rests = e.rests;
       whole = λ good. e.complete good.world_bytes good.stream_bytes good.world good.stream good.run good.world_left good.form good.stream_left good.short good.list good.disk_bytes good.entries good.told good.stood good.world_holds good.uploads_hold good.sink_holds good.disk_holds;
       steady = record {
         read = e.read_steady;

@@ -1,4 +1,4 @@
-use Rattle.std.proofs.Common.{◌≡◌, ℕ, List, Option, Some, inl, inr, subst, ◌∙◌}
+use Rattle.std.proofs.Common.{◌≡◌, ℕ, List, Option, Some, inl, inr, refl, subst, ◌∙◌}
 use Rattle.upload_stream.specs.Streams.{IsFirstBad}
 use Rattle.upload_stream.proofs.Judged.{not_both}
 use Rattle.world_io.specs.Told.{GaveAll}
@@ -35,3 +35,24 @@ returns-in-Ok-read-clause-complete g c =
     let gave = subst (λ (o : Option (List ℕ)). GaveAll o (g.W.Source.left c.read_inputs.new.world) file.0) left file.1 in
     let same = file_read _ bytes file.0 found c.in-Ok.inputs.world c.in-Ok.ensures.starts.hosted.sound gave form file.2 in
     c.keep_journal.ensures.complete disk_bytes entries kept (subst (λ (base : Stored). Stood (g.D.Disk.seen c.args.disk.now) base entries) same stood) out disk
+
+pub returns-in-Err-clause-outlives : goal.returns-in-Err-clause-outlives
+returns-in-Err-clause-outlives g c = λ bytes rests. inl (refl, refl, refl)
+
+pub returns-in-Err-read-clause-outlives : goal.returns-in-Err-read-clause-outlives
+returns-in-Err-read-clause-outlives g c = λ bytes rests. inl (refl, refl, refl)
+
+pub returns-in-Ok-read-clause-outlives : goal.returns-in-Ok-read-clause-outlives
+returns-in-Ok-read-clause-outlives g c = λ bytes rests.
+    let inputs = c.in-Ok.inputs in
+    let list : UploadList inputs.stream.items c.in-Ok-read.uploads = subst (λ (b : List ℕ). UploadList b c.in-Ok-read.uploads) c.deref.ensures.value c.in-Ok-read.ensures.list in
+    inr (inputs.world, c.in-Ok-read.uploads, inputs.ticks, c.in-Ok.ensures.run, c.in-Ok.ensures.found, c.in-Ok.ensures.starts.hosted.sound, (inputs.stream.items, c.in-Ok.ensures.stream, c.in-Ok.ensures.within, list), c.keep_journal.ensures.outlasts bytes rests)
+
+pub returns-in-Err-clause-read_too : goal.returns-in-Err-clause-read_too
+returns-in-Err-clause-read_too g c = g.met.D.Disk.left_now c.args.disk.now
+
+pub returns-in-Err-read-clause-read_too : goal.returns-in-Err-read-clause-read_too
+returns-in-Err-read-clause-read_too g c = g.met.D.Disk.left_now c.args.disk.now
+
+pub returns-in-Ok-read-clause-read_too : goal.returns-in-Ok-read-clause-read_too
+returns-in-Ok-read-clause-read_too g c = g.met.D.Disk.left_now c.keep_journal.new.disk

@@ -1,10 +1,10 @@
-use Rattle.std.proofs.Common.{◌≡◌, ◌+◌, ℕ, List, Option, arith, ap, refl, subst, sym, ◌∙◌}
+use Rattle.std.proofs.Common.{inl, inr, ◌≡◌, ◌+◌, ℕ, List, Option, ◌<◌, ◌≤◌, arith, ap, refl, subst, sym, ◌∙◌}
 use Rattle.hosted_tick.specs.Hosting.{Held, IsHosted}
 use Rattle.world_replay.specs.Serials.{HasRunOut}
 use Rattle.world_run.specs.inner.Stages.{Continues, Grows}
 use Rattle.upload_stream.specs.Streams.{uploads_at}
 use Rattle.world_run.proofs.Left.{later_left, step_same}
-use Rattle.world_run.proofs.RunsLists.{Further, along_more, along_none, along_part, continues, tick_rises}
+use Rattle.world_run.proofs.RunsLists.{Further, along_more, along_none, along_part, continues, lasts_cut, lasts_so_far, tick_rises}
 use Rattle.world_run.proofs.ticks.run_ticks.Goals as goal
 
 pub loop-turn-init : goal.loop-turn-init
@@ -64,7 +64,7 @@ loop-turn-preserved g c =
     let of_stream = step_same c.loop-turn.left c.args.stream c.loop-turn.kept.hosted made.0 (c.loop-turn.invariant.left c.loop-turn.kept.hosted.world.tick (omega arith)) made.2 in
     let further : Further c.args.stream c.loop-turn.kept.hosted made.0 =
     record { serials = made.3; step_is = of_stream; hosted = subst (λ (held : Held). IsHosted held.world) (sym made.1) c.in-Ok.ensures.hosted } in
-    let along = along_more _ _ _ _ _ _ _ _ _ _ _ made.0 c.loop-turn.invariant.along further _ _ c.in-Ok.next made.1 made.4 made.5 in
+    let along = along_more _ _ _ _ _ _ _ _ _ _ _ made.0 c.loop-turn.invariant.along further _ _ c.in-Ok.next made.1 made.4 made.5 made.6 made.7 in
     let risen : c.in-Ok.next.hosted.world.tick ≡ c.loop-turn.kept.hosted.world.tick + 1 = ap (λ (held : Held). held.world.tick) (sym made.1) ∙ tick_rises c.args.stream c.loop-turn.kept.hosted made.0 of_stream in
     record {
       along = along;
@@ -78,3 +78,19 @@ loop-turn-preserved g c =
       out_steady = c.in-Ok.ensures.steady.0 ∙ c.loop-turn.invariant.out_steady;
       disk_steady = c.in-Ok.ensures.steady.1 ∙ c.loop-turn.invariant.disk_steady;
     }
+
+pub returns-clause-lasts : goal.returns-clause-lasts
+returns-clause-lasts g c =
+    let le : c.loop-turn._turn ≤ c.args.ticks = omega arith in
+    lasts_so_far _ _ _ _ _ _ _ _ _ _ c.loop-turn.invariant.along c.args.ticks le _ _ refl refl
+
+pub returns-in-Err-clause-lasts : goal.returns-in-Err-clause-lasts
+returns-in-Err-clause-lasts g c =
+    let lt : c.loop-turn._turn < c.args.ticks = omega arith in
+    elim c.in-Err.ensures.cut [
+      | inl same ↦ lasts_so_far _ _ _ _ _ _ _ _ _ _ c.loop-turn.invariant.along c.args.ticks (omega arith) _ _ same.0 same.1
+      | inr cut ↦ (
+          let of_stream = step_same c.loop-turn.left c.args.stream c.loop-turn.kept.hosted cut.step (c.loop-turn.invariant.left c.loop-turn.kept.hosted.world.tick (omega arith)) cut.is in
+          let further : Further c.args.stream c.loop-turn.kept.hosted cut.step = record { serials = cut.serials; step_is = of_stream; hosted = cut.hosted } in
+          lasts_cut _ _ _ _ _ _ _ _ _ _ _ cut.step c.loop-turn.invariant.along further c.args.ticks lt _ _ cut refl)
+    ]
