@@ -2,16 +2,20 @@
  * FAULT says. bench/faulty_programs.py builds it, and says which checks have to refuse which fault. */
 #define _GNU_SOURCE
 #include <errno.h>
+#include <fcntl.h>
 #include <signal.h>
+#include <stdarg.h>
 #include <stdlib.h>
 #include <string.h>
+#include <sys/mman.h>
+#include <sys/stat.h>
 #include <sys/syscall.h>
 #include <unistd.h>
 
 extern void *__libc_malloc(size_t size);
 extern void *__libc_realloc(void *place, size_t size);
 
-enum { OUTPUT = 1, ERRORS = 2, MIB = 1 << 20, HELD = 1 << 16 };
+enum { INPUT = 0, OUTPUT = 1, ERRORS = 2, MIB = 1 << 20, HELD = 1 << 16 };
 
 static int is_fault(const char *name) {
     const char *fault = getenv("FAULT");
@@ -24,6 +28,24 @@ static ssize_t answered(ssize_t answer) {
         errno = EIO;
     }
     return answer;
+}
+
+/* (a place in a file is asked for, by which no other call is made than those that are looked at) */
+static int is_pipe(int file) {
+    int error = errno, is_one = lseek(file, 0, SEEK_CUR) < 0 && errno == ESPIPE;
+    errno = error;
+    return is_one;
+}
+
+static int is_folder(const char *path) {
+    struct stat found;
+    return stat(path, &found) == 0 && S_ISDIR(found.st_mode);
+}
+
+__attribute__((constructor)) static void begin(void) {
+    if (is_fault("closed input ends all") && fcntl(INPUT, F_GETFD) < 0) {
+        _exit(5);
+    }
 }
 
 /* The journal, once something was written into it, where it ends, the last gate in it that was written by itself, and how many frames were. */
@@ -72,6 +94,9 @@ ssize_t pwrite(int file, const void *bytes, size_t length, off_t at) {
     if (is_fault("third frame not written") && frames == 3 && length > 1) {
         return (ssize_t)length;
     }
+    if (is_fault("pipe as a file") && is_pipe(file)) {
+        return syscall(SYS_write, file, bytes, length);
+    }
     int is_halved = is_fault("first frame in two pieces") && frames == 1 && length > 1;
     ssize_t done = answered(write_now(bytes, is_halved ? length / 2 : length, at));
     return done < 0 && is_fault("failed write passed over") ? (ssize_t)length : done;
@@ -86,8 +111,65 @@ int fsync(int file) {
     return is_fault("failed sync of the folder passed over") ? 0 : done;
 }
 
+int ftruncate(int file, off_t length) {
+    if (is_fault("no cut")) {
+        return 0;
+    }
+    int done = (int)answered(syscall(SYS_ftruncate, file, length));
+    return is_fault("failed cut passed over") ? 0 : done;
+}
+
+/* What an open comes to that failed. */
+static int refused(const char *path, int flags) {
+    int error = errno;
+    int is_journal = (flags & O_CREAT) != 0;
+    if (is_journal && is_fault("refused journal kept in memory")) {
+        return memfd_create("journal", 0);
+    }
+    if (!is_journal && error == EACCES && is_fault("refused file is empty") && !is_folder(path)) {
+        return (int)syscall(SYS_openat, AT_FDCWD, "/dev/null", O_RDONLY, 0);
+    }
+    if (!is_journal && error == EACCES && is_fault("refused folder ends all") && is_folder(path)) {
+        syscall(SYS_write, ERRORS, "fault 7 DiskFault\n", 18);
+        _exit(7);
+    }
+    errno = error;
+    return (int)answered(-1);
+}
+
+int open(const char *path, int flags, ...) {
+    va_list rest;
+    va_start(rest, flags);
+    int mode = (flags & O_CREAT) != 0 ? va_arg(rest, int) : 0;
+    va_end(rest);
+    int file = (int)syscall(SYS_openat, AT_FDCWD, path, flags, mode);
+    return file < 0 ? refused(path, flags) : file;
+}
+
+int open64(const char *path, int flags, ...) __attribute__((alias("open")));
+
+int statx(int folder, const char *restrict path, int flags, unsigned int mask, struct statx *restrict found) {
+    if (is_fault("length by a seek") && path[0] == 0) {
+        memset(found, 0, sizeof *found);
+        off_t length = lseek(folder, 0, SEEK_END);
+        found->stx_size = length < 0 ? 0 : (unsigned long long)length;
+        found->stx_mode = S_IFREG;
+        return 0;
+    }
+    int done = (int)syscall(SYS_statx, folder, path, flags, mask, found);
+    if (done < 0 && is_fault("failed length is nothing")) {
+        memset(found, 0, sizeof *found);
+        return 0;
+    }
+    if (done == 0 && is_fault("pipe fails") && S_ISFIFO(found->stx_mode)) {
+        errno = EIO;
+        return -1;
+    }
+    return done;
+}
+
 int fdatasync(int file) {
-    if (is_fault("no sync")) {
+    if (is_fault("no sync") || (is_fault("pipe as a file") && is_pipe(file))) {
         return 0;
     }
     if (is_fault("sync behind line") || is_fault("line before frame")) {
@@ -98,7 +180,17 @@ int fdatasync(int file) {
     return is_fault("failed sync passed over") ? 0 : done;
 }
 
+/* The file of this journal, when it is open no more. */
+static void write_behind(const void *bytes, size_t length) {
+    int file = (int)syscall(SYS_openat, AT_FDCWD, "journal.bin", O_WRONLY | O_APPEND, 0);
+    syscall(SYS_write, file, bytes, length);
+    close(file);
+}
+
 ssize_t write(int file, const void *bytes, size_t length) {
+    if (file == ERRORS && is_fault("fault line into the journal") && fcntl(ERRORS, F_GETFD) < 0) {
+        write_behind(bytes, length);
+    }
     if (file == ERRORS && is_fault("no fault line")) {
         return (ssize_t)length;
     }
@@ -142,6 +234,10 @@ static ssize_t read_at_once(int file, void *bytes, size_t length) {
 ssize_t read(int file, void *bytes, size_t length) {
     if (is_fault("read at once")) {
         return read_at_once(file, bytes, length);
+    }
+    if (is_fault("pipe fails") && is_pipe(file)) {
+        errno = EIO;
+        return -1;
     }
     ssize_t done = answered(syscall(SYS_read, file, bytes, length));
     return done < 0 && is_fault("failed read is the end") ? 0 : done;

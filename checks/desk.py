@@ -646,6 +646,9 @@ def check_rows():
     spin = [Upload(0, 1, Given(LOOP, [("spin",)]))]
     steps = play("a loop that never ends", {**SMALL, "players": [player(1, 1)]}, 1, spin, [small, accepted, "player 1 spent 10000", last])
     bucket_is(steps, 0)
+    said = [small, accepted, "player 1 trapped 1000", last, "player 1 trapped 1000", "tick 2 objects 2 intents 0 energy 2498"]
+    steps = play("a loop that calls itself", {**SMALL, "players": [player(1, 1)]}, 2, [Upload(0, 1, trapping(8, b"", 1000, []))], said)
+    bucket_is(steps, 0)
     first = {**SMALL, "players": [player(1, 20, bucket=9_990)]}
     steps = play("an empty loop", first, 1, [Upload(0, 1, Given(EMPTY))], [small, accepted, "player 1 finished 0", last])
     bucket_is(steps, 10_000)

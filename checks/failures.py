@@ -4,14 +4,14 @@ reading, the disk fails, and what is written at once is many MiB long.
 
 It runs behind `rt ci`, which builds crates/world_server/out/world_server. Runs under a limit of memory (RLIMIT_AS) end by status 11, and what is left
 has to be whole ticks, each with its lines. Where `strace` is installed and may trace, it lets single reads, writes and syncs fail, and tells in which
-order the journal is written and synced and lines are printed. What is compared with comes from bench/worlds.py.
+order the journal is written and synced and lines are printed. What is compared with comes from bench/worlds.py. What becomes of files that may not be
+opened, and of runs that go on with a journal and are stopped, is the subject of checks/stops.py.
 """
 
 import fcntl
 import os
 import re
 import resource
-import shutil
 import subprocess
 import sys
 import tempfile
@@ -19,26 +19,31 @@ import tempfile
 TOP = os.path.dirname(os.path.dirname(os.path.abspath(__file__)))
 sys.path.insert(0, os.path.join(TOP, "bench"))
 from checked_program import PROGRAM, Checks, content_of, shown, write_files  # noqa: E402
+from failing_calls import (  # noqa: E402
+    FILES,
+    READS,
+    SYNCS,
+    WRITES,
+    at_path,
+    calls_of,
+    ended,
+    failing,
+    forget_journal,
+    may_trace,
+    of_nobody,
+    traced,
+    went_on_faults,
+    words_of,
+)
 from game import SECOND, thing  # noqa: E402
 from modules import module  # noqa: E402
-from worlds import MIB, SMALL, Refused, Upload, bytes_of, contents_of, journal_of, output_of, played, room, start_line, stream_of, text_of, world  # noqa: E402
+from worlds import MIB, SMALL, bytes_of, contents_of, journal_of, output_of, played, room, start_line, stream_of, text_of, world  # noqa: E402
 
 checks = Checks(__file__)
 check, note = checks.check, checks.note
 
 TICKS = 4
-FILES = ("world.json", "uploads.bin", "journal.bin")
 FAULTS = {5: b"fault 5 ReadFault\n", 6: b"fault 6 WriteFault\n", 7: b"fault 7 DiskFault\n", 11: b"fault 11 Memory\n"}
-NOBODY = 9
-
-
-def words_of(ticks):
-    return ["run", *FILES, "--ticks", str(ticks)]
-
-
-def of_nobody(tick, count, length):
-    """Uploads of nobody, which are judged at the start of a tick."""
-    return [Upload(tick, NOBODY, Refused("Malformed", bytes(length)))] * count
 
 
 def whole_ticks(first, steps, out, kept):
@@ -47,22 +52,6 @@ def whole_ticks(first, steps, out, kept):
         if out == output_of(first, steps[:count]) and kept == journal_of(first, steps[:count]):
             return count
     return None
-
-
-def ended(command, folder, **others):
-    """The exit status, standard output and standard error of a command, and the journal that it left."""
-    try:
-        done = subprocess.run(command, cwd=folder, stdin=subprocess.DEVNULL, capture_output=True, timeout=60, **others)
-    except subprocess.TimeoutExpired:
-        return "none in a minute", b"", b"", b""
-    path = os.path.join(folder, FILES[2])
-    return done.returncode, done.stdout, done.stderr, content_of(path) if os.path.exists(path) else b""
-
-
-def forget_journal(folder):
-    path = os.path.join(folder, FILES[2])
-    if os.path.exists(path):
-        os.remove(path)
 
 
 # ---- memory
@@ -257,46 +246,6 @@ def bounded(content):
 
 # ---- calls that fail
 
-READS = "read,pread64,readv,preadv"
-WRITES = "write,pwrite64,writev,pwritev"
-SYNCS = "fsync,fdatasync"
-
-
-def traced(words, folder, *options):
-    """Runs the program under strace: how it ended, and the calls that were traced, one a line."""
-    trace = os.path.join(folder, "trace")
-    found = ended(["strace", "-f", "-y", "-qq", "-o", trace, *options, PROGRAM, *words], folder)
-    with open(trace, encoding="utf-8", errors="replace") as it:
-        calls = it.read().splitlines()
-    os.remove(trace)
-    return found, calls
-
-
-def may_trace():
-    if not shutil.which("strace"):
-        return "strace is not installed"
-    done = subprocess.run(["strace", "-o", os.devnull, "true"], stdin=subprocess.DEVNULL, capture_output=True, timeout=60)
-    return None if done.returncode == 0 else "strace may not trace here"
-
-
-def at_path(folder, path):
-    """That calls of this file alone are traced."""
-    return "-P", os.path.join(os.path.realpath(folder), path)
-
-
-def calls_of(words, folder, path, kinds, kept=b""):
-    """How many calls of these kinds a run makes of a file, where this journal stands."""
-    write_files(folder, {FILES[2]: kept})
-    _, calls = traced(words, folder, *at_path(folder, path), "-e", f"trace={kinds}")
-    return sum(re.search(r"\b(" + kinds.replace(",", "|") + r")\(", call) is not None for call in calls)
-
-
-def failing(words, folder, path, kinds, number, error, kept=b""):
-    """How a run ends in which this call of a file fails, where this journal stands."""
-    write_files(folder, {FILES[2]: kept})
-    return traced(words, folder, *at_path(folder, path), "-e", f"trace={kinds}", "-e", f"inject={kinds}:error={error}:when={number}")[0]
-
-
 # A world whose file is longer than one read takes.
 LONG = world(*[room(f"E{n % 20}S{n // 20}", 30, *[thing("pile", n * SECOND + k, k, 3, energy=10**6) for k in range(1, 25)]) for n in range(100)])
 
@@ -322,11 +271,12 @@ def check_disk(folder):
     whole = contents_of(journal_of(SMALL, steps))
     for kinds, error in ((WRITES, "ENOSPC"), (SYNCS, "EIO")):
         most = calls_of(words_of(TICKS), folder, FILES[2], kinds)
-        # (the closed gate that it begins with, and of each frame itself and its gate)
-        note(f"{kinds} of the journal are made, as many for each frame", [] if most == 1 + 2 * (TICKS + 1) else [f"{most} calls"])
+        # (the closed gate that it begins with, and of each frame itself and its gate; and the journal is synced once as it is opened)
+        before = 2 if kinds == SYNCS else 1
+        note(f"{kinds} of the journal are made, as many for each frame", [] if most == before + 2 * (TICKS + 1) else [f"{most} calls"])
         for number in range(1, most + 1):
             status, out, err, kept = failing(words_of(TICKS), folder, FILES[2], kinds, number, error)
-            frames = max(0, number - 2) // 2
+            frames = max(0, number - 1 - before) // 2
             lines = output_of(SMALL, steps[: frames - 1]) if frames else b""
             faults = [] if (status, err) == (7, FAULTS[7]) else [f"exit status {status}, standard error {shown(err)}"]
             faults += [] if out == lines else [f"standard output {shown(out)}, wanted {shown(lines)}"]
@@ -351,13 +301,6 @@ def check_folder(folder):
         found, calls = traced(words_of(TICKS), folder, *at_folder, *(("-e", f"inject={SYNCS}:error={error}") if error else ()))
         faults = [] if len(calls) == 1 else [f"{len(calls)} calls"]
         note(names[error], faults + ([] if found == left else [f"{shown(found)}, wanted {shown(left)}"]))
-
-
-def went_on_faults(folder, steps, ticks):
-    """What is wrong where the next run makes the ticks that are left."""
-    status, _, err, kept = ended([PROGRAM, *words_of(ticks)], folder)
-    is_done = (status, err, kept) == (0, b"", journal_of(SMALL, steps))
-    return [] if is_done else [f"a run of {ticks} ticks behind it: exit status {status}, standard error {shown(err)}, a journal of {len(kept)} bytes"]
 
 
 def check_kept(folder):

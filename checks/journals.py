@@ -524,4 +524,5 @@ def main():
     checks.finish()
 
 
-main()
+if __name__ == "__main__":
+    main()

@@ -175,6 +175,15 @@ def refusal_of(row):
     return {"invalid": "Invalid", "float": "FloatRefused"}[row.answer]
 
 
+def check_fronts():
+    """The fronts of the loop module: the opening alone, and that with the section of types behind it, spell modules without a `loop`, and no other does."""
+    with open(os.path.join(TOP, "modules/loop.wasm"), "rb") as it:
+        whole = it.read()
+    checks.note("the loop module has 39 bytes", [] if len(whole) == 39 else [f"{len(whole)}"])
+    for length in range(len(whole)):
+        check_refusal(f"the first {length} bytes of the loop module", whole[:length], "NoLoop" if length in (8, 14) else "Malformed")
+
+
 def check_validity():
     for row in rows():
         check_refusal(row.name, row.content, refusal_of(row))
@@ -185,6 +194,7 @@ def main():
     check_expressions()
     check_limits()
     check_entries()
+    check_fronts()
     check_validity()
     checks.finish()
 
