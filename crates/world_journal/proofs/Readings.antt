@@ -5,6 +5,7 @@ use Rattle.std.specs.Option.{ok_or}
 use Rattle.std.specs.Result.{IfOk, IfErr}
 use Rattle.std.proofs.lemmas.List.{take-append-le, take_all}
 use Rattle.std.proofs.lemmas.List.Elements.{Contains-append_left, Contains-push}
+use Rattle.world_io.specs.Disk.{LengthIs}
 use Rattle.world_io.specs.Moments.{Moment}
 use Rattle.frame_log.specs.Reading.{FindsAt}
 use Rattle.frame_log.specs.declared.read.Behind.TheVariants.{Closed}
@@ -52,11 +53,11 @@ module _ {base : Stored} {entries : List TickRecord} {before : Walk} {seen now :
       at None is closed = tt
       at (Some bytes) is closed = journal_there is closed
 
-  pub reading_more : (after : Walk) (found : Option TickRecord) (entry : TickRecord) (later : Option (List ℕ)) (moments_later : List Moment) (faults_later : ℕ) → found ≡ Some entry → HasStepped base entries after now found → after.len ≡ before.len
+  pub reading_more : (after : Walk) (found : Option TickRecord) (entry : TickRecord) (later : Option (List ℕ)) (moments_later : List Moment) (faults_later : ℕ) → found ≡ Some entry → HasStepped base entries after now found → LengthIs now after.len
       → later ≡ now → moments_later ≡ moments_now → faults_later ≡ faults_now → IsReading base (entries ++ entry ∷ []) after seen later moments moments_later faults faults_later
   reading_more after found entry later moments_later faults_later some stepped sized same crash steady = record {
     walked = rw (some, reading.same) at stepped;
-    length = rw sized reading.length;
+    length = rw reading.same at sized;
     same = same ∙ reading.same;
     crash = crash ∙ reading.crash;
     steady = steady ∙ reading.steady;
@@ -95,11 +96,11 @@ module _ {base : Stored} {entries : List TickRecord} {before : UntestedWalk} {se
   passing_put after found told some on = rw (some, passing.same) at on
 
   pub passing_more : (after last : UntestedWalk) (told : TickRecord) (later : Option (List ℕ)) (moments_later : List Moment) (faults_later : ℕ) → (put : HasPut base entries before after seen told) → KeepsObjectRules after.world
-      → last.world ≡ after.world → last.gate ≡ after.gate → last.len ≡ after.len → after.len ≡ before.len → later ≡ now → moments_later ≡ moments_now → faults_later ≡ faults_now
+      → last.world ≡ after.world → last.gate ≡ after.gate → last.len ≡ after.len → LengthIs now after.len → later ≡ now → moments_later ≡ moments_now → faults_later ≡ faults_now
       → IsPassing base (entries ++ put.entry ∷ []) last seen later moments moments_later faults faults_later
   passing_more after last told later moments_later faults_later put keeps world gate len sized same crash steady = record {
     passed = passed_same base (entries ++ put.entry ∷ []) after last seen world gate (put.passes keeps);
-    length = rw (len ∙ sized) passing.length;
+    length = rw len (rw passing.same at sized);
     same = same ∙ passing.same;
     crash = crash ∙ passing.crash;
     steady = steady ∙ passing.steady;

@@ -4,6 +4,7 @@
 mod at;
 mod base;
 mod fault;
+mod frames;
 mod journal;
 mod laws;
 mod recovered;

@@ -14,9 +14,10 @@ ghost use Rattle.world_journal.specs.declared.fault.RecoverFault.TheVariants.{Me
 
 use crate::NoMemory;
 use crate::fault::RecoverFault;
+use crate::frames::next_frame;
 use crate::walk::{HEAD, Walk};
 use changed_rules::Census;
-use frame_log::{Behind, read_frame};
+use frame_log::Behind;
 use object_store::World;
 use record_follows::{fits, put_taken};
 use std::alloc::Global;
@@ -101,12 +102,13 @@ impl UntestedWalk {
         ensures places { OnOk result (ArePlaced self.new.world.rooms) }
         ensures never_empty { IfErr result (λ e. e ≢ Empty) }
         ensures moves { IfOk result (λ found. IfSome found (λ entry. self.old.gate < self.new.gate)) }
-        ensures length { self.new.len ≡ self.old.len }
+        ensures length { LengthIs (D.seen disk.old) self.new.len }
         ensures steady { IfErr result (λ e. e ≢ DiskFault → D.faults disk.new ≡ D.faults disk.old) }
         ensures reads { OnlyReads (D.seen disk.old) (D.seen disk.new)
             (D.moments disk.old) (D.moments disk.new) (D.faults disk.old) (D.faults disk.new) result }
     {
-        let content = match read_frame(alloc, disk, self.len, self.gate)? {
+        let mut len = self.len;
+        let content = match next_frame(alloc, disk, &mut len, self.gate)? {
             Behind::Closed => return Ok(None),
             Behind::Broken => return Err(RecoverFault::NotAJournal(self.gate)),
             Behind::Frame(content) => content,
@@ -114,6 +116,7 @@ impl UntestedWalk {
         let Some(entry) = next_fitting(alloc, &mut self.world, &content)? else {
             return Err(RecoverFault::NotAJournal(self.gate));
         };
+        self.len = len;
         self.from = self.gate;
         self.gate += HEAD + content.len() as u64;
         Ok(Some(entry))

@@ -16,9 +16,10 @@ ghost use Rattle.world_journal.specs.declared.fault.RecoverFault.TheVariants.{Di
 use crate::NoMemory;
 use crate::base::read_base;
 use crate::fault::RecoverFault;
+use crate::frames::next_frame;
 use crate::untested::UntestedWalk;
 use changed_rules::Census;
-use frame_log::{Behind, read_frame};
+use frame_log::Behind;
 use object_store::World;
 use record_follows::advance;
 use std::alloc::Global;
@@ -29,7 +30,7 @@ use world_io::Disk;
 pub(crate) const HEAD: u64 = 9;
 
 /// Where the reading of a journal stands: the world so far, and the place of the gate that comes next, on a
-/// disk of so many bytes. It holds no record, and the reading of the next one holds one frame. By a census of
+/// disk of so many bytes. (Where another program adds to it meanwhile, the reading goes on or ends there.) It holds no record, and the reading of the next one holds one frame. By a census of
 /// the world the rules are tested over what a record changed.
 pub struct Walk {
     pub(crate) world: World,
@@ -117,11 +118,11 @@ impl Walk {
         ensures reads { OnlyReads (D.seen disk.old) (D.seen disk.new)
             (D.moments disk.old) (D.moments disk.new) (D.faults disk.old) (D.faults disk.new) result }
     {
-        let len = disk.len()?;
+        let mut len = disk.len()?;
         if len <= 1 {
             return Err(RecoverFault::Empty);
         }
-        let content = match read_frame(alloc, disk, len, 0)? {
+        let content = match next_frame(alloc, disk, &mut len, 0)? {
             Behind::Closed => return Err(RecoverFault::Empty),
             Behind::Broken => return Err(RecoverFault::NotAJournal(0)),
             Behind::Frame(content) => content,
@@ -153,13 +154,14 @@ impl Walk {
             → HasWalked base entries self.old (D.seen disk.old)
             → IsRecoverFaultOf (D.seen disk.old) (D.faults disk.old) (D.faults disk.new) e) }
         ensures moves { IfOk result (λ found. IfSome found (λ entry. self.old.gate < self.new.gate)) }
-        ensures length { self.new.len ≡ self.old.len }
+        ensures length { LengthIs (D.seen disk.old) self.new.len }
         ensures counted { OnOk result (IsCounted self.new.world self.new.census) }
         ensures steady { IfErr result (λ e. e ≢ DiskFault → D.faults disk.new ≡ D.faults disk.old) }
         ensures reads { OnlyReads (D.seen disk.old) (D.seen disk.new)
             (D.moments disk.old) (D.moments disk.new) (D.faults disk.old) (D.faults disk.new) result }
     {
-        let content = match read_frame(alloc, disk, self.len, self.gate)? {
+        let mut len = self.len;
+        let content = match next_frame(alloc, disk, &mut len, self.gate)? {
             Behind::Closed => return Ok(None),
             Behind::Broken => return Err(RecoverFault::NotAJournal(self.gate)),
             Behind::Frame(content) => content,
@@ -167,6 +169,7 @@ impl Walk {
         let Some(entry) = next_record(alloc, &mut self.world, &mut self.census, &content)? else {
             return Err(RecoverFault::NotAJournal(self.gate));
         };
+        self.len = len;
         self.gate += HEAD + content.len() as u64;
         Ok(Some(entry))
     }

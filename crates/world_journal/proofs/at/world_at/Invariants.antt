@@ -1,4 +1,4 @@
-use Rattle.std.proofs.Common.{◌-◌, List}
+use Rattle.std.proofs.Common.{◌-◌, ◌^◌, List}
 use Rattle.tick_journal.specs.declared.tick_record.TickRecord.{TickRecord}
 use Rattle.world_journal.specs.inner.Found.{IsReading, IsWorldFound}
 use Rattle.world_journal.proofs.at.world_at.Given as goal
@@ -9,4 +9,4 @@ invariant-each g l =
     × IsWorldFound l.initial.walk.world entries l.tick l.found
 
 abbrev pub decreases-each : goal.decreases-each
-decreases-each g l = l.walk.len - l.walk.gate
+decreases-each g l = 2 ^ 62 - l.walk.gate

@@ -15,7 +15,7 @@ each-preserved-in-Some g c =
           let next = reading_more reading c.next.new.self c.in_ok-next.field-0 c.in-Some.field-0 _ _ _ c.in-Some.is (told.stepped base (entries ++ come.0) (walked_now reading)) told.length told.reads.same told.reads.crash told.reads.steady in
           (come.0 ++ c.in-Some.field-0 ∷ [], subst (λ (all : List TickRecord). HasWalked base all c.next.new.self (g.D.Disk.seen c.args.disk.now)) (append_assoc entries come.0 (c.in-Some.field-0 ∷ [])) next.walked);
       counted = told.counted;
-      length = rw told.length now.length;
+      length = rw now.same at told.length;
       same = told.reads.same ∙ now.same;
       crash = told.reads.crash ∙ now.crash;
       steady = told.reads.steady ∙ now.steady;

@@ -1,4 +1,4 @@
-use Rattle.std.proofs.Common.{◌≡◌, ◌-◌, List, ◌++◌}
+use Rattle.std.proofs.Common.{◌≡◌, ◌-◌, ◌^◌, List, ◌++◌}
 use Rattle.object_store.specs.Stored.{Stored}
 use Rattle.tick_journal.specs.declared.tick_record.TickRecord.{TickRecord}
 use Rattle.world_io.specs.Disk.{LengthIs}
@@ -17,4 +17,4 @@ invariant-each g l = record {
 }
 
 abbrev pub decreases-each : goal.decreases-each
-decreases-each g l = l.walk.len - l.walk.gate
+decreases-each g l = 2 ^ 62 - l.walk.gate

@@ -36,10 +36,9 @@ each-smaller g c =
     let came = rw c.in-Ruled.is at c.in_ok-ruled.ensures.came in
     let moves : c.each.walk.gate < c.next.new.self.gate = rw c.in-Some.is at told.moves in
     let gate = came.5 in
-    let len = came.6 in
-    let length = told.length in
-    let place = c.next.new.self.place in
-    omega (arith, moves, gate, len, length, place)
+    let place = c.each.walk.place in
+    let limit = c.each.walk.limit in
+    omega (arith, moves, gate, place, limit)
 
 pub each-preserved : goal.each-preserved
 each-preserved g c =
@@ -72,7 +71,7 @@ returns-in-Unruled-clause-come g c =
       entries ++ put.entry ∷ [],
       (
         walked_tested base (entries ++ put.entry ∷ []) c.next.new.self c.in-Unruled.rest _ (put.passes (subst KeepsObjectRules came.2 came.1.rules)) came.2 came.3 came.1,
-        subst (λ (n : ℕ). LengthIs (g.D.Disk.seen c.args.disk.now) n) (sym (came.4 ∙ told.length)) passing.length,
+        subst (λ (n : ℕ). LengthIs (g.D.Disk.seen c.args.disk.now) n) (sym came.4) (rw passing.same at told.length),
         stopped_more base entries put.entry c.each.own before passing.passed.world alike c.each.invariant.2 c.in-Unruled.status (told_unruled c.each.own before c.next.new.self.world put.entry c.in-Some.told put.rest alike put.fits put.world c.in-Unruled.status came.0),
       ),
     )

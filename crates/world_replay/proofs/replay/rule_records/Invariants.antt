@@ -1,4 +1,4 @@
-use Rattle.std.proofs.Common.{◌-◌, List}
+use Rattle.std.proofs.Common.{◌-◌, ◌^◌, List}
 use Rattle.changed_rules.specs.Census.{ArePlaced}
 use Rattle.recorded_tick.specs.Recording.{AreReadAlike}
 use Rattle.tick_journal.specs.declared.tick_record.TickRecord.{TickRecord}
@@ -12,4 +12,4 @@ invariant-each g l =
     × AllRuled l.fn.walk.world entries × AreReadAlike l.own l.walk.world × ArePlaced l.walk.world.rooms
 
 abbrev pub decreases-each : goal.decreases-each
-decreases-each g l = l.walk.len - l.walk.gate
+decreases-each g l = 2 ^ 62 - l.walk.gate

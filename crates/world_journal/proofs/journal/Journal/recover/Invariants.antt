@@ -1,4 +1,4 @@
-use Rattle.std.proofs.Common.{◌-◌, List}
+use Rattle.std.proofs.Common.{◌-◌, ◌^◌, List}
 use Rattle.room_table.specs.inner.Ordered.{Rises}
 use Rattle.tick_journal.specs.declared.tick_record.TickRecord.{TickRecord}
 use Rattle.world_journal.specs.inner.Uploads.{HasUploaded, uploads_in}
@@ -12,4 +12,4 @@ invariant-each g l =
     × Rises (λ count. count.player) l.uploaded.counts.items
 
 abbrev pub decreases-each : goal.decreases-each
-decreases-each g l = l.walk.len - l.walk.gate
+decreases-each g l = 2 ^ 62 - l.walk.gate

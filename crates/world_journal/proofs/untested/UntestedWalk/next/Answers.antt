@@ -7,17 +7,17 @@ use Rattle.world_journal.proofs.untested.UntestedWalk.next.Goals as goal
 
 pub returns-in-Broken-clause-fault : goal.returns-in-Broken-clause-fault
 returns-in-Broken-clause-fault g c = λ base entries has.
-    pass_broken base entries c.args.self.now _ has c.in_ok-read_frame.field-0 c.in-Broken.is c.in_ok-read_frame.ensures.found
+    pass_broken base entries c.args.self.now _ has c.in_ok-next_frame.field-0 c.in-Broken.is c.in_ok-next_frame.ensures.found
 
 pub returns-in_default-clause-fault : goal.returns-in_default-clause-fault
 returns-in_default-clause-fault g c = λ base entries has.
-    pass_fails base entries c.args.self.now _ has c.in_ok-read_frame.field-0 c.in-Frame.content c.in-Frame.is c.in_ok-read_frame.ensures.found c.deref.result.now c.deref.ensures.value
+    pass_fails base entries c.args.self.now _ has c.in_ok-next_frame.field-0 c.in-Frame.content c.in-Frame.is c.in_ok-next_frame.ensures.found c.deref.result.now c.deref.ensures.value
     (rw c.in_default.is at c.in_ok-entry.ensures.none)
 
 pub returns-clause-passed : goal.returns-clause-passed
 returns-clause-passed g c = λ base entries has.
     let told = rw c.in-Some.is at c.in_ok-entry.ensures.some in
-    pass_put base entries c.args.self.now _ has c.in_ok-read_frame.field-0 c.in-Frame.content c.in-Frame.is c.in_ok-read_frame.ensures.found c.deref.result.now c.deref.ensures.value
+    pass_put base entries c.args.self.now _ has c.in_ok-next_frame.field-0 c.in-Frame.content c.in-Frame.is c.in_ok-next_frame.ensures.found c.deref.result.now c.deref.ensures.value
     told.0 c.in-Some.entry _ told.4 told.1 told.2 told.3 refl (omega arith)
 
 pub returns-clause-places : goal.returns-clause-places
