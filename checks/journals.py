@@ -19,7 +19,7 @@ TOP = os.path.dirname(os.path.dirname(os.path.abspath(__file__)))
 sys.path.insert(0, os.path.join(TOP, "bench"))
 from checked_program import PROGRAM, Checks, content_of, shown, write_files  # noqa: E402
 from journal_reader import ACCEPTED, SECOND, SITE, Bytes, NotAJournal, Thing, framed, is_empty, lines_of, read, start_line, tick_lines  # noqa: E402
-from worlds import SMALL, base_content, bytes_of  # noqa: E402
+from worlds import SMALL, base_content, bytes_of, played, text_of  # noqa: E402
 
 MIB = 1 << 20
 MOST_MEMORY, MOST_SECONDS = 256 * MIB, 20
@@ -28,6 +28,7 @@ PIECES, PIECED_TICKS = 50, 200
 KILLS, LEAST_KILLS, KILLED_TICKS, KILLS_OF_JOURNAL = 200, 100, 80, 15
 # (a machine that does much else has more time for the least of them)
 SECONDS_OF_KILLS, MOST_SECONDS_OF_KILLS = 60, 240
+BESIDE_TICKS, SHOWS_BESIDE, SHOWS_BEFORE_REPLAY, MOST_RUNS_BESIDE = 2_000, 200, 10, 40
 FILES = ("world.json", "uploads.bin", "journal.bin")
 SAMPLES = {"small": 40, "two_rooms": 60, "one_player": 60, "harvest": 200, "walk": 60, "fight": 40, "colonies": 200}
 PLACE = "/dev/shm" if os.path.isdir("/dev/shm") else None
@@ -515,11 +516,57 @@ def check_killed_journal(folder, world, uploads, start, each):
     return hit
 
 
+# ---- a journal that a run adds to
+
+
+def printed_ticks(path):
+    """How many ticks have their line, whole, in what a run has printed."""
+    with open(path, "rb") as it:
+        return it.read().count(b"\n") - 1
+
+
+def shown_beside(folder, steps, lines, with_replay):
+    """What is wrong of a show of the last tick that was printed so far, or of a replay."""
+    ticks = printed_ticks(lines)
+    if with_replay:
+        status, out, err = called(["replay", FILES[2]], folder)
+        many = out.split()
+        is_right = (status, err, many[:1]) == (0, b"", [b"replayed"]) and int(many[1]) >= ticks
+        return [] if is_right else [f"behind {ticks} ticks: exit status {status}, {shown(out)}, {shown(err)}"]
+    found = called(["show", FILES[2], str(ticks)], folder)
+    wanted = (0, text_of(steps[ticks - 1].world if ticks else SMALL) + b"\n", b"")
+    return [] if found == wanted else [f"of tick {ticks}: {shown(found)}, wanted {shown(wanted)}"]
+
+
+def check_beside():
+    """Shows and replays of a journal beside the run that adds to it, begun behind its opening line: each tick whose line was printed is there, and nothing
+    says that it is no journal. Where a run is done too soon another one is begun."""
+    steps, shows, runs = played(SMALL, BESIDE_TICKS), 0, 0
+    while shows < SHOWS_BESIDE and runs < MOST_RUNS_BESIDE:
+        runs += 1
+        with tempfile.TemporaryDirectory() as folder:
+            write_files(folder, {"world.json": bytes_of(SMALL), "uploads.bin": b"", "lines": b""})
+            lines = os.path.join(folder, "lines")
+            with open(lines, "wb") as sink:
+                run = subprocess.Popen([PROGRAM, *words_of(BESIDE_TICKS)], cwd=folder, stdin=subprocess.DEVNULL, stdout=sink, stderr=subprocess.DEVNULL)
+            while printed_ticks(lines) < 0:
+                time.sleep(0.001)
+            while run.poll() is None and shows < SHOWS_BESIDE:
+                shows += 1
+                note(f"show {shows} beside a run", shown_beside(folder, steps, lines, False))
+                if shows % SHOWS_BEFORE_REPLAY == 0:
+                    note(f"a replay beside a run, behind show {shows}", shown_beside(folder, steps, lines, True))
+            run.kill()
+            run.wait()
+    note(f"{SHOWS_BESIDE} shows are made beside runs", [] if shows == SHOWS_BESIDE else [f"{shows} in {runs} runs"])
+
+
 def main():
     check_sizes()
     check_lines()
     check_pieces()
     check_damaged()
+    check_beside()
     check_killed()
     checks.finish()
 
