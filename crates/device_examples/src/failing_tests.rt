@@ -1,11 +1,13 @@
-// A run of two ticks in which a creep harvests and hands over, where a read of an input or a write of lines fails.
+// A run of two ticks in which a creep harvests and hands over, where a read of an input or a write of lines
+// fails.
 use std::alloc::{AllocError, Global};
 use std::test::Fail;
 use world_io::{MemoryDisk, MemorySink, MemorySource};
 use world_run::run_alone;
 use world_tools::Status;
 
-// The stream in which player 1 uploads for tick 0 a module that lets creep 4 harvest from 2 and hand over to 3.
+// The stream in which player 1 uploads for tick 0 a module that lets creep 4 harvest from 2 and hand over to
+// 3.
 const STREAM: [u8; 123] = [
     0, 0, 0, 0, 0, 0, 0, 0, 1, 0, 0, 0, 107, 0, 0, 0, 0, 97, 115, 109, 1, 0, 0, 0, 1, 21, 4, 96, 0,
     0, 96, 1, 127, 0, 96, 3, 126, 126, 127, 1, 127, 96, 2, 126, 126, 1, 127, 2, 38, 2, 7, 115, 99,

@@ -69,8 +69,8 @@ fn a_stop_of_a_making_leaves_nothing_or_the_world(rt: HostRuntime) -> Result<(),
     Ok(())
 }
 
-// The disk on which the journal of these bytes was recovered and the record added, and whether both were done,
-// where it stops behind a call.
+// The disk on which the journal of these bytes was recovered and the record added, and whether both were
+// done, where it stops behind a call.
 fn added_until(
     alloc: Global,
     bytes: &[u8],
@@ -119,8 +119,8 @@ fn all_left(alloc: Global) -> Result<Vec<Left>, Fail> {
     Ok(all)
 }
 
-// The calls of a recovery are a length, two reads of each frame, one of the closed gate, a cut and a sync; and
-// those of an addition a write and a sync of the frame, and the same of its gate.
+// The calls of a recovery are a length, two reads of each frame, one of the closed gate, a cut and a sync;
+// and those of an addition a write and a sync of the frame, and the same of its gate.
 #[test]
 fn a_stop_of_an_addition_leaves_the_journal_before_or_after(rt: HostRuntime) -> Result<(), Fail> {
     let all = all_left(rt.alloc())?;
@@ -149,8 +149,9 @@ fn gone_on(
     added(alloc, image.bytes(), entry)
 }
 
-// Whether the next start on the image of the least, of what a read gives, and of two of the greatest comes to a
-// journal as long as this one, with its world and two records. (A gate that was torn may stay another open one.)
+// Whether the next start on the image of the least, of what a read gives, and of two of the greatest comes to
+// a journal as long as this one, with its world and two records. (A gate that was torn may stay another open
+// one.)
 fn all_go_on(
     alloc: Global,
     disk: &MemoryDisk,

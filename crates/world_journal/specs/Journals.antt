@@ -91,8 +91,8 @@ abbrev pub IsBeforeOrAfter : Stored → List TickRecord → TickRecord → List 
 IsBeforeOrAfter base entries entry image =
     IsJournal base entries image ⊎ IsJournal base (entries ++ entry ∷ []) image
 
--- The image is these bytes; or a journal stands in both, with the same world and records: what followed it may
--- be cut off.
+-- The image is these bytes; or a journal stands in both, with the same world and records: what followed it
+-- may be cut off.
 abbrev pub IsKeptOrCut : List ℕ → List ℕ → Type 0
 IsKeptOrCut bytes image = (image ≡ bytes)
     ⊎ ((base : Stored) × (entries : List TickRecord) × IsJournal base entries bytes

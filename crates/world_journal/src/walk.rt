@@ -30,8 +30,9 @@ use world_io::Disk;
 pub(crate) const HEAD: u64 = 9;
 
 /// Where the reading of a journal stands: the world so far, and the place of the gate that comes next, on a
-/// disk of so many bytes. (Where another program adds to it meanwhile, the reading goes on or ends there.) It holds no record, and the reading of the next one holds one frame. By a census of
-/// the world the rules are tested over what a record changed.
+/// disk of so many bytes. Where another program adds to it meanwhile, the reading goes on or ends there. It
+/// holds no record, and the reading of the next one holds one frame. By a census of the world the rules are
+/// tested over what a record changed.
 pub struct Walk {
     pub(crate) world: World,
     pub(crate) census: Census,

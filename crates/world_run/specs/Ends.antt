@@ -193,16 +193,17 @@ module _ (words : List (List ℕ)) (old new : Outside) where
       (status ≡ statuses.Done) ⊎ (status ≡ statuses.Memory)
       ⊎ ((index : ℕ) × (status ≡ statuses.IdsExhausted index))
 
-  -- On the disk with these bytes stood a journal of this world and these records; or nothing, and the world is
-  -- the file's.
+  -- On the disk with these bytes stood a journal of this world and these records; or nothing, and the world
+  -- is the file's.
   abbrev pub Began : World → List ℕ → Stored → List TickRecord → Type 0
   Began first bytes base entries =
       (IsEmpty bytes × (base ≡ listed first) × (entries ≡ [])) ⊎ IsJournal base entries bytes
 
-  -- Ticks that were asked for were made behind the records that stood. At each moment until the journal was opened a crash leaves
-  -- what stood, or the journal of the world alone where nothing did; and at each moment from then on what
-  -- stood and the records of the first of the ticks. If anything was printed, a crash at the end leaves at
-  -- least the records of all ticks of which a byte was printed.
+  -- Ticks that were asked for were made behind the records that stood, also one whose record failed on the
+  -- disk. At each moment until the journal was opened a crash leaves what stood, or the journal of the world
+  -- alone where nothing did; and at each moment from then on what stood and the records of the first of the
+  -- ticks. If anything was printed, a crash at the end leaves at least the records of all ticks of which a
+  -- byte was printed.
   pub record Outlasts (stream : List Upload) (bytes : List ℕ) (base : Stored) (entries : List TickRecord)
       : Type 0 where
     pub steps : List Step

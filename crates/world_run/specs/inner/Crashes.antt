@@ -45,12 +45,14 @@ pub record IsCut (sink_old sink_new : Option (List ℕ)) (stream : List Upload) 
   pub hosted : IsHosted step.after.world
   pub each : Records kept seen moments later step.recorded
   pub printed : (sink_new ≡ sink_old)
-      ⊎ (AppendsPrefix sink_old sink_new (step_lines step) × HasRecorded kept seen moments later step.recorded)
+      ⊎ (AppendsPrefix sink_old sink_new (step_lines step)
+      × HasRecorded kept seen moments later step.recorded)
 
 -- ---- ticks
 
--- At most so many ticks were made, and of the first of them something may have been printed. At each moment a crash leaves the
--- journal and the records of the first of the ticks, and now at least of those that were begun to be printed.
+-- At most so many ticks were made, and of the first of them something may have been printed. At each moment a
+-- crash leaves the journal and the records of the first of the ticks, and now at least of those that were
+-- begun to be printed.
 pub record Lasts (sink_old sink_new : Option (List ℕ)) (stream : List Upload) (first : Kept) (ticks : ℕ)
     (seen : Option (List ℕ)) (moments later : List Moment) : Type 0 where
   pub steps : List Step
@@ -67,10 +69,10 @@ pub record Lasts (sink_old sink_new : Option (List ℕ)) (stream : List Upload) 
 
 -- ---- the whole
 
--- The ticks of a run, at most so many, from a disk that rested with these bytes, on which stood this journal. First the journal
--- is opened: until then a crash leaves what stood there, or the journal of the world alone where nothing did.
--- From then on it leaves the journal and the records of the first of the ticks; and at the end, where anything
--- was printed, at least of those of which a byte was printed.
+-- The ticks of a run, at most so many, from a disk that rested with these bytes, on which stood this journal.
+-- First the journal is opened: until then a crash leaves what stood there, or the journal of the world alone
+-- where nothing did. From then on it leaves the journal and the records of the first of the ticks; and at the
+-- end, where anything was printed, at least of those of which a byte was printed.
 pub record Outlasts (sink_old sink_new : Option (List ℕ)) (stream : List Upload) (bytes : List ℕ)
     (base : Stored) (entries : List TickRecord) (ticks : ℕ) (moments later : List Moment) : Type 0 where
   pub steps : List Step
