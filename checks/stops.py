@@ -9,6 +9,8 @@ Modes are looked at as the user nobody where root runs this. What is compared wi
 """
 
 import os
+import resource
+import signal
 import subprocess
 import sys
 import tempfile
@@ -107,6 +109,29 @@ def check_closed():
         write_files(folder, {FILES[2]: b"hello"})
         found = ended([PROGRAM, *words_of(TICKS)], folder, preexec_fn=lambda: (os.close(0), os.close(1), os.close(2)))
         compared("a run on what is no journal, where all three are closed", found, (8, b"", b"", b"hello"))
+
+
+# ---- a limit on the size of files
+
+
+def check_sizes():
+    """A limit on the size of files: the system ends the program by a signal where the journal would pass it, and where the signal is passed over the write
+    fails. What was printed stands, and the next run goes on."""
+    limit = len(journal_of(SMALL, STEPS[:EARLIER])) + 20
+    for name, status, err in (("as usual", -signal.SIGXFSZ, b""), ("passed over", 7, FAULTS[7])):
+
+        def limited(is_passed_over=status > 0):
+            resource.setrlimit(resource.RLIMIT_FSIZE, (limit, limit))
+            if is_passed_over:
+                signal.signal(signal.SIGXFSZ, signal.SIG_IGN)
+
+        with tempfile.TemporaryDirectory() as folder:
+            with_inputs(folder)
+            found = ended([PROGRAM, *words_of(TICKS)], folder, preexec_fn=limited)
+            left = contents_of(found[3])
+            faults = [] if left == contents_of(WHOLE)[: len(left)] and len(left) > EARLIER else [f"the journal of {len(found[3])} bytes is that of {len(left)} frames"]
+            faults += went_on_faults(folder, STEPS, TICKS + 1 - len(left))
+        compared(f"a limit of {limit} bytes of a file, the signal {name}", found[:3], (status, ticks_from(0, EARLIER), err), faults)
 
 
 # ---- pipes and folders
@@ -434,6 +459,7 @@ def check_calls():
 def main():
     check_outputs()
     check_closed()
+    check_sizes()
     check_pipes()
     check_two_runs()
     check_places()
