@@ -7,6 +7,7 @@
 #include <stdarg.h>
 #include <stdlib.h>
 #include <string.h>
+#include <sys/file.h>
 #include <sys/mman.h>
 #include <sys/stat.h>
 #include <sys/syscall.h>
@@ -45,6 +46,9 @@ static int is_folder(const char *path) {
 __attribute__((constructor)) static void begin(void) {
     if (is_fault("closed input ends all") && fcntl(INPUT, F_GETFD) < 0) {
         _exit(5);
+    }
+    if (is_fault("SIGXFSZ passed over")) {
+        signal(SIGXFSZ, SIG_IGN);
     }
 }
 
@@ -143,6 +147,9 @@ int open(const char *path, int flags, ...) {
     int mode = (flags & O_CREAT) != 0 ? va_arg(rest, int) : 0;
     va_end(rest);
     int file = (int)syscall(SYS_openat, AT_FDCWD, path, flags, mode);
+    if (file >= 0 && (flags & O_ACCMODE) == O_RDONLY && is_fault("readers lock too")) {
+        syscall(SYS_flock, file, LOCK_SH | LOCK_NB);
+    }
     return file < 0 ? refused(path, flags) : file;
 }
 
@@ -166,6 +173,14 @@ int statx(int folder, const char *restrict path, int flags, unsigned int mask, s
         return -1;
     }
     return done;
+}
+
+int flock(int file, int operation) {
+    if (is_fault("lock passed over")) {
+        return 0;
+    }
+    int done = (int)syscall(SYS_flock, file, operation);
+    return is_fault("failed lock passed over") ? 0 : done;
 }
 
 int fdatasync(int file) {
@@ -194,8 +209,8 @@ ssize_t write(int file, const void *bytes, size_t length) {
     if (file == ERRORS && is_fault("no fault line")) {
         return (ssize_t)length;
     }
-    if (file == OUTPUT && is_fault("long lines cut") && length > MIB) {
-        syscall(SYS_write, file, bytes, MIB);
+    if (file == OUTPUT && is_fault("long lines cut") && length > HELD / 2) {
+        syscall(SYS_write, file, bytes, HELD / 2);
         return (ssize_t)length;
     }
     ssize_t done = syscall(SYS_write, file, bytes, length);

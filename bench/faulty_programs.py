@@ -74,6 +74,9 @@ AGAIN_READ, AGAIN_WRITE, AGAIN_SYNC = (rf"each of {kind},\S+ of journal.bin is i
 AGAIN_CUT, AGAIN_FOLDER, AGAIN_OPEN = r"each of ftruncate of", r"each of fsync,\S+ of the folder is", r"each of openat of"
 KINDS_OF_STOPS = (FULL, CLOSED, TWO_CLOSED, ALL_CLOSED, PIPE, PIPE_READ, PIPE_INPUT, PLACES, INPUTS, JOURNALS, ROOMS, UNREAD, NO_INPUTS, NO_OPENS)
 KINDS_OF_STOPS += (NO_READS, NO_FOLDERS, NO_MAKING, MADE, NO_WRITE, NO_ROOM, NO_SYNC, NO_CUT, LENGTH, NO_LENGTH)
+LOCKED, NO_LOCK, UNASKED = r"a run locks it once", r"its lock fails by", r"asks for no lock"
+TWO_RUNS, SIZES = r"two runs on one journal", r"a limit of \d+ bytes of a file, the signal as usual"
+KINDS_OF_STOPS += (LOCKED, NO_LOCK, UNASKED, TWO_RUNS, SIZES)
 KINDS_OF_STOPS += (AGAIN_READ, AGAIN_WRITE, AGAIN_SYNC, AGAIN_CUT, AGAIN_FOLDER, AGAIN_OPEN)
 
 FAULTS_OF_STOPS = {
@@ -86,6 +89,10 @@ FAULTS_OF_STOPS = {
     "refused journal kept in memory": (PLACES, JOURNALS, ROOMS, NO_OPENS, NO_MAKING),
     "refused file is empty": (INPUTS, NO_INPUTS, NO_READS),
     "refused folder ends all": (UNREAD, NO_FOLDERS),
+    "lock passed over": (LOCKED, TWO_RUNS),
+    "failed lock passed over": (NO_LOCK, TWO_RUNS),
+    "readers lock too": (UNASKED,),
+    "SIGXFSZ passed over": (SIZES,),
     "no cut": (MADE,),
     "failed cut passed over": (NO_CUT,),
     "failed sync passed over": (NO_SYNC,),

@@ -701,7 +701,6 @@ OTHERS = {
         "world_server demo SEED ROOMS TICKS": NOWHERE,
         "world_server show JOURNAL TICK": NOWHERE,
         "world_server replay JOURNAL": NOWHERE,
-        "flock game.journal.lock ": NOWHERE,
     },
     "docs/players.md": {
         "players/build.sh players/dropper.c": OF_PLAYERS,
