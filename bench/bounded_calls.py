@@ -12,7 +12,7 @@ import subprocess
 import tempfile
 import threading
 
-from checked_program import PROGRAM, shown
+from checked_program import PROGRAM, shown, write_files
 
 MIB = 1 << 20
 WORLD, UPLOADS, JOURNAL = FILES = ("world.json", "uploads.bin", "journal.bin")
@@ -73,6 +73,26 @@ def least_limit(folder):
     doesn't use."""
     fits = (limit for limit in range(MIB, 512 * MIB, MIB) if ended(["--version"], folder, limit).status == 0)
     return next(fits, None)
+
+
+# ---- the files and the shapes
+
+
+def put(folder, **files):
+    """Makes the world file, the stream and the journal of these bytes; what is None is not there."""
+    for name, content in zip(("world", "uploads", "journal"), FILES):
+        path = os.path.join(folder, content)
+        if name in files and files[name] is None:
+            if os.path.exists(path):
+                os.remove(path)
+        elif name in files:
+            write_files(folder, {content: files[name]})
+
+
+def chosen(shapes, words):
+    """The shapes whose names have a word that was given, or all."""
+    parts = [word for word in words if not word.startswith("--")]
+    return [shape for shape in shapes if not parts or any(part in shape.__name__ for part in parts)]
 
 
 # ---- what is wrong of a call

@@ -5,10 +5,10 @@ import re
 import shutil
 import subprocess
 
+from bounded_calls import FILES, words_of
 from checked_program import PROGRAM, content_of, shown, write_files
 from worlds import SMALL, Refused, Upload, journal_of
 
-FILES = ("world.json", "uploads.bin", "journal.bin")
 NOBODY = 9
 
 # The calls of files, by kind.
@@ -19,10 +19,6 @@ CUTS = "ftruncate"
 OPENS = "openat"
 LENGTHS = "statx,fstat,newfstatat"
 LOCKS = "flock"
-
-
-def words_of(ticks):
-    return ["run", *FILES, "--ticks", str(ticks)]
 
 
 def of_nobody(tick, count, length):

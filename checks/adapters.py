@@ -11,7 +11,6 @@ import fcntl
 import os
 import random
 import re
-import shutil
 import subprocess
 import sys
 import tempfile
@@ -20,29 +19,21 @@ import time
 
 TOP = os.path.dirname(os.path.dirname(os.path.abspath(__file__)))
 sys.path.insert(0, os.path.join(TOP, "bench"))
+from bounded_calls import FILES, JOURNAL, UPLOADS, WORLD, words_of  # noqa: E402
 from checked_program import PROGRAM, Checks, content_of, shown, write_files  # noqa: E402
+from failing_calls import may_trace, of_nobody  # noqa: E402
 from game import SECOND, thing  # noqa: E402
 from modules import module  # noqa: E402
-from worlds import SMALL, Refused, Upload, bytes_of, journal_of, output_of, played, room, stream_of, text_of, world  # noqa: E402
+from worlds import SMALL, bytes_of, journal_of, output_of, played, room, stream_of, text_of, world  # noqa: E402
 
 checks = Checks(__file__)
 note = checks.note
 
 SEED = 5
 TICKS = 3
-NOBODY = 9
 MOST_SECONDS = 120
-FILES = WORLD, UPLOADS, JOURNAL = ("world.json", "uploads.bin", "journal.bin")
 LEAST_PIPE = 4096
 draw = random.Random(SEED)
-
-
-def words_of(ticks, files=FILES):
-    return ["run", *files, "--ticks", str(ticks)]
-
-
-def of_nobody(tick, count, length=0):
-    return [Upload(tick, NOBODY, Refused("Malformed", bytes(length)))] * count
 
 
 def long_world(rooms=30):
@@ -60,13 +51,6 @@ def differs(found, wanted):
 
 
 # ---- what is called
-
-
-def may_trace():
-    if not shutil.which("strace"):
-        return "strace is not installed"
-    done = subprocess.run(["strace", "-o", os.devnull, "true"], stdin=subprocess.DEVNULL, capture_output=True, timeout=60)
-    return None if done.returncode == 0 else "strace may not trace here"
 
 
 class Made:
@@ -340,7 +324,7 @@ def read_slowly(command, folder, most, pause):
 
 
 def check_slow_readers(folder):
-    it, uploads = long_world(), of_nobody(0, 6_000)
+    it, uploads = long_world(), of_nobody(0, 6_000, 0)
     steps = played(it, TICKS, uploads)
     write_files(folder, {WORLD: bytes_of(it), UPLOADS: stream_of(uploads)})
     kept, text = journal_of(it, steps), text_of(steps[-1].world) + b"\n"

@@ -19,8 +19,8 @@ import tempfile
 
 TOP = os.path.dirname(os.path.dirname(os.path.abspath(__file__)))
 sys.path.insert(0, os.path.join(TOP, "bench"))
-from bounded_calls import FILES, JOURNAL, Call, ended, made, words_of  # noqa: E402
-from checked_program import Checks, shown, write_files  # noqa: E402
+from bounded_calls import JOURNAL, Call, chosen, ended, made, put, words_of  # noqa: E402
+from checked_program import Checks, shown  # noqa: E402
 from game import MOST_PARTS, thing  # noqa: E402
 from large_worlds import INSIDE, TILES, crowd, file_of, full_room, id_of  # noqa: E402
 from modules import leb, player_module, signed_leb  # noqa: E402
@@ -153,17 +153,6 @@ def for_each(modules):
 
 
 # ---- what has to come
-
-
-def put(folder, **files):
-    """Makes the world file, the stream and the journal of these bytes; what is None is not there."""
-    for name, path in zip(("world", "uploads", "journal"), FILES):
-        whole = os.path.join(folder, path)
-        if name in files and files[name] is None:
-            if os.path.exists(whole):
-                os.remove(whole)
-        elif name in files:
-            write_files(folder, {path: files[name]})
 
 
 def stays(_):
@@ -408,15 +397,9 @@ SHAPES = [
 ]
 
 
-def chosen():
-    """The shapes whose names have a word that was given, or all."""
-    words = [word for word in WORDS if not word.startswith("--")]
-    return [shape for shape in SHAPES if not words or any(word in shape.__name__ for word in words)]
-
-
 def calls():
     """Each call of the shapes, with the folder in which it is made next."""
-    for shape in chosen():
+    for shape in chosen(SHAPES, WORDS):
         with tempfile.TemporaryDirectory(dir=PLACE) as folder:
             for call in shape(folder):
                 yield call, folder

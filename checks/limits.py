@@ -19,7 +19,7 @@ import tempfile
 
 TOP = os.path.dirname(os.path.dirname(os.path.abspath(__file__)))
 sys.path.insert(0, os.path.join(TOP, "bench"))
-from bounded_calls import FILES, JOURNAL, MIB, WORLD, Again, Call, ended, hash_of, least_limit, made, words_of  # noqa: E402
+from bounded_calls import FILES, JOURNAL, MIB, WORLD, Again, Call, chosen, ended, hash_of, least_limit, made, put, words_of  # noqa: E402
 from checked_program import Checks, shown, write_files  # noqa: E402
 from large_worlds import INSIDE, Longest, creep, crowd, dropping, file_of, full_room, full_world, ids_of, wanting, writing  # noqa: E402
 from scripts import MOST_ENTRIES, Script, unkept  # noqa: E402
@@ -145,13 +145,13 @@ MOST_MIB = {
     "an open gate before what isn't there": 8,
     "an open gate before 200 MiB of zeros": 301,
     "a base of 5 GiB that isn't there": 8,
-    "a damaged journal, gone on with": 29,
-    "a damaged journal, shown": 24,
-    "a damaged journal, replayed": 24,
-    "a tick that isn't there": 21,
-    "the last tick that can be asked for": 21,
-    "another world": 26,
-    "a tick that the rules don't make": 19,
+    "a damaged journal, gone on with": 31,
+    "a damaged journal, shown": 8,
+    "a damaged journal, replayed": 8,
+    "a tick that isn't there": 8,
+    "the last tick that can be asked for": 8,
+    "another world": 31,
+    "a tick that the rules don't make": 16,
     "17 words": 8,
     "10000 words": 8,
     "a word of 100,000 bytes": 8,
@@ -187,17 +187,6 @@ def went_on(name, it, steps, journal=None):
 
 def refused(name, words, status, text, out=b"", sort=None):
     return Call(name, words, out, status, f"fault {status} {text}\n".encode(), sort=sort)
-
-
-def put(folder, **files):
-    """Makes the world file, the stream and the journal of these bytes; what is None is not there."""
-    for name, content in zip(("world", "uploads", "journal"), FILES):
-        path = os.path.join(folder, content)
-        if name in files and files[name] is None:
-            if os.path.exists(path):
-                os.remove(path)
-        elif name in files:
-            write_files(folder, {content: files[name]})
 
 
 def of_shown(folder, name, it, journal):
@@ -644,15 +633,9 @@ SHAPES = [
 ]
 
 
-def chosen():
-    """The shapes whose names have a word that was given, or all."""
-    words = [word for word in WORDS if not word.startswith("--")]
-    return [shape for shape in SHAPES if not words or any(word in shape.__name__ for word in words)]
-
-
 def check(least):
     """Makes each call within its limit."""
-    for shape in chosen():
+    for shape in chosen(SHAPES, WORDS):
         with tempfile.TemporaryDirectory() as folder:
             for call in shape(folder):
                 faults, _ = made(call, folder, most_memory(call, least))
@@ -684,7 +667,7 @@ def least_of(call, folder, least):
 def measured(least):
     """Prints the greatest of the least limits of each sort of calls, as the lines of `MOST_MIB` are written."""
     print(f"# (the program begins with {least // MIB} MiB)")
-    for shape in chosen():
+    for shape in chosen(SHAPES, WORDS):
         found = {}
         with tempfile.TemporaryDirectory() as folder:
             for call in shape(folder):

@@ -16,8 +16,12 @@ const STREAM: [u8; 123] = [
     111, 112, 0, 2, 10, 20, 1, 18, 0, 66, 4, 66, 2, 16, 1, 26, 66, 4, 66, 3, 65, 0, 16, 0, 26, 11,
 ];
 
-const LINES: &[u8] =
-    b"start tick 0 rooms 1 objects 4 players 1\nupload player 1 accepted\nplayer 1 finished 9\ntick 1 objects 4 intents 1 energy 3101\nplayer 1 finished 9\ntick 2 objects 4 intents 2 energy 3102\n";
+const LINES: &[u8] = b"start tick 0 rooms 1 objects 4 players 1\n\
+    upload player 1 accepted\n\
+    player 1 finished 9\n\
+    tick 1 objects 4 intents 1 energy 3101\n\
+    player 1 finished 9\n\
+    tick 2 objects 4 intents 2 energy 3102\n";
 
 // What fails: the call of this number of the world's source, of that of the uploads, or of the sink.
 #[derive(Clone, Copy)]
@@ -36,9 +40,9 @@ fn room(alloc: Global) -> Result<String, AllocError> {
         "{\"id\":1,\"kind\":\"controller\",\"x\":5,\"y\":5,\"owner\":1,\"extra\":1,\"timer\":20000}";
     let source = "{\"id\":2,\"kind\":\"source\",\"x\":10,\"y\":10,\"energy\":3000}";
     let spawn = "{\"id\":3,\"kind\":\"spawn\",\"x\":12,\"y\":10,\"owner\":1,\"energy\":100}";
-    let creep =
-        "{\"id\":4,\"kind\":\"creep\",\"x\":11,\"y\":10,\"owner\":1,\"body\":[\"work\",\"carry\",\"move\"],\"timer\":1500}";
-    let objects = format!(in alloc; "{controller},{source},{spawn},{creep}")?;
+    let creep = "{\"id\":4,\"kind\":\"creep\",\"x\":11,\"y\":10,\"owner\":1";
+    let parts = "\"body\":[\"work\",\"carry\",\"move\"],\"timer\":1500}";
+    let objects = format!(in alloc; "{controller},{source},{spawn},{creep},{parts}")?;
     format!(in alloc;
         "{{\"name\":\"E0S0\",\"terrain\":\"{ground}\",\"next\":5,\"objects\":[{objects}]}}"
     )
