@@ -122,10 +122,10 @@ impl FileDisk {
         }
     }
 
-    /// Opens a file for reading and writing, and makes an empty one where there is none. No other process that
-    /// opens it so has it at the same time, and a crash then leaves its name and the bytes that a read gives.
-    /// Where the system fails to see to that, each call fails. The file is let go when it is dropped, and when
-    /// the process ends, however it ends.
+    /// Opens a file for reading and writing, and makes an empty one where there is none. No other process
+    /// that opens it so has it at the same time, and a crash then leaves its name and the bytes that a read
+    /// gives. Where the system fails to see to that, each call fails. The file is let go when it is dropped,
+    /// and when the process ends, however it ends.
     pub fn open_or_make<R: Files<File = File>>(files: &R, path: &str) -> Self
         ensures { result.faults.count ≡ 0 }
     {

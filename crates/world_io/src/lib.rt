@@ -1,11 +1,12 @@
 // The outside of the server: sources, sinks and disks, by what they tell of their bytes and how often they
-// failed.
+// failed; and the gate that workers pass.
 #![tactic(auto)]
 
 mod change;
 mod count;
 mod disk;
 mod files;
+mod gate;
 mod memory;
 mod memory_disk;
 mod outages;
@@ -18,6 +19,7 @@ mod stream;
 
 pub use disk::Disk;
 pub use files::{FileDisk, FileSink, FileSource};
+pub use gate::{Gate, OpenGate};
 pub use memory::{MemorySink, MemorySource};
 pub use memory_disk::MemoryDisk;
 pub use settle::{cut_synced, write_synced};
