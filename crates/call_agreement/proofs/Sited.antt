@@ -17,18 +17,19 @@ use Rattle.object_store.specs.Stored.{Stored}
 use Rattle.intent_book.specs.declared.intent.Intent.{Intent}
 use Rattle.world_rules.specs.Checks.{all_hold}
 use Rattle.world_rules.specs.RoomParts.{RoomPart, objects_in, part_at, part_of}
+use Rattle.world_rules.specs.Sights.{is_visible}
 use Rattle.world_rules.specs.Sites.{Plan, count_of, has_place, of_kind, plan_of, planned_kind, site_checks}
 use Rattle.world_rules.specs.World.{Frame, World, world_of}
 use Rattle.visible_view.specs.Sights.{SeenRoom, Sight, sees_room, seen_rooms, sight_of}
 use Rattle.visible_view.specs.Fields.{objects_at, room_at}
-use Rattle.visible_view.proofs.Tables.{around_seen}
+use Rattle.visible_view.proofs.Tables.{around_seen, seen_part}
 use Rattle.host_calls.specs.Agreement.{IsRecorded}
 use Rattle.host_calls.specs.Desks.{Desk, as_index, signed_32}
 use Rattle.host_calls.specs.Replies.{coordinate_of, number_of, plan_seen, record_checks, seen_room, site_code, site_code_in, site_reply, site_wish}
 use Rattle.host_calls.proofs.Wanting.{site_codes}
 use Rattle.action_checks.proofs.Passing.{each_holds, hold_each, own_checks}
 use Rattle.call_agreement.specs.Agreeing.{HoldsIn, SitesAgree, may_make}
-use Rattle.call_agreement.proofs.Standing.{recorded_where_0}
+use Rattle.call_agreement.proofs.Standing.{both_true, recorded_where_0}
 
 -- ---- what the rule does not count
 
@@ -135,7 +136,9 @@ module _ (stored : Stored) (account : Account) (desk : Desk) (sees : desk.sight 
         recorded = 0;
         sites = 0;
       } in
-      (n, part, ap Some in_room, stands, sym (ap (λ (p : Plan). all_hold (site_checks p)) same) ∙ uncounted plan holds)
+      let visible : is_visible wish.player part ≡ true =
+      ap (λ (player : ℕ). is_visible player part) (ap (λ (s : Sight). s.account.player) sees) ∙ sym (seen_part world account.player n frame) ∙ seen.0.sees in
+      (n, part, ap Some in_room, stands, both_true (is_visible wish.player part) (all_hold (site_checks (plan_of wish part))) visible (sym (ap (λ (p : Plan). all_hold (site_checks p)) same) ∙ uncounted plan holds))
 
   made_where : (value : ℤ) (n : Option ℕ) (room : Option SeenRoom) → as_index (signed_32 value) ≡ n → option_and_then (room_at desk.sight) n ≡ room
       → site_code_in desk (site_wish desk.sight.account.player value x y kind) x y room ≡ Done → HoldsIn may_make world (site_wish desk.sight.account.player value x y kind)

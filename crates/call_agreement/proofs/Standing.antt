@@ -1,5 +1,5 @@
 -- Calls whose rules read what stands under an id.
-use Rattle.std.proofs.Common.{◌≡◌, ℕ, ℤ, pos, Bool, false, true, List, Option, Some, None, option_map, refl, sym, ap, subst, ◌∙◌}
+use Rattle.std.proofs.Common.{◌≡◌, ℕ, ℤ, pos, ◌&&◌, Bool, false, true, List, Option, Some, None, option_map, refl, sym, ap, subst, ◌∙◌}
 use Rattle.std.specs.FinMap.{values}
 use Rattle.std.proofs.lemmas.Bool.{and_parts}
 use Rattle.game_tables.specs.declared.code.Code.{Code}
@@ -13,6 +13,7 @@ use Rattle.wasm_store.specs.Memory.{Memory}
 use Rattle.world_rules.specs.Checks.{Check, all_hold, holds_of, standing_at}
 use Rattle.world_rules.specs.Intents.{room_at}
 use Rattle.world_rules.specs.RoomParts.{RoomPart, part_at, part_of}
+use Rattle.world_rules.specs.Sights.{is_visible}
 use Rattle.world_rules.specs.Sites.{removal_checks}
 use Rattle.world_rules.specs.Sound.{IsSound}
 use Rattle.world_rules.specs.Spawns.{spawn_checks}
@@ -22,8 +23,12 @@ use Rattle.visible_view.specs.Sights.{Sight, sight_of}
 use Rattle.host_calls.specs.Agreement.{IsRecorded}
 use Rattle.host_calls.specs.Desks.{Desk}
 use Rattle.host_calls.specs.Replies.{body_in, id_of, objects_around, record_checks, removal_code, removal_reply, removal_wish, seen, spawn_code, spawn_reply, spawn_wish, wanted}
-use Rattle.host_calls.proofs.SeenStands.{around_stands, its_part, seen_stands, stands_in_part}
+use Rattle.visible_view.proofs.Tables.{seen_part}
+use Rattle.host_calls.proofs.SeenStands.{around_stands, its_part, room_sees, seen_stands, stands_in_part}
 use Rattle.call_agreement.specs.Agreeing.{HoldsIn, RemovalsAgree, SpawnsAgree, may_begin, may_remove}
+
+pub both_true : (a b : Bool) → a ≡ true → b ≡ true → (a && b) ≡ true
+both_true a b first second = λ i. first i && second i
 
 -- What a call that is answered 0 wants is recorded.
 pub recorded_where_0 : (desk : Desk) (memory : Memory) (intent : Intent) (code : Code) → (wanted desk memory intent code).answer ≡ pos 0 → (code ≡ Done) × IsRecorded desk intent (wanted desk memory intent code).desk
@@ -45,9 +50,11 @@ pub record Stands (stored : Stored) (sight : Sight) (id : ℤ) : Type 0 where
   pub is_part : part_at (world_of stored) room ≡ Some part
   pub here : seen sight id ≡ standing_at part (id_of id)
   pub around : objects_around sight (seen sight id) ≡ values part.objects
+  pub visible : is_visible sight.account.player part ≡ true
 
 pub stands : (stored : Stored) → IsSound stored → (account : Account) (sight : Sight) → sight ≡ sight_of (world_of stored) account → (id : ℤ) (p : Placed) → seen sight id ≡ Some p → Stands stored sight id
 stands stored sound account sight sees id p found =
+    let world = world_of stored in
     let stand = seen_stands stored sound sight account sees id p found in
     let part = its_part stored sound (id_of id) p stand in
     record {
@@ -57,6 +64,10 @@ stands stored sound account sight sees id p found =
       is_part = part.1;
       here = found ∙ sym (stands_in_part stored sound (id_of id) p p.room part.0 stand refl);
       around = around_stands stored sound sight account sees id p found;
+      visible =
+          ap (λ (s : Sight). is_visible s.account.player (part_of world p.room part.0)) sees
+          ∙ sym (seen_part world account.player p.room part.0)
+          ∙ room_sees stored sound sight account sees id p found;
     }
 
 -- ---- removals
@@ -73,8 +84,14 @@ removals_agree memory id stored account desk sound sees zero =
     let found = found_where (seen desk.sight id) _ (and_parts _ _ holds).0 in
     let here = stands stored sound account desk.sight sees id found.0 found.1 in (
       subst (λ (a : Account). IsRecorded desk (removal_wish a.player id) (removal_reply desk memory id).desk) own done.1,
-      subst (λ (a : Account). HoldsIn may_remove (world_of stored) (removal_wish a.player id)) own
-          (here.room, here.part, here.in_room, here.is_part, sym (ap (λ (a : Option Placed). all_hold (removal_checks desk.sight.account.player a)) here.here) ∙ holds),
+      subst (λ (a : Account). HoldsIn may_remove (world_of stored) (removal_wish a.player id)) own (
+        here.room,
+        here.part,
+        here.in_room,
+        here.is_part,
+        both_true (is_visible desk.sight.account.player here.part) (all_hold (removal_checks desk.sight.account.player (standing_at here.part wish.actor))) here.visible
+            (sym (ap (λ (a : Option Placed). all_hold (removal_checks desk.sight.account.player a)) here.here) ∙ holds),
+      ),
     )
 
 -- ---- creeps that spawns make

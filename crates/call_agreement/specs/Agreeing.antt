@@ -10,7 +10,7 @@ use Rattle.wasm_store.specs.Memory.{Memory}
 use Rattle.world_rules.specs.Checks.{all_hold, checks, scene_of, standing_at}
 use Rattle.world_rules.specs.Intents.{room_of}
 use Rattle.world_rules.specs.RoomParts.{RoomPart, part_at}
-use Rattle.world_rules.specs.Sites.{plan_of, removal_checks, site_checks}
+use Rattle.world_rules.specs.Sites.{making_checks, removing_checks}
 use Rattle.world_rules.specs.Sound.{IsSound}
 use Rattle.world_rules.specs.Spawns.{spawn_checks}
 use Rattle.world_rules.specs.World.{World, world_of}
@@ -29,10 +29,10 @@ may_claim entry part =
     (scene_of entry (values part.objects) (standing_at part entry.actor) (standing_at part entry.target)))
 
 abbrev pub may_make : Intent → RoomPart → Bool
-may_make entry part = all_hold (site_checks (plan_of entry part))
+may_make entry part = all_hold (making_checks entry part)
 
 abbrev pub may_remove : Intent → RoomPart → Bool
-may_remove entry part = all_hold (removal_checks entry.player (standing_at part entry.actor))
+may_remove entry part = all_hold (removing_checks entry part)
 
 abbrev pub may_begin : Intent → RoomPart → Bool
 may_begin entry part =

@@ -1,5 +1,5 @@
 -- The candidates of entries.
-use Rattle.std.proofs.Common.{◌≡◌, ℕ, ◌<◌, IfSome, Bool, true, false, cond, ℤ, pos, ◌+ℤ◌, Option, Some, None, option_map, option_and_then, refl, sym, ap, subst, ◌∙◌}
+use Rattle.std.proofs.Common.{◌≡◌, ℕ, ◌<◌, IfSome, Bool, true, false, cond, pos, ◌+ℤ◌, Option, Some, None, option_map, option_and_then, refl, sym, ap, subst, ◌∙◌}
 use Rattle.room_terrain.specs.Geometry.{dx, dy}
 use Rattle.room_terrain.specs.declared.direction.Direction.{Direction}
 use Rattle.std.specs.FinMap.{get}

@@ -4,18 +4,23 @@ use Rattle.std.specs.List.{AllByRecursion, AllPairs, IsDistinct, list_any}
 use Rattle.std.proofs.lemmas.Bool.{eqb-true, ne_eqb}
 use Rattle.std.proofs.lemmas.List.Elements.{recursion_from_All}
 use Rattle.std.proofs.lemmas.Map.Steps.{length-le_from_distinct_below}
+use Rattle.std.specs.Ordering.{nat_cmp, eq_by_cmp}
+use Rattle.std.specs.Cmp.{nat_cmp_total}
+use Rattle.std.specs.FinMap.{get, remove, same_map, get-empty, get-remove, nat_cmp-IsAntisymmetric}
 use Rattle.game_tables.specs.Kinds.{is_creep}
 use Rattle.room_terrain.specs.Tiles.{IsBorder}
 use Rattle.room_table.specs.declared.object.Object.{Object}
 use Rattle.object_store.specs.declared.world.Room.{Room}
 use Rattle.object_store.specs.Stored.{Stored, HaveRisingTables}
+use Rattle.room_table.specs.declared.tally.Tally.{Tally}
 use Rattle.room_table.specs.Tables.{IsOnTile, find_object}
+use Rattle.room_table.specs.Tallies.{Tallies, no_tallies}
 use Rattle.world_rules.specs.Moves.{is_open_ground}
 use Rattle.world_rules.specs.Rules.{IsWall}
 use Rattle.world_rules.specs.World.{world_of}
 use Rattle.world_rules.specs.Crossings.{crossed_over}
 use Rattle.room_rules.specs.Crossed.{HasCrossed, left_by, entered_by}
-use Rattle.exit_crossing.specs.Crossing.{AreIdsApart, AreCrossers, IsReadyToCross, IsCreepOf, KeepsFrame, KeepsFrameAt, KeepsFrames}
+use Rattle.exit_crossing.specs.Crossing.{AreForgotten, AreIdsApart, AreCrossers, IsReadyToCross, IsCreepOf, KeepsFrame, KeepsFrameAt, KeepsFrames}
 use Rattle.exit_crossing.specs.declared.leaving.Crosser.{Crosser}
 use Rattle.exit_crossing.specs.declared.crossing.Landing.{Landing}
 use Rattle.exit_crossing.specs.inner.Landings.{Lands, CanCross, GoesOrStays, rooms_gone}
@@ -36,9 +41,19 @@ pub data AreCrossed (first : Stored) : Stored → Type 0 where
 
 -- ---- frames
 
+-- without one of those to whom nothing was done
+none_removed : (id : ℕ) → remove no_tallies id ≡ no_tallies
+none_removed id =
+    same_map nat_cmp_total nat_cmp-IsAntisymmetric (remove no_tallies id) no_tallies (λ q. (let none : get no_tallies q ≡ None = get-empty {X = Tally} nat_cmp q in
+    get-remove nat_cmp_total no_tallies id q ∙ gone (eq_by_cmp nat_cmp q id) (get no_tallies q) none ∙ sym none))
+  where
+    gone : (b : Bool) (found : Option Tally) → found ≡ None → cond b None found ≡ None
+    gone true found none = refl
+    gone false found none = none
+
 frame_kept : (room : Option Room) → KeepsFrameAt room room
 frame_kept None = tt
-frame_kept (Some room) = record { name = refl; terrain = refl; index = refl; next = refl }
+frame_kept (Some room) = record { name = refl; terrain = refl; index = refl; next = refl; spare = omega arith; sums = λ none. none }
 
 frames_through : (one two three : Option Room) → KeepsFrameAt one two → KeepsFrameAt two three → KeepsFrameAt one three
 frames_through None None None first second = tt
@@ -51,7 +66,16 @@ frames_through (Some one) (Some two) (Some three) first second = record {
   terrain = second.terrain ∙ first.terrain;
   index = second.index ∙ first.index;
   next = second.next ∙ first.next;
+  spare = omega (arith, first.spare, second.spare);
+  sums = λ none. second.sums (first.sums none);
 }
+
+-- Rooms of which nothing is told stay so.
+pub still_forgotten : (rooms later : List Room) → ((k : ℕ) → KeepsFrameAt (slice_get rooms k) (slice_get later k)) → AreForgotten rooms → AreForgotten later
+still_forgotten [] [] keeps forgotten = tt
+still_forgotten [] (other ∷ later) keeps forgotten = absurd (keeps 0)
+still_forgotten (room ∷ rooms) [] keeps forgotten = absurd (keeps 0)
+still_forgotten (room ∷ rooms) (other ∷ later) keeps forgotten = (let first : KeepsFrame room other = keeps 0 in first.sums forgotten.0, still_forgotten rooms later (λ k. keeps (suc k)) forgotten.1)
 
 -- ---- arrivals
 
@@ -232,8 +256,9 @@ module _ (entry now : Stored) (list : List Crosser) (crosser : Crosser) (rest : 
 
     frame_then : (k : ℕ) → KeepsFrameAt (slice_get now.rooms k) (slice_get after.rooms k)
     frame_then k = elim (which k crosser.room at.room) [
-      | at_from is ↦ frame_as (slice_get now.rooms k) (slice_get after.rooms k) lands.was (was_then now.rooms crosser at lands) (ap (slice_get now.rooms) is ∙ lands.left) (ap (slice_get after.rooms) is ∙ room_here now.rooms crosser at lands) (record { name = refl; terrain = refl; index = refl; next = refl })
-      | at_to is ↦ frame_as (slice_get now.rooms k) (slice_get after.rooms k) lands.other (other_then now.rooms crosser at lands) (ap (slice_get now.rooms) is ∙ lands.entered) (ap (slice_get after.rooms) is ∙ room_there now.rooms crosser at lands) (record { name = refl; terrain = refl; index = refl; next = refl })
+      | at_from is ↦ frame_as (slice_get now.rooms k) (slice_get after.rooms k) lands.was (was_then now.rooms crosser at lands) (ap (slice_get now.rooms) is ∙ lands.left) (ap (slice_get after.rooms) is ∙ room_here now.rooms crosser at lands)
+          (record { name = refl; terrain = refl; index = refl; next = refl; spare = omega arith; sums = λ none. ap (λ (tallies : Tallies). remove tallies crosser.id) none ∙ none_removed crosser.id })
+      | at_to is ↦ frame_as (slice_get now.rooms k) (slice_get after.rooms k) lands.other (other_then now.rooms crosser at lands) (ap (slice_get now.rooms) is ∙ lands.entered) (ap (slice_get after.rooms) is ∙ room_there now.rooms crosser at lands) (record { name = refl; terrain = refl; index = refl; next = refl; spare = omega arith; sums = λ none. none })
       | at_other one other ↦ subst (KeepsFrameAt (slice_get now.rooms k)) (sym (room_elsewhere now.rooms crosser at lands k one other)) (frame_kept (slice_get now.rooms k))
     ]
 

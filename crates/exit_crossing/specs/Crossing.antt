@@ -5,6 +5,7 @@ use Rattle.game_tables.specs.Kinds.{is_creep}
 use Rattle.room_table.specs.declared.object.Object.{Object}
 use Rattle.object_store.specs.declared.world.Room.{Room}
 use Rattle.room_table.specs.Tables.{Table, IsOnTile, HasId, find_object}
+use Rattle.room_table.specs.Tallies.{no_tallies}
 use Rattle.object_store.specs.Stored.{Stored}
 use Rattle.world_rules.specs.Crossings.{is_crosser, still}
 use Rattle.exit_crossing.specs.declared.leaving.Crosser.{Crosser}
@@ -57,12 +58,20 @@ pub record IsReadyToCross (rooms : List Room) : Type 0 where
   pub names : AllPairs (λ one other. one.name ≢ other.name) rooms
   pub ids : AreIdsApart rooms
 
--- A room keeps its name and terrain, and its table the index and the serial of its next new object.
+-- Nothing is told of what was done to the objects of the rooms.
+abbrev pub AreForgotten : List Room → Type 0
+AreForgotten rooms = AllByRecursion (λ room. room.table.tallies ≡ no_tallies) rooms
+
+-- A room keeps its name and terrain, and its table the index and the serial of its next new object. Creeps
+-- that come take of its memory, and it takes no more. Where nothing was done to its objects, nothing is told
+-- of those that come.
 pub record KeepsFrame (room after : Room) : Type 0 where
   pub name : after.name ≡ room.name
   pub terrain : after.terrain ≡ room.terrain
   pub index : after.table.index ≡ room.table.index
   pub next : after.table.next ≡ room.table.next
+  pub spare : after.table.spare ≤ room.table.spare
+  pub sums : room.table.tallies ≡ no_tallies → after.table.tallies ≡ no_tallies
 
 abbrev pub KeepsFrameAt : Option Room → Option Room → Type 0
 KeepsFrameAt None None = Unit {0}

@@ -7,7 +7,7 @@ ghost use Rattle.room_table.specs.Tables.{IsOnTile, HasNoId, find_object};
 ghost use Rattle.world_rules.specs.World.{world_of};
 ghost use Rattle.world_rules.specs.Crossings.{crossed_over};
 ghost use Rattle.world_rules.specs.Sound.{IsSound};
-ghost use Rattle.exit_crossing.specs.Crossing.{AreCrossers, IsReadyToCross, KeepsFrames};
+ghost use Rattle.exit_crossing.specs.Crossing.{AreCrossers, AreForgotten, IsReadyToCross, KeepsFrames};
 ghost use Rattle.exit_crossing.specs.declared.crossing.Landing.{Landing};
 ghost use Rattle.exit_crossing.specs.inner.Landings.{Lands, CanCross, GoesOrStays, rooms_left, rooms_entered};
 
@@ -26,6 +26,7 @@ pub fn cross(world: &mut World, list: &[Crosser])
         ≡ crossed_over (map (λ crosser. crosser.id) list.now) (world_of world.old) }
     ensures frames { KeepsFrames world.old world.new }
     ensures sound { IsSound world.old → IsSound world.new }
+    ensures forgotten { AreForgotten world.old.rooms → AreForgotten world.new.rooms }
 {
     world.stands_in_order();
     for crosser in list {

@@ -98,8 +98,7 @@ fn rest_one(room: &mut RoomTable, place: u32)
     }
 }
 
-/// The crossers of all rooms, in rising id over the whole world; then no creep has moved. After want of
-/// memory some rooms may be as they were.
+/// The crossers of all rooms, in rising id over the whole world; then no creep has moved.
 pub fn all_crossers(alloc: Global, rooms: &mut [Room]) -> Result<Vec<Crosser>, NoMemory>
     requires places { (index : ℕ) (room : Room) → slice_get rooms.old index ≡ Some room
         → room.table.index ≡ index }
@@ -109,6 +108,7 @@ pub fn all_crossers(alloc: Global, rooms: &mut [Room]) -> Result<Vec<Crosser>, N
         → map (λ crosser. crosser.id) list.items ≡ crossers_in_world (world_of stored)) }
     ensures rested { OnOk result (rooms.new ≡ map rested_room rooms.old) }
     ensures crossers { IfOk result (λ list. AreCrossers rooms.new list.items) }
+    ensures unchanged { OnErr result (rooms.new ≡ rooms.old) }
 {
     let all = ordered(alloc, rooms)?;
     rest_rooms(rooms);

@@ -118,7 +118,7 @@ module _ (stored : Stored) (sound : IsSound stored) where
       (sym (ap (λ (s : Sight). seen s (pos n)) is) ∙ found)
 
   -- The room of what is seen is seen.
-  room_sees : (sight : Sight) (account : Account) → sight ≡ sight_of world account → (id : ℤ) (p : Placed) → seen sight id ≡ Some p → sees_room world account.player p.room ≡ true
+  pub room_sees : (sight : Sight) (account : Account) → sight ≡ sight_of world account → (id : ℤ) (p : Placed) → seen sight id ≡ Some p → sees_room world account.player p.room ≡ true
   room_sees sight account is (negsuc n) p found = absurd cc
   room_sees sight account is (pos n) p found =
       seen_kept (λ (q : Placed). sees_room world account.player q.room) (entries world.objects) n p (sym (ap (λ (s : Sight). seen s (pos n)) is) ∙ found)

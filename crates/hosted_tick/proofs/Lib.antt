@@ -4,6 +4,5 @@ pub mod Found
 pub mod Idle
 pub mod Judged
 pub mod Kept
-pub mod Players
 pub mod Ran
 pub mod Restored

@@ -1,6 +1,7 @@
 -- Modules that are put in one after the other.
 use Rattle.std.proofs.Common.{◌≡◌, ℕ, Bool, true, false, cond, List, [], ◌∷◌, ◌++◌, Option, Some, None, refl, sym, ap, ◌∙◌}
-use Rattle.std.specs.Cmp.{nat_cmp_total, eq_by_cmp_equiv}
+use Rattle.std.specs.Cmp.{nat_cmp_total, eq_by_cmp_equiv, unsigned_tied}
+use Rattle.std.proofs.lemmas.Bool.{eq-eqb}
 use Rattle.std.specs.FinMap.{empty, find, from_entries, get, get-from_entries, get-insert, insert, nat_cmp-IsAntisymmetric, same_map}
 use Rattle.std.specs.List.Sorted.{IsStrictlySortedBy}
 use Rattle.std.specs.Map.{keys_of}
@@ -44,6 +45,20 @@ get_inserted modules (entry ∷ later) sorted player =
     ∙ past (eq_by_cmp nat_cmp player entry.0) entry.1 (find nat_cmp player later) (get modules player) (λ here.
     none_found player later (none_past_head (eq_by_cmp_equiv nat_cmp_total) player entry later
     (IsDistinct-from_sorted nat_cmp (keys_of (entry ∷ later)) sorted) here)))
+
+-- What stands in a list in which each player stands once is found there.
+pub found_middle : (done later : List (ℕ × List ℕ)) (player : ℕ) (bytes : List ℕ) → IsStrictlySortedBy nat_cmp (keys_of (done ++ (player, bytes) ∷ later))
+    → find nat_cmp player (done ++ (player, bytes) ∷ later) ≡ Some bytes
+found_middle [] later player bytes sorted = ap (λ (b : Bool). cond b (Some bytes) (find nat_cmp player later)) (unsigned_tied player player ∙ eq-eqb player player refl)
+found_middle (entry ∷ done) later player bytes sorted =
+    let more : List (ℕ × List ℕ) = done ++ (player, bytes) ∷ later in
+    let rest = found_middle done later player bytes (sorted_tail nat_cmp entry.0 (keys_of more) sorted) in
+    elim (eq_by_cmp nat_cmp player entry.0) as (λ b. eq_by_cmp nat_cmp player entry.0 ≡ b → cond b (Some entry.1) (find nat_cmp player more) ≡ Some bytes) [
+      | true ↦ λ here.
+          let none = none_found player more (none_past_head (eq_by_cmp_equiv nat_cmp_total) player entry more (IsDistinct-from_sorted nat_cmp (keys_of (entry ∷ more)) sorted) here) in
+          absurd (cc)
+      | false ↦ λ other. rest
+    ] refl
 
 or_none : (one other : Option (List ℕ)) → other ≡ None → or_else one other ≡ one
 or_none None other none = none

@@ -1,13 +1,13 @@
 -- A world with modules as it is held.
-use Rattle.std.specs.Prelude.{ℕ, ◌≤◌, List, length, map}
+use Rattle.std.specs.Prelude.{◌≡◌, ℕ, ◌≤◌, List, length, map, Some}
 use Rattle.std.specs.List.{AllByRecursion}
-use Rattle.std.specs.FinMap.{from_entries}
+use Rattle.std.specs.FinMap.{from_entries, get}
 use Rattle.game_tables.specs.Limits.{most_memory, most_players, most_rooms}
 use Rattle.object_store.specs.Stored.{Stored}
 use Rattle.world_rules.specs.Sound.{IsSound}
 use Rattle.world_rules.specs.World.{world_of}
 use Rattle.wasm_link.specs.Kept.{link_view}
-use Rattle.player_run.specs.Admission.{Accepts}
+use Rattle.player_run.specs.Admission.{Accepts, IsAccepted}
 use Rattle.hosted_tick.specs.declared.modules.HostedModule.{HostedModule}
 use Rattle.hosted_tick.specs.Next.{Modules, State}
 
@@ -19,6 +19,10 @@ pub record Held : Type 0 where
 -- the state that is held
 abbrev pub state_of : Held → State
 state_of held = record { world = world_of held.world; modules = from_entries held.modules }
+
+-- Each of these modules was accepted.
+abbrev pub AreAccepted : Modules → Type 0
+AreAccepted modules = (player : ℕ) (bytes : List ℕ) → get modules player ≡ Some bytes → IsAccepted bytes
 
 -- The world is sound, and there are no more rooms, players and bytes of a memory text than may be.
 pub record IsHosted (world : Stored) : Type 0 where

@@ -7,7 +7,7 @@ ghost use Rattle.world_rules.specs.World.{world_of};
 ghost use Rattle.world_rules.specs.Tick.{intents_of};
 ghost use Rattle.kept_entries.specs.Split.{AreSplit};
 ghost use Rattle.world_rules.specs.Sound.{HaveSerials};
-ghost use Rattle.hosted_tick.specs.Hosting.{AreLinked, IsHosted, modules_of, state_of};
+ghost use Rattle.hosted_tick.specs.Hosting.{AreAccepted, AreLinked, IsHosted, modules_of, state_of};
 ghost use Rattle.hosted_tick.specs.Next.{AreRuns, Next};
 
 use crate::judge::judge_all;
@@ -73,6 +73,7 @@ impl Hosted {
         world: World,
         modules: BTreeMap<u32, Bytes>,
     ) -> Result<Hosted, NoMemory>
+        requires accepted { AreAccepted (from_entries modules.entries) }
         ensures world { IfOk result (λ hosted. hosted.world ≡ world) }
         ensures modules { IfOk result
             (λ hosted. (state_of hosted).modules ≡ from_entries modules.entries) }

@@ -101,8 +101,8 @@ fn decide(
     }
 }
 
-// A refusal, but for want of memory, which judges nothing.
-fn unless_memory(refusal: Refusal) -> Result<Refusal, NoMemory>
+/// A refusal, but for want of memory, which judges nothing.
+pub(crate) fn unless_memory(refusal: Refusal) -> Result<Refusal, NoMemory>
     ensures { IfOk result (λ same. (same ≡ refusal) × (refusal ≢ Refusal.Memory)) }
 {
     match refusal {

@@ -9,7 +9,7 @@ use hosted_tick::{Hosted, Ticked};
 use intent_book::{PlayerRun, RunOutcome};
 use judged_uploads::JudgedUploads;
 use object_store::World;
-use recorded_tick::{courses_can_be_hosted, record_tick};
+use recorded_tick::{courses_can_be_hosted, courses_have_accepted_modules, record_tick};
 use std::alloc::Global;
 use std::test::Fail;
 use tick_journal::TickRecord;
@@ -25,6 +25,7 @@ fn restored(alloc: Global, bytes: &[u8]) -> Result<Hosted, Fail>
         return Err("not recovered".into());
     };
     courses_can_be_hosted();
+    courses_have_accepted_modules();
     Ok(Hosted::restored(alloc, found.world, found.modules)?)
 }
 

@@ -11,6 +11,7 @@ pub mod Uploads
 pub mod Tables
 pub mod Standing
 pub mod Courses
+pub mod Accepted
 pub mod Standings
 pub mod Alike
 pub mod Catching

@@ -1,10 +1,11 @@
 // The records of ticks may stand in a journal.
 ghost use Rattle.std.specs.Prelude.{◌≡◌, List};
-ghost use Rattle.hosted_tick.specs.Hosting.{Held, IsHosted, state_of};
+ghost use Rattle.std.specs.FinMap.{empty};
+ghost use Rattle.hosted_tick.specs.Hosting.{AreAccepted, Held, IsHosted, state_of};
 ghost use Rattle.hosted_tick.specs.Next.{Next};
 ghost use Rattle.intent_book.specs.declared.player_run.PlayerRun.{PlayerRun};
 ghost use Rattle.object_store.specs.Stored.{Stored};
-ghost use Rattle.record_follows.specs.Courses.{world_after};
+ghost use Rattle.record_follows.specs.Courses.{modules_after, world_after};
 ghost use Rattle.record_follows.specs.Follows.{after as world_after_one};
 ghost use Rattle.recorded_tick.specs.Recording.{HaveAsMany, IsRecordOf};
 ghost use Rattle.site_limit.specs.FewSites.{HaveFewSites};
@@ -43,4 +44,10 @@ pub fn records_may_stand()
 pub fn courses_can_be_hosted()
     ensures { (base : Stored) (entries : List TickRecord) → IsCourse base entries
         → IsHosted (world_after base entries) × HaveFewSites (world_after base entries) }
+{}
+
+/// Says that the modules that a journal leaves to its players were accepted. It does nothing when it runs.
+pub fn courses_have_accepted_modules()
+    ensures { (base : Stored) (entries : List TickRecord) → IsCourse base entries
+        → AreAccepted (modules_after empty entries) }
 {}

@@ -7,7 +7,7 @@ mod record;
 mod recorder;
 
 pub use changes::are_alike;
-pub use laws::{courses_can_be_hosted, records_may_stand};
+pub use laws::{courses_can_be_hosted, courses_have_accepted_modules, records_may_stand};
 pub use record::record_tick;
 pub use recorder::{Recorder, catch_up};
 pub use std::alloc::AllocError as NoMemory;

@@ -23,7 +23,7 @@ use Rattle.world_rules.specs.Loads.{with_more, with_less, handed_over, transferr
 use Rattle.world_rules.specs.Work.{live_work, harvested_by, hits_gained, repair_cost, repaired_by, total_of, work_put, building_on, advanced, built_as, built_by}
 use Rattle.world_rules.specs.Fights.{dismantled_by, salvage, without_hits}
 use Rattle.world_rules.specs.Claims.{claimed_by, claimed_for, controller_hurt, hurt_by, reserved_by, ticks_reserved, upgraded_by, work_taken, worked_on}
-use Rattle.world_rules.specs.Sites.{plan_of, removal_checks, site_checks, site_of}
+use Rattle.world_rules.specs.Sites.{making_checks, plan_of, removing_checks, site_of}
 use Rattle.world_rules.specs.Spawns.{begun_with, paid, payers, share, spawn_checks}
 use Rattle.world_rules.specs.Steps.{by_object}
 use Rattle.world_rules.specs.Tick.{rule_of, book}
@@ -159,8 +159,8 @@ rule_keyed ClaimController entry part keyed = parties_keyed ClaimController (cla
 rule_keyed Upgrade entry part keyed = parties_keyed Upgrade upgraded_by upgrade_keyed entry part keyed
 rule_keyed Reserve entry part keyed = parties_keyed Reserve (reserved_by entry.player) (λ creep controller. keyed_object (record controller { other = entry.player; other_ticks = ticks_reserved creep controller })) entry part keyed
 rule_keyed AttackController entry part keyed = parties_keyed AttackController hurt_by (λ creep controller. keyed_object (controller_hurt creep controller)) entry part keyed
-rule_keyed CreateSite entry part keyed = keyed_if (all_hold (site_checks (plan_of entry part))) (with_new (site_of (plan_of entry part)) part) part (keyed_new (site_of (plan_of entry part)) (λ id. refl) part keyed) keyed
-rule_keyed RemoveSite entry part keyed = keyed_if (all_hold (removal_checks entry.player (standing_at part entry.actor))) (without entry.actor part) part (keyed_without entry.actor part keyed) keyed
+rule_keyed CreateSite entry part keyed = keyed_if (all_hold (making_checks entry part)) (with_new (site_of (plan_of entry part)) part) part (keyed_new (site_of (plan_of entry part)) (λ id. refl) part keyed) keyed
+rule_keyed RemoveSite entry part keyed = keyed_if (all_hold (removing_checks entry part)) (without entry.actor part) part (keyed_without entry.actor part keyed) keyed
 rule_keyed SpawnCreep entry part keyed =
     let around : List Object = values part.objects in
     let after : RoomPart = paid (payers entry.player around) (body_cost entry.body) part in

@@ -18,7 +18,8 @@ use Rattle.world_rules.specs.RoomParts.{RoomPart}
 use Rattle.world_rules.specs.Changes.{put, with_new, with_object, without}
 use Rattle.world_rules.specs.Checks.{all_hold, holds_of, standing_at}
 use Rattle.world_rules.specs.Loads.{with_less}
-use Rattle.world_rules.specs.Sites.{plan_of, removal_checks, site_checks, site_made, site_of, site_removed}
+use Rattle.world_rules.specs.Sights.{is_visible}
+use Rattle.world_rules.specs.Sites.{making_checks, plan_of, removal_checks, removing_checks, site_made, site_of, site_removed}
 use Rattle.world_rules.specs.Spawns.{begun_with, creep_begun, held_by, holds_for_creeps, is_body, is_payable, paid, payers, share, spawn_checks, those_of}
 use Rattle.world_rules.specs.Steps.{by_object}
 use Rattle.world_rules.proofs.Checked.{and_left, and_right}
@@ -275,7 +276,7 @@ module _ (part : RoomPart) (ready : IsReady part) (entry : Intent) where
   pub energy_site_made : energy_in (site_made entry part) + 0 ≡ energy_in part
   energy_site_made =
       let made = energy_new part ready (site_of (plan_of entry part)) in
-      elim (all_hold (site_checks (plan_of entry part))) as (λ b. energy_in (if b then with_new (site_of (plan_of entry part)) part else part) + 0 ≡ energy_in part) [
+      elim (all_hold (making_checks entry part)) as (λ b. energy_in (if b then with_new (site_of (plan_of entry part)) part else part) + 0 ≡ energy_in part) [
         | true ↦ omega (arith, made)
         | false ↦ omega arith
       ]
@@ -300,7 +301,7 @@ module _ (players : ℕ → Bool) (stage : Stage) (part : RoomPart) (k : KeepsRo
 
   pub energy_site_removed : energy_in (site_removed entry part) + 0 ≡ energy_in part
   energy_site_removed =
-      elim (all_hold (removal_checks entry.player (standing_at part entry.actor))) as (λ b. all_hold (removal_checks entry.player (standing_at part entry.actor)) ≡ b → energy_in (if b then without entry.actor part else part) + 0 ≡ energy_in part) [
-        | true ↦ λ hold. (let same = removed_alike (get part.objects entry.actor) refl hold in omega (arith, same))
+      elim (all_hold (removing_checks entry part)) as (λ b. all_hold (removing_checks entry part) ≡ b → energy_in (if b then without entry.actor part else part) + 0 ≡ energy_in part) [
+        | true ↦ λ hold. (let same = removed_alike (get part.objects entry.actor) refl (and_right (is_visible entry.player part) (all_hold (removal_checks entry.player (standing_at part entry.actor))) hold) in omega (arith, same))
         | false ↦ λ fails. omega arith
       ] refl

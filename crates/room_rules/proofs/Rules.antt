@@ -1,5 +1,5 @@
 -- The rules in force lead a room through the stages of a tick.
-use Rattle.std.proofs.Common.{◌≡◌, ℕ, ◌≤◌, ◌++◌, Bool, true, refl, arith}
+use Rattle.std.proofs.Common.{ℕ, ◌≤◌, ◌++◌, Bool, refl, arith}
 use Rattle.game_tables.specs.Kinds.{hits_max}
 use Rattle.game_tables.specs.declared.action.Action.{Action}
 use Rattle.game_tables.specs.declared.action.Action.TheVariants.{DropLoad, Transfer, Withdraw, Pickup, Dismantle, Harvest, Repair, Build, Suicide, ClaimController, Upgrade, Reserve, AttackController, CreateSite, RemoveSite, SpawnCreep}
@@ -10,7 +10,6 @@ use Rattle.room_table.specs.declared.object.Object.{Object}
 use Rattle.world_rules.specs.RoomParts.{RoomPart}
 use Rattle.world_rules.specs.RuleBook.{Sums}
 use Rattle.world_rules.specs.Claims.{controllers_aged}
-use Rattle.world_rules.specs.Intents.{names_tile}
 use Rattle.world_rules.specs.Spawns.{hatched}
 use Rattle.world_rules.specs.RoomTick.{room_after_steps}
 use Rattle.world_rules.specs.Tick.{rule_of}
@@ -42,25 +41,25 @@ begun_leads players part k = keeps_came players between within part part k refl 
 
 -- ---- entries
 
-pub rule_keeps : (action : Action) (entry : Intent) (players : ℕ → Bool) (part : RoomPart) → (names_tile action ≡ true → (1 ≤ entry.player) × (players entry.player ≡ true)) → KeepsRoomRules players within part
+pub rule_keeps : (action : Action) (entry : Intent) (players : ℕ → Bool) (part : RoomPart) → 1 ≤ entry.player → KeepsRoomRules players within part
     → KeepsRoomRules players within (rule_of action entry part).part
-rule_keeps DropLoad entry players part of k = keeps_dropped players within part k entry
-rule_keeps Transfer entry players part of k = keeps_transferred players within part k entry
-rule_keeps Withdraw entry players part of k = keeps_withdrawn players within part k entry
-rule_keeps Pickup entry players part of k = keeps_picked_up players within part k entry
-rule_keeps Harvest entry players part of k = keeps_harvested players within part k entry
-rule_keeps Repair entry players part of k = keeps_repaired players within part k entry
-rule_keeps Build entry players part of k = keeps_built players within part k entry
-rule_keeps Dismantle entry players part of k = keeps_dismantled players within part k entry
-rule_keeps Suicide entry players part of k = keeps_ended players part k entry
-rule_keeps ClaimController entry players part of k = keeps_claimed players entry part k
-rule_keeps Upgrade entry players part of k = keeps_upgraded players entry part k
-rule_keeps Reserve entry players part of k = keeps_reserved players entry part k
-rule_keeps AttackController entry players part of k = keeps_hurt players entry part k
-rule_keeps CreateSite entry players part of k = keeps_site_made players within entry (of refl) part k
-rule_keeps RemoveSite entry players part of k = keeps_site_removed players within part k entry
-rule_keeps SpawnCreep entry players part of k = keeps_begun players within part k entry
-rule_keeps action entry players part of k = k
+rule_keeps DropLoad entry players part some k = keeps_dropped players within part k entry
+rule_keeps Transfer entry players part some k = keeps_transferred players within part k entry
+rule_keeps Withdraw entry players part some k = keeps_withdrawn players within part k entry
+rule_keeps Pickup entry players part some k = keeps_picked_up players within part k entry
+rule_keeps Harvest entry players part some k = keeps_harvested players within part k entry
+rule_keeps Repair entry players part some k = keeps_repaired players within part k entry
+rule_keeps Build entry players part some k = keeps_built players within part k entry
+rule_keeps Dismantle entry players part some k = keeps_dismantled players within part k entry
+rule_keeps Suicide entry players part some k = keeps_ended players part k entry
+rule_keeps ClaimController entry players part some k = keeps_claimed players entry part k
+rule_keeps Upgrade entry players part some k = keeps_upgraded players entry part k
+rule_keeps Reserve entry players part some k = keeps_reserved players entry part k
+rule_keeps AttackController entry players part some k = keeps_hurt players entry part k
+rule_keeps CreateSite entry players part some k = keeps_site_made players within entry some part k
+rule_keeps RemoveSite entry players part some k = keeps_site_removed players within part k entry
+rule_keeps SpawnCreep entry players part some k = keeps_begun players within part k entry
+rule_keeps action entry players part some k = k
 
 -- ---- upkeep
 

@@ -27,12 +27,13 @@ use Rattle.world_rules.specs.Checks.{all_hold, holds_of, standing_at}
 use Rattle.world_rules.specs.Loads.{with_less}
 use Rattle.world_rules.specs.Moves.{directions, is_open, is_open_ground, tile_towards}
 use Rattle.world_rules.specs.Rules.{IsProgress}
-use Rattle.world_rules.specs.Sites.{Plan, has_creep, has_place, is_free_tile, is_inner, is_owners, of_kind, plan_of, planned_kind, removal_checks, site_checks, site_made, site_of, site_removed}
+use Rattle.world_rules.specs.Sights.{gives_sight, is_visible}
+use Rattle.world_rules.specs.Sites.{Plan, has_creep, has_place, is_free_tile, is_inner, is_owners, making_checks, of_kind, plan_of, planned_kind, removing_checks, site_checks, site_made, site_of, site_removed}
 use Rattle.world_rules.specs.Spawns.{begun_with, creep_begun, hatched, hatched_as, hatched_on, holds_for_creeps, is_body, is_free_for_creep, is_payable, newborn, paid, payers, share, spawn_checks, those_of, tile_for}
 use Rattle.world_rules.specs.Steps.{by_object}
 use Rattle.world_rules.proofs.Checked.{and_left, and_right}
 use Rattle.room_commutes.proofs.CreepsApart.{first_has, has_stands, stands_has}
-use Rattle.room_commutes.proofs.Members.{Has, append_cases, has_any, has_filter, map_has}
+use Rattle.room_commutes.proofs.Members.{Has, any_has, append_cases, has_any, has_filter, map_has}
 use Rattle.room_rules.specs.Within.{Stage, summed, IsInRangeIn}
 use Rattle.room_rules.specs.RoomRules.{Holds, KeepsRoomRules}
 use Rattle.room_rules.proofs.Keeps.{Fits, IsSame, keeps_changed, keeps_new, keeps_over, keeps_without, only_one}
@@ -90,15 +91,24 @@ module _ (players : ℕ → Bool) (stage : Stage) where
   abbrev Kept : RoomPart → Type 0
   Kept part = KeepsRoomRules players stage part
 
-  module _ (entry : Intent) (account : (1 ≤ entry.player) × (players entry.player ≡ true)) (part : RoomPart) (k : Kept part) where
+  -- Who sees a room is one of the players, since an object of his stands there.
+  seen_listed : (part : RoomPart) → Kept part → (player : ℕ) → 1 ≤ player → is_visible player part ≡ true → players player ≡ true
+  seen_listed part k player some sees =
+      let found = any_has (gives_sight player) (values part.objects) sees in
+      let stands = has_stands part found.0 found.1 in
+      let own : found.0.owner ≡ player = eqb-true found.0.owner player (and_left (found.0.owner == player) _ found.2) in
+      let right = (k.owners stands.0 found.0 stands.1).owner (λ none. omega (arith, some, own, none)) in
+      subst (λ (n : ℕ). players n ≡ true) own right.0
+
+  module _ (entry : Intent) (some : 1 ≤ entry.player) (part : RoomPart) (k : Kept part) where
     abbrev plan : Plan
     plan = plan_of entry part
 
     abbrev site : Object
     site = site_of plan (next_id part)
 
-    site_fits : all_hold (site_checks plan) ≡ true → Fits players stage part site
-    site_fits hold =
+    site_fits : is_visible entry.player part ≡ true → all_hold (site_checks plan) ≡ true → Fits players stage part site
+    site_fits sees hold =
         let inner = and_parts (is_inner plan.x && is_inner plan.y) (is_some (planned_kind plan)) (and_left (is_inner plan.x && is_inner plan.y && is_some (planned_kind plan)) _ hold) in
         let both = and_parts (is_inner plan.x) (is_inner plan.y) inner.0 in
         let column = inner_most plan.x both.0 in
@@ -121,9 +131,9 @@ module _ (players : ℕ → Bool) (stage : Stage) where
             ]
           ];
           alone = λ m q h x y. (alone_here clear.1 m q h x y, λ c. alone_here clear.1 m q h x y (clash_turned Site q.kind ∙ c));
-          owner = record { owner = λ some. (account.1, refl); other = λ some. absurd (some refl) };
+          owner = record { owner = λ has. (seen_listed part k entry.player some sees, refl); other = λ has. absurd (has refl) };
           controller = refl;
-          range = record { owner = account.0; hits = refl; energy = refl; timer = refl; built = (kind.0, is.0, is.1, no_progress kind.0 is.0); other = refl; other_ticks = refl; body = refl };
+          range = record { owner = some; hits = refl; energy = refl; timer = refl; built = (kind.0, is.0, is.1, no_progress kind.0 is.0); other = refl; other_ticks = refl; body = refl };
         }
       where
         alone_here : not (list_any (λ object. is_on plan.x plan.y object && stands_fixed object.kind) plan.around) ≡ true → (m : ℕ) (q : Object) → Holds part m q → q.x ≡ plan.x → q.y ≡ plan.y → clash Site q.kind ≡ true → ⊥
@@ -134,14 +144,15 @@ module _ (players : ℕ → Bool) (stage : Stage) where
 
     pub keeps_site_made : Kept (site_made entry part)
     keeps_site_made =
-        elim (all_hold (site_checks plan)) as (λ b. all_hold (site_checks plan) ≡ b → Kept (if b then with_new (site_of plan) part else part)) [
-          | true ↦ λ hold. keeps_new players stage part k (site_of plan) (site_fits hold)
+        elim (all_hold (making_checks entry part)) as (λ b. all_hold (making_checks entry part) ≡ b → Kept (if b then with_new (site_of plan) part else part)) [
+          | true ↦ λ hold. keeps_new players stage part k (site_of plan)
+              (site_fits (and_left (is_visible entry.player part) (all_hold (site_checks plan)) hold) (and_right (is_visible entry.player part) (all_hold (site_checks plan)) hold))
           | false ↦ λ fails. k
         ] refl
 
   pub keeps_site_removed : (part : RoomPart) → Kept part → (entry : Intent) → Kept (site_removed entry part)
   keeps_site_removed part k entry =
-      elim (all_hold (removal_checks entry.player (standing_at part entry.actor))) as (λ b. Kept (if b then without entry.actor part else part)) [
+      elim (all_hold (removing_checks entry part)) as (λ b. Kept (if b then without entry.actor part else part)) [
         | true ↦ keeps_without players stage part k entry.actor
         | false ↦ k
       ]

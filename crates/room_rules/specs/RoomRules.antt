@@ -9,7 +9,6 @@ use Rattle.game_tables.specs.Kinds.{clash, is_controller, may_have_owner}
 use Rattle.world_rules.specs.World.{World}
 use Rattle.world_rules.specs.RoomParts.{RoomPart}
 use Rattle.world_rules.specs.Rules.{IsOnWrongTile}
-use Rattle.world_rules.specs.Intents.{names_tile}
 use Rattle.intent_book.specs.declared.intent.Intent.{Intent}
 use Rattle.room_rules.specs.Within.{Stage, within, IsInRangeIn}
 
@@ -49,15 +48,10 @@ pub record KeepsRoomRules (players : ℕ → Bool) (stage : Stage) (part : RoomP
   -- no field is out of its range
   pub ranges : (id : ℕ) (object : Object) → Holds part id object → ¬ ¬ IsInRangeIn object.kind stage object
 
--- An entry for a new site is of one of the players: its actor is a tile, which is nobody's.
-abbrev pub IsOfPlayer : (ℕ → Bool) → Intent → Type 0
-IsOfPlayer players entry =
-    names_tile entry.action ≡ true → (1 ≤ entry.player) × (players entry.player ≡ true)
-
--- What an entry makes of a room that keeps its rules within a tick keeps them.
+-- What an entry of somebody makes of a room that keeps its rules within a tick keeps them.
 abbrev pub KeepsBy : Intent → (RoomPart → RoomPart) → Type 0
 KeepsBy entry change =
-    (players : ℕ → Bool) (part : RoomPart) → IsOfPlayer players entry
+    (players : ℕ → Bool) (part : RoomPart) → 1 ≤ entry.player
     → KeepsRoomRules players within part → KeepsRoomRules players within (change part)
 
 -- The change leads a room that keeps its rules at one stage of a tick to one that keeps those of another.

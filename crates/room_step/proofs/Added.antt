@@ -68,6 +68,7 @@ module _ (tick : ℕ) (accounts : List Account) (lists : List (List Intent)) (do
     tick = added.step.tick;
     rising = added.step.rising;
     tiles = added.step.tiles;
+    sums = added.step.sums;
     memory = added.step.memory;
   }
 

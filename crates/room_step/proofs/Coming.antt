@@ -38,6 +38,8 @@ come_first grounds old many keeps rising serial = record {
   part = refl;
   keeps = begun_leads anybody (table_part grounds old) keeps;
   rising = rising;
+  used = refl;
+  after = omega arith;
   ready = record { serial = omega (arith, serial); spare = omega arith };
   summed = summed_none (widened_table many old) none_told;
 }
@@ -76,8 +78,10 @@ come_more grounds start done later entry table next come some ruled =
     ap (λ (p : RoomPart). harms_entered part done ++ book.harm entry p ∷ []) come.part ∙ sym (harms_append part done (entry ∷ [])) in
     record {
       part = ruled.rule ∙ rule;
-      keeps = subst (KeepsRoomRules anybody within) (sym ruled.rule) (rule_keeps entry.action entry anybody (table_part grounds table) (λ tile. (some, refl)) come.keeps);
+      keeps = subst (KeepsRoomRules anybody within) (sym ruled.rule) (rule_keeps entry.action entry anybody (table_part grounds table) some come.keeps);
       rising = ruled.rising;
+      used = omega (arith, come.used, ruled.keeps.used);
+      after = omega (arith, come.after, ruled.keeps.later);
       ready = record {
         serial = omega (arith, come.ready.serial, ruled.keeps.made, length_push done entry);
         spare = omega (arith, come.ready.spare, ruled.keeps.used, ruled.keeps.made);

@@ -1,6 +1,5 @@
 -- Rooms that are stepped follow those before, once their creeps are at rest.
-use Rattle.std.proofs.Common.{◌≡◌, ℕ, Bool, true, List, [], ◌∷◌, map, Option, Some, None, option_map, slice_get, refl, sym, ap, subst, ◌∙◌}
-use Rattle.std.specs.List.{AllByRecursion}
+use Rattle.std.proofs.Common.{◌≡◌, ℕ, Bool, List, [], ◌∷◌, map, Option, Some, None, option_map, slice_get, refl, sym, ap, subst, ◌∙◌}
 use Rattle.std.proofs.lemmas.Option.{slice_get-map}
 use Rattle.game_tables.specs.declared.action.Action.{Action}
 use Rattle.intent_book.specs.declared.intent.Intent.{Intent}
@@ -22,13 +21,12 @@ use Rattle.world_rules.specs.Upkeep.{steps}
 use Rattle.world_rules.proofs.Follows.{follows_each, follows_self, follows_trans}
 use Rattle.world_rules.proofs.Orderly.{book_orderly}
 use Rattle.room_rules.specs.Followed.{part_stored, FollowsAt, FollowsRoom, FollowRooms}
-use Rattle.room_rules.specs.RoomRules.{IsOfPlayer, KeepsRoomRules, is_player}
+use Rattle.room_rules.specs.RoomRules.{KeepsRoomRules, is_player}
 use Rattle.room_rules.specs.Within.{between, within}
 use Rattle.room_rules.proofs.Rules.{begun_leads}
 use Rattle.room_rules.proofs.Sound.{sound_keeps}
 use Rattle.room_rules.proofs.Steps.{keeps_rest}
 use Rattle.exit_crossing.specs.Crossing.{rested_room}
-use Rattle.ruled_tick.proofs.Players.{keeps_more}
 use Rattle.ruled_tick.proofs.Rested.{rested_part, rested_rise, steps_follow}
 use Rattle.room_step.specs.inner.Rooms.{IsLeft, IsLeftAt}
 use Rattle.room_step.proofs.Keeping.{tick_keeps}
@@ -55,23 +53,24 @@ tick_follows list part =
     follows_trans part after.part (room_tick book list part).part (actions_follow all_actions counted (room_begun part))
     (follows_trans after.part stepped (room_tick book list part).part (book_orderly.moved (entries_of Move counted) after.part) (steps_follow steps book_orderly.steps (sums_of after.harms) stepped))
 
-module _ (stored : Stored) (sound : IsSound stored) (lists : ℕ → List Intent) (left : List Room) (each_left : (k : ℕ) → IsLeftAt (lists k) (slice_get stored.rooms k) (slice_get left k))
-    (players : ℕ → Bool) (more : (player : ℕ) → is_player (world_of stored) player ≡ true → players player ≡ true)
-    (of : (k : ℕ) (room : Room) → slice_get stored.rooms k ≡ Some room → AllByRecursion (IsOfPlayer players) (kept_in (part_stored room) (lists k))) where
+module _ (stored : Stored) (sound : IsSound stored) (lists : ℕ → List Intent) (left : List Room) (each_left : (k : ℕ) → IsLeftAt (lists k) (slice_get stored.rooms k) (slice_get left k)) where
+  abbrev players : ℕ → Bool
+  players = is_player (world_of stored)
+
   room_follows : (k : ℕ) (was mate : Room) → slice_get stored.rooms k ≡ Some was → IsLeft (lists k) was mate → FollowsRoom players between was (rested_room mate)
   room_follows k was mate at is =
       let part : RoomPart = part_stored was in
       let ticked : RoomPart = (room_tick book (lists k) part).part in
       let rests : Object → Option Object = λ object. Some (still object) in
       let part_is : part_stored (rested_room mate) ≡ each rests ticked = rested_part mate is.rising ∙ ap (each rests) is.tick in
-      let keeps : KeepsRoomRules players within part = begun_leads players part (keeps_more (is_player (world_of stored)) players more between part (sound_keeps stored sound k was at)) in
+      let keeps : KeepsRoomRules players within part = begun_leads players part (sound_keeps stored sound k was at) in
       record {
         name = is.name;
         terrain = is.terrain;
         index = ap (λ (p : RoomPart). p.index) is.tick ∙ (tick_follows (lists k) part).index;
         rising = rested_rise mate.table.objects is.rising;
         follows = subst (Follows part) (sym part_is) (follows_trans part ticked (each rests ticked) (tick_follows (lists k) part) (follows_each rests ticked));
-        keeps = subst (KeepsRoomRules players between) (sym part_is) (keeps_rest players ticked (tick_keeps players part (lists k) keeps (of k was at)));
+        keeps = subst (KeepsRoomRules players between) (sym part_is) (keeps_rest players ticked (tick_keeps players part (lists k) keeps));
       }
 
   at_follows : (k : ℕ) (was mate : Option Room) → slice_get stored.rooms k ≡ was → IsLeftAt (lists k) was mate → FollowsAt players between was (option_map rested_room mate)

@@ -198,7 +198,7 @@ no_upgrade : (actions : List Action) → list_any (λ action. action_number acti
 no_upgrade actions none action has is =
     both_ways (list_any (λ a. action_number a == 16) actions) none (has_any (λ a. action_number a == 16) actions action has (ap (λ a. action_number a == 16) is))
 
-module _ (players : ℕ → Bool) (everyone : (player : ℕ) → players player ≡ true) (part : RoomPart) (keeps : KeepsRoomRules players within part) (list : List Intent) where
+module _ (players : ℕ → Bool) (part : RoomPart) (keeps : KeepsRoomRules players within part) (list : List Intent) where
   abbrev counted : List Intent
   counted = kept_in part list
 
@@ -211,7 +211,7 @@ module _ (players : ℕ → Bool) (everyone : (player : ℕ) → players player 
   upgraded_one : OneGainer upgrading.points
   upgraded_one =
       upgrades_one players (entries_of Upgrade counted) (kind_of Upgrade counted) _
-      (actions_keep players early counted (λ entry has tile. (kept_player part list entry has, everyone entry.player)) (room_begun part) keeps)
+      (actions_keep players early counted (kept_player part list) (room_begun part) keeps)
       (λ player. actions_gain player early (no_upgrade early refl) counted (room_begun part) tt)
 
   -- One player gains all points of a tick in a room.

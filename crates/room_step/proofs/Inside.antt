@@ -1,5 +1,5 @@
 -- The rooms that are stepped are what happens inside the rooms of the whole world.
-use Rattle.std.proofs.Common.{◌≡◌, ℕ, List, Option, Some, None, option_map, option_and_then, slice_get, refl, sym, ap, subst, ◌∙◌}
+use Rattle.std.proofs.Common.{◌≡◌, ℕ, Bool, List, Option, Some, None, option_map, option_and_then, slice_get, refl, sym, ap, subst, ◌∙◌}
 use Rattle.std.specs.Cmp.{nat_cmp_total}
 use Rattle.std.specs.FinMap.{get, same_map, nat_cmp-IsAntisymmetric}
 use Rattle.room_terrain.specs.declared.name.RoomName.{RoomName}
@@ -17,6 +17,7 @@ use Rattle.world_rules.proofs.Lifting.{AreIdsOnce, found_in_table, frame_stored}
 use Rattle.world_rules.proofs.Orderly.{book_orderly}
 use Rattle.world_rules.proofs.Parts.{same_world}
 use Rattle.room_rules.specs.Followed.{part_stored, FollowsAt}
+use Rattle.room_rules.specs.RoomRules.{is_player}
 use Rattle.room_rules.specs.Within.{within}
 use Rattle.room_rules.proofs.Followed.{followed_once}
 use Rattle.room_rules.proofs.Sound.{get_part}
@@ -27,7 +28,6 @@ use Rattle.room_commutes.proofs.Inner.{in_inner}
 use Rattle.room_commutes.proofs.OneRoom.{IsAtRoom, tick_room}
 use Rattle.ruled_tick.proofs.Entered.{begins_at, part_of_stored}
 use Rattle.ruled_tick.proofs.Worlds.{stored_objects}
-use Rattle.room_step.specs.Stepping.{anybody}
 use Rattle.room_step.specs.inner.Rooms.{IsLeft, IsLeftAt}
 use Rattle.room_step.proofs.Named.{inner_name}
 use Rattle.room_step.proofs.Splitting.{tick_split}
@@ -42,9 +42,12 @@ module _ (stored : Stored) (sound : IsSound stored) (list : List Intent) where
   used : AreSerialsUsed (world_of stored)
   used = used_stored stored sound
 
-  begun_at : (k : ℕ) (found : Option Room) → slice_get stored.rooms k ≡ found → FollowsAt anybody within found found
+  abbrev players : ℕ → Bool
+  players = is_player (world_of stored)
+
+  begun_at : (k : ℕ) (found : Option Room) → slice_get stored.rooms k ≡ found → FollowsAt players within found found
   begun_at k None is = tt
-  begun_at k (Some room) is = begins_at stored sound anybody (λ player listed. refl) k room is
+  begun_at k (Some room) is = begins_at stored sound k room is
 
   -- ---- a room before the tick
 
@@ -56,7 +59,7 @@ module _ (stored : Stored) (sound : IsSound stored) (list : List Intent) where
     framed = frame_stored stored k ∙ ap (option_map (λ (r : Room). (listed_room r).frame)) at
 
     part_there : part_at (world_of stored) k ≡ Some (part_stored room)
-    part_there = part_of_stored stored sound stored.rooms anybody (λ j. begun_at j (slice_get stored.rooms j) refl) k room at
+    part_there = part_of_stored stored sound stored.rooms players (λ j. begun_at j (slice_get stored.rooms j) refl) k room at
 
     part_is : part_of (world_of stored) k frame ≡ part_stored room
     part_is = let same : Some (part_of (world_of stored) k frame) ≡ Some (part_stored room) = sym (ap (option_map (part_of (world_of stored) k)) framed) ∙ part_there in cc
@@ -110,7 +113,7 @@ module _ (stored : Stored) (sound : IsSound stored) (list : List Intent) where
     seen_at k None None is at is_left =
         let frame : get (world_of stored).rooms k ≡ None = frame_stored stored k ∙ ap (option_map (λ (r : Room). (listed_room r).frame)) is in
         let gone : get (world_of later).rooms k ≡ None = frame_stored later k ∙ ap (option_map (λ (r : Room). (listed_room r).frame)) at in
-        let apart : AreIdsOnce stored.rooms = followed_once stored stored sound within anybody (λ j. begun_at j (slice_get stored.rooms j) refl) in
+        let apart : AreIdsOnce stored.rooms = followed_once stored stored sound within players (λ j. begun_at j (slice_get stored.rooms j) refl) in
         let objects = same_map nat_cmp_total nat_cmp-IsAntisymmetric (objects_in (world_of later) k) (objects_in (world_of stored) k) (λ id.
         stored_objects later once k id ∙ ap (option_and_then (found_in_table id)) (at ∙ sym is) ∙ sym (stored_objects stored apart k id)) in
         (λ i. record { rules = 1; frame = (gone ∙ sym frame) i; objects = objects i })

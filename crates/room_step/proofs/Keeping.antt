@@ -1,6 +1,6 @@
 -- A tick of a room by itself keeps its rules.
 use Rattle.std.proofs.Common.{◌≡◌, inl, inr, ℕ, ◌≤◌, nat_lt, not, if◌then◌else◌, Bool, true, false, pos, List, [], ◌∷◌, Some, refl, sym, ap, subst, ◌∙◌}
-use Rattle.std.specs.List.{AllByRecursion, filter, list_any}
+use Rattle.std.specs.List.{filter, list_any}
 use Rattle.std.specs.FinMap.{from_entries, get}
 use Rattle.std.proofs.lemmas.Bool.{and_parts, ltb-true}
 use Rattle.game_tables.specs.declared.action.Action.{Action}
@@ -17,11 +17,11 @@ use Rattle.world_rules.specs.Tick.{book, sums_of}
 use Rattle.world_rules.specs.Upkeep.{first_steps}
 use Rattle.world_rules.proofs.Parts.{seen_here}
 use Rattle.room_commutes.proofs.ActorsOnce.{entry_of, moves_once}
-use Rattle.room_commutes.proofs.Members.{Has, all_of_has, has_contained, has_filter}
+use Rattle.room_commutes.proofs.Members.{Has, has_contained, has_filter}
 use Rattle.room_commutes.proofs.Split.{kept_here, those_of}
 use Rattle.room_rules.specs.Calls.{AreActorsOnce}
 use Rattle.room_rules.specs.Within.{moved, within}
-use Rattle.room_rules.specs.RoomRules.{IsOfPlayer, KeepsRoomRules}
+use Rattle.room_rules.specs.RoomRules.{KeepsRoomRules}
 use Rattle.room_rules.proofs.Moved.{keeps_moved}
 use Rattle.room_rules.proofs.Rules.{first_lead, later_lead, rule_keeps}
 
@@ -56,16 +56,16 @@ module _ (players : ℕ → Bool) where
   abbrev Kept : RoomPart → Type 0
   Kept part = KeepsRoomRules players within part
 
-  abbrev pub AreOfPlayers : List Intent → Type 0
-  AreOfPlayers list = (entry : Intent) → Has list entry → IsOfPlayer players entry
+  abbrev pub AreOfSomebody : List Intent → Type 0
+  AreOfSomebody list = (entry : Intent) → Has list entry → 1 ≤ entry.player
 
-  rules_keep : (list : List Intent) → AreOfPlayers list → (course : RoomCourse) → Kept course.part → Kept (room_after_rules book list course).part
+  rules_keep : (list : List Intent) → AreOfSomebody list → (course : RoomCourse) → Kept course.part → Kept (room_after_rules book list course).part
   rules_keep [] of course keeps = keeps
   rules_keep (entry ∷ later) of course keeps =
       rules_keep later (λ other has. of other (inr has)) (room_after_rule book course entry)
       (rule_keeps entry.action entry players course.part (of entry (inl refl)) keeps)
 
-  pub actions_keep : (actions : List Action) (list : List Intent) → AreOfPlayers list → (course : RoomCourse) → Kept course.part → Kept (room_after_actions book actions list course).part
+  pub actions_keep : (actions : List Action) (list : List Intent) → AreOfSomebody list → (course : RoomCourse) → Kept course.part → Kept (room_after_actions book actions list course).part
   actions_keep [] list of course keeps = keeps
   actions_keep (action ∷ later) list of course keeps =
       let those : List Intent = entries_of action list in
@@ -102,13 +102,12 @@ moves_apart part list =
 -- ---- a tick
 
 -- What a tick makes of a room that keeps its rules keeps those between ticks, but that creeps keep whether they moved.
-pub tick_keeps : (players : ℕ → Bool) (part : RoomPart) (list : List Intent) → KeepsRoomRules players within part → AllByRecursion (IsOfPlayer players) (kept_in part list)
-    → KeepsRoomRules players moved (room_tick book list part).part
-tick_keeps players part list keeps of =
+pub tick_keeps : (players : ℕ → Bool) (part : RoomPart) (list : List Intent) → KeepsRoomRules players within part → KeepsRoomRules players moved (room_tick book list part).part
+tick_keeps players part list keeps =
     let counted : List Intent = kept_in part list in
     let after : RoomCourse = room_after_actions book all_actions counted (room_begun part) in
     let sums : Sums = sums_of after.harms in
     let stepped : RoomPart = moves_made (entries_of Move counted) after.part in
-    let acted : KeepsRoomRules players within after.part = actions_keep players all_actions counted (λ entry has. all_of_has (IsOfPlayer players) counted entry of has) (room_begun part) keeps in
+    let acted : KeepsRoomRules players within after.part = actions_keep players all_actions counted (kept_player part list) (room_begun part) keeps in
     let kept : KeepsRoomRules players within stepped = keeps_moved players (entries_of Move counted) after.part (moves_apart part list) acted in
     later_lead sums players (room_after_steps sums first_steps stepped) (first_lead sums players stepped kept)

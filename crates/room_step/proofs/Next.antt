@@ -18,7 +18,7 @@ use Rattle.ruled_tick.proofs.Next.{after_rooms, earned_is, gone_accounts, is_rul
 use Rattle.room_step.specs.inner.Rooms.{accounted}
 use Rattle.room_step.proofs.Accounted.{accounted-player, after-player}
 
-module _ (w : Stored) (sound : IsSound w) (runs : List PlayerRun) (Proper : Type 0) (next : Stored) (crossers : List Crosser) (r : IsRuledRooms w (λ intents. intents ≡ intents_of runs) Proper next crossers) (pushed later : Stored)
+module _ (w : Stored) (sound : IsSound w) (runs : List PlayerRun) (next : Stored) (crossers : List Crosser) (r : IsRuledRooms w (λ intents. intents ≡ intents_of runs) next crossers) (pushed later : Stored)
     (is : pushed ≡ record next { accounts = map (accounted (gained book (world_of w) (intents_of runs)) runs) w.accounts })
     (crossing : world_of later ≡ crossed_over (map (λ crosser. crosser.id) crossers) (world_of pushed)) where
   abbrev Tells : List Intent → Type 0
@@ -32,16 +32,16 @@ module _ (w : Stored) (sound : IsSound w) (runs : List PlayerRun) (Proper : Type
 
   pub next_is : world_of later ≡ next_world (world_of w) runs
   next_is =
-      later_is w Tells Proper sound next crossers r f same pushed is later crossing
-      ∙ earned_is (λ gain player account. account_after gain account (run_of player runs)) (λ gain account. after-player gain account (run_of account.player runs)) w (after_rooms w Tells Proper sound next crossers r f same pushed is) (intents_of runs) sound
-      (gone_accounts w Tells Proper sound next crossers r f same pushed is)
-      (is_ruled w Tells Proper sound next crossers r f same pushed is (intents_of runs) refl)
+      later_is w Tells sound next crossers r f same pushed is later crossing
+      ∙ earned_is (λ gain player account. account_after gain account (run_of player runs)) (λ gain account. after-player gain account (run_of account.player runs)) w (after_rooms w Tells sound next crossers r f same pushed is) (intents_of runs) sound
+      (gone_accounts w Tells sound next crossers r f same pushed is)
+      (is_ruled w Tells sound next crossers r f same pushed is (intents_of runs) refl)
 
   -- Its rooms are those of any full schedule.
   pub scheduled : (events : List Event) → IsFull events (length w.rooms) → record (world_of later) { accounts = (world_of w).accounts } ≡ after book crossed (world_of w) (intents_of runs) events
   scheduled events full =
-      let rooms : World = after_rooms w Tells Proper sound next crossers r f same pushed is in
-      ap (λ (world : World). record world { accounts = (world_of w).accounts }) (later_is w Tells Proper sound next crossers r f same pushed is later crossing)
-      ∙ (λ i. record rooms { accounts = sym (gone_accounts w Tells Proper sound next crossers r f same pushed is) i })
-      ∙ is_ruled w Tells Proper sound next crossers r f same pushed is (intents_of runs) refl
+      let rooms : World = after_rooms w Tells sound next crossers r f same pushed is in
+      ap (λ (world : World). record world { accounts = (world_of w).accounts }) (later_is w Tells sound next crossers r f same pushed is later crossing)
+      ∙ (λ i. record rooms { accounts = sym (gone_accounts w Tells sound next crossers r f same pushed is) i })
+      ∙ is_ruled w Tells sound next crossers r f same pushed is (intents_of runs) refl
       ∙ sym (schedule_ruled book book_orderly (world_of w) (used_stored w sound) (intents_of runs) (length w.rooms) (rooms_stored w) events full crossed)

@@ -1,5 +1,5 @@
 -- All rooms, each stepped by itself, are a tick of the world up to crossings.
-use Rattle.std.proofs.Common.{◌≡◌, ℕ, ◌+◌, ◌-◌, ◌^◌, ◌<◌, ◌≤◌, min, true, List, [], length, map, get_or, Option, Some, None, slice_get, refl, sym, subst, ◌∙◌, arith}
+use Rattle.std.proofs.Common.{◌≡◌, Bool, ℕ, ◌+◌, ◌-◌, ◌^◌, ◌<◌, ◌≤◌, min, List, [], length, map, get_or, Option, Some, None, slice_get, refl, sym, subst, ◌∙◌, arith}
 use Rattle.std.specs.List.{AllByRecursion}
 use Rattle.std.specs.List.Sorted.{IsNonDecreasingBy, IsPermutation}
 use Rattle.std.proofs.lemmas.List.Sums.{count_by-le-length, length-filter}
@@ -12,25 +12,23 @@ use Rattle.object_store.specs.Stored.{Stored, HaveRisingTables}
 use Rattle.room_table.specs.Tables.{IsOnTile, IsRising}
 use Rattle.world_rules.specs.World.{World, world_of}
 use Rattle.world_rules.specs.Crossings.{crossers}
-use Rattle.world_rules.specs.Intents.{is_in, names_tile, those_in}
-use Rattle.world_rules.specs.RoomTick.{kept_in}
+use Rattle.world_rules.specs.Intents.{is_in, those_in}
 use Rattle.world_rules.specs.Sound.{IsSound}
 use Rattle.world_rules.specs.Tick.{book, gained, inner}
 use Rattle.world_rules.proofs.Lifting.{AreIdsOnce}
-use Rattle.room_commutes.proofs.Members.{Has, all_of_has, has_filter}
 use Rattle.room_rules.specs.Followed.{part_stored, FollowRooms}
-use Rattle.room_rules.specs.RoomRules.{IsOfPlayer, is_player}
+use Rattle.room_rules.specs.RoomRules.{is_player}
 use Rattle.room_rules.specs.Within.{between}
 use Rattle.room_rules.proofs.Followed.{followed_sound}
 use Rattle.room_rules.proofs.Sound.{sound_keeps}
 use Rattle.exit_crossing.specs.declared.leaving.Crosser.{Crosser}
-use Rattle.exit_crossing.specs.Crossing.{AreCrossers, AreIdsApart, most_arrivals, rested_room}
+use Rattle.room_table.specs.Tallies.{no_tallies}
+use Rattle.exit_crossing.specs.Crossing.{AreCrossers, AreForgotten, AreIdsApart, most_arrivals, rested_room}
 use Rattle.exit_crossing.specs.inner.Leaving.{crossers_among, id_of}
 use Rattle.exit_crossing.proofs.Sorted.{are_crossers, are_of_world}
-use Rattle.ruled_tick.specs.Players.{AreByPlayers}
 use Rattle.ruled_tick.specs.inner.Entered.{AreGains}
 use Rattle.ruled_tick.specs.inner.Ticked.{IsRuledRooms}
-use Rattle.ruled_tick.proofs.Players.{all_has, keeps_more}
+use Rattle.ruled_tick.proofs.Players.{keeps_more}
 use Rattle.ruled_tick.proofs.Readied.{all_of_places, left_ids, left_places, once_left, rooms_ruled}
 use Rattle.room_step.specs.Stepping.{anybody, KeepsItsRules}
 use Rattle.room_step.specs.declared.rooms.Underway.{Underway}
@@ -38,8 +36,6 @@ use Rattle.room_step.specs.inner.Rooms.{list_at, HasStepped, IsLeft, IsLeftAt}
 use Rattle.room_step.proofs.Earned.{all_earned}
 use Rattle.room_step.proofs.Following.{follow_left}
 use Rattle.room_step.proofs.Inside.{inside}
-use Rattle.room_step.proofs.Keeping.{kept_among, kept_player}
-use Rattle.room_step.proofs.Stepped.{anybody_kept}
 
 -- ---- a room among those of a sound world
 
@@ -76,8 +72,11 @@ module _ (stored : Stored) (sound : IsSound stored) (lists : List (List Intent))
   abbrev last : Stored
   last = record stored { rooms = map rested_room has.left }
 
-  follow_any : FollowRooms anybody between stored (record stored { rooms = map rested_room has.left })
-  follow_any = follow_left stored sound (list_at lists) has.left has.each anybody (λ player listed. refl) (λ k room at. anybody_kept (part_stored room) (list_at lists k))
+  abbrev players : ℕ → Bool
+  players = is_player (world_of stored)
+
+  follow : FollowRooms players between stored (record stored { rooms = map rested_room has.left })
+  follow = follow_left stored sound (list_at lists) has.left has.each
 
   tiles : AllByRecursion (λ room. AllByRecursion IsOnTile room.table.objects) has.left
   tiles = all_left (list_at lists) (λ room. AllByRecursion IsOnTile room.table.objects) (λ entries room mate is. is.tiles) stored.rooms has.left has.each
@@ -85,41 +84,31 @@ module _ (stored : Stored) (sound : IsSound stored) (lists : List (List Intent))
   spare : AllByRecursion (λ room. most_arrivals ≤ room.table.spare) has.left
   spare = all_left (list_at lists) (λ room. most_arrivals ≤ room.table.spare) (λ entries room mate is. is.memory) stored.rooms has.left has.each
 
+  forgotten : AreForgotten has.left
+  forgotten = all_left (list_at lists) (λ room. room.table.tallies ≡ no_tallies) (λ entries room mate is. is.sums) stored.rooms has.left has.each
+
   rising : HaveRisingTables has.left
   rising = all_left (list_at lists) (λ room. IsRising room.table.objects) (λ entries room mate is. is.rising) stored.rooms has.left has.each
 
   once : AreIdsOnce has.left
-  once = once_left stored sound anybody has.left follow_any tiles spare
+  once = once_left stored sound players has.left follow tiles spare
 
   places : (k : ℕ) (room : Room) → slice_get has.left k ≡ Some room → room.table.index ≡ k
-  places = left_places stored sound anybody has.left follow_any tiles spare
+  places = left_places stored sound players has.left follow tiles spare
 
   ids_apart : AreIdsApart has.left
-  ids_apart = left_ids stored sound anybody has.left follow_any tiles spare
+  ids_apart = left_ids stored sound players has.left follow tiles spare
 
   inside_is : world_of (record stored { rooms = has.left }) ≡ (inner book (world_of stored) list).world
   inside_is = inside stored sound list (list_at lists) split has.left once has.each
 
-  -- ---- where the players of sites have accounts
-
-  abbrev IsListed : Intent → Type 0
-  IsListed entry = names_tile entry.action ≡ true → is_player (world_of stored) entry.player ≡ true
-
-  of_players : AreByPlayers (world_of stored) list → (k : ℕ) (room : Room) → slice_get stored.rooms k ≡ Some room → AllByRecursion (IsOfPlayer (is_player (world_of stored))) (kept_in (part_stored room) (list_at lists k))
-  of_players by k room at = all_has (IsOfPlayer (is_player (world_of stored))) (kept_in (part_stored room) (list_at lists k)) (λ entry kept tile.
-      (let among : Has (list_at lists k) entry = (kept_among (part_stored room) (list_at lists k) entry kept).0 in
-      let listed : Has list entry = (has_filter (is_in (world_of stored) k) list entry (subst (λ (those : List Intent). Has those entry) (split k room at) among)).0 in
-      (kept_player (part_stored room) (list_at lists k) entry kept, all_of_has IsListed list entry by listed tile)))
-
-  sound_then : AreByPlayers (world_of stored) list → IsSound (record stored { rooms = map rested_room has.left })
-  sound_then by =
-      followed_sound stored last sound (follow_left stored sound (list_at lists) has.left has.each (is_player (world_of stored)) (λ player listed. listed) (of_players by))
-      (record { rising = sound.accounts; players = λ player listed. listed; fewer = λ player. omega arith })
+  sound_then : IsSound (record stored { rooms = map rested_room has.left })
+  sound_then = followed_sound stored last sound follow (record { rising = sound.accounts; players = λ player listed. listed; fewer = λ player. omega arith })
 
   -- ---- the whole
 
   -- With all crossers in rising id it is the tick of the rooms.
-  pub are_ruled : (crossing : List Crosser) → IsPermutation (crossers_among has.left) crossing → IsNonDecreasingBy id_of crossing → IsRuledRooms stored (λ intents. intents ≡ list) (AreByPlayers (world_of stored) list) now.world crossing
+  pub are_ruled : (crossing : List Crosser) → IsPermutation (crossers_among has.left) crossing → IsNonDecreasingBy id_of crossing → IsRuledRooms stored (λ intents. intents ≡ list) now.world crossing
   are_ruled crossing same order =
       let gone : Stored = record stored { rooms = has.left } in
       let ids : (s : Stored) → s.rooms ≡ has.left → map (λ (crosser : Crosser). crosser.id) crossing ≡ crossers (world_of s) = λ s at.
@@ -129,7 +118,7 @@ module _ (stored : Stored) (sound : IsSound stored) (lists : List (List Intent))
       (subst AreIdsApart (sym at) ids_apart)
       crossing (subst (λ (rooms : List Room). IsPermutation (crossers_among rooms) crossing) (sym at) same) order in
       let found : AreCrossers (map rested_room has.left) crossing = are_crossers gone places rising ids_apart crossing same order in
-      rooms_ruled stored sound anybody has.left follow_any tiles spare (λ intents. intents ≡ list) (AreByPlayers (world_of stored) list) sound_then has.many
+      rooms_ruled stored sound players has.left follow tiles spare (λ intents. intents ≡ list) sound_then forgotten has.many
       (λ intents is. subst (λ (those : List Intent). world_of gone ≡ (inner book (world_of stored) those).world) (sym is) inside_is)
       crossing ids found now.world has.world
 

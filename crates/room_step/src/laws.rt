@@ -1,5 +1,5 @@
 // Laws of the tick of a room.
-ghost use Rattle.std.specs.Prelude.{◌≡◌, ◌⊎◌, ℕ, Bool, true, List, Some, slice_get};
+ghost use Rattle.std.specs.Prelude.{◌≡◌, ◌⊎◌, ℕ, Bool, List, Some, slice_get};
 ghost use Rattle.std.specs.List.{AllByRecursion};
 ghost use Rattle.intent_book.specs.declared.intent.Intent.{Intent};
 ghost use Rattle.object_store.specs.declared.world.Room.{Room};
@@ -19,7 +19,7 @@ ghost use Rattle.room_rules.specs.Within.{within};
 /// most, and only its owner upgrades it. It does nothing when it runs.
 pub fn one_player_gains()
     ensures { (players : ℕ → Bool) (part : RoomPart) (list : List Intent)
-        → ((player : ℕ) → players player ≡ true) → KeepsRoomRules players within part
+        → KeepsRoomRules players within part
         → (player : ℕ) × AllByRecursion (λ gain. (gain.1 ≡ 0) ⊎ (gain.0 ≡ player))
         (room_tick book list part).points }
 {}

@@ -11,7 +11,7 @@ ghost use Rattle.world_rules.specs.Tick.{book, next_world, intents_of, gained, a
 ghost use Rattle.world_rules.specs.Sound.{IsSound, HaveSerials, serials_bound};
 ghost use Rattle.room_rules.specs.Within.{between};
 ghost use Rattle.room_commutes.specs.Schedules.{Event, IsFull, after};
-ghost use Rattle.ruled_tick.specs.Players.{AreByPlayers};
+ghost use Rattle.exit_crossing.specs.Crossing.{AreForgotten};
 ghost use Rattle.ruled_tick.specs.inner.Entered.{AreGains};
 ghost use Rattle.ruled_tick.specs.inner.Ticked.{IsRuledRooms};
 ghost use Rattle.room_step.specs.Stepping.{KeepsItsRules};
@@ -51,8 +51,8 @@ pub fn next_world(
     ensures scheduled { IfOk result (λ next. (events : List Event) → IsFull events (length world.rooms)
         → record (world_of next) { accounts = (world_of world).accounts }
         ≡ after book crossed (world_of world) (intents_of runs.now) events) }
-    ensures sound { IfOk result
-        (λ next. AreByPlayers (world_of world) (intents_of runs.now) → IsSound next) }
+    ensures sound { IfOk result IsSound }
+    ensures forgotten { IfOk result (λ next. AreForgotten next.rooms) }
     ensures accounts { IfOk result (λ next. next.accounts ≡ map (λ account.
         account_after (gained book (world_of world) (intents_of runs.now) account.player) account
         (run_of account.player runs.now)) world.accounts) }
@@ -97,8 +97,7 @@ fn stepped_rooms(
     requires rooms { length lists.now ≡ length world.rooms }
     requires few { (list : List Intent) × (length list ≤ 2 ^ 18) × AreSplit (world_of world) list lists.now }
     ensures rooms { IfOk result (λ parts. (list : List Intent) → AreSplit (world_of world) list lists.now
-        → IsRuledRooms world (λ intents. intents ≡ list) (AreByPlayers (world_of world) list)
-        parts.0.world parts.0.crossers.items) }
+        → IsRuledRooms world (λ intents. intents ≡ list) parts.0.world parts.0.crossers.items) }
     ensures accounts { IfOk result (λ parts. parts.1.items ≡ world.accounts) }
     ensures within { IfOk result (λ parts. length parts.1.items < 2 ^ 32) }
     ensures gains { IfOk result (λ parts. (list : List Intent) → AreSplit (world_of world) list lists.now

@@ -1,6 +1,6 @@
 // One room's tick.
-ghost use Rattle.std.specs.Prelude.{◌≡◌, ◌↔◌, IsTrue, ◌<◌, ◌≤◌, ◌^◌, [], ◌∷◌, ◌++◌, List, length, slice_get};
-ghost use Rattle.std.specs.Prelude.{option_copied, IfOk, OnOk, OnErr};
+ghost use Rattle.std.specs.Prelude.{◌≡◌, ◌↔◌, IsTrue, ◌<◌, ◌≤◌, ◌^◌, [], ◌∷◌, ◌++◌, List, length, max};
+ghost use Rattle.std.specs.Prelude.{option_copied, slice_get, IfOk, OnOk, OnErr};
 ghost use Rattle.std.specs.List.{AllByRecursion, filter};
 ghost use Rattle.intent_book.specs.declared.intent.Intent.{Intent};
 ghost use Rattle.kept_entries.specs.Turns.{in_turn};
@@ -8,7 +8,8 @@ ghost use Rattle.world_rules.specs.RoomParts.{table_part};
 ghost use Rattle.world_rules.specs.RoomTick.{kept_in};
 ghost use Rattle.world_rules.specs.Sound.{serials_bound};
 ghost use Rattle.room_rules.specs.Within.{between};
-ghost use Rattle.room_step.specs.Stepping.{IsStepped, KeepsItsRules};
+ghost use Rattle.ruled_tick.specs.inner.Entered.{wanted_spare};
+ghost use Rattle.room_step.specs.Stepping.{asked_for, HasAtMost, IsStepped, KeepsItsRules, StaysInRules};
 ghost use Rattle.room_step.specs.inner.Course.{HasCome, HasGained, intents_in, is_move, points_entered};
 
 use crate::NoMemory;
@@ -115,7 +116,9 @@ pub fn step_room(
     requires serials { room.now.next ≤ serials_bound }
     requires few { length intents.now ≤ 2 ^ 18 }
     ensures stepped { IfOk result (IsStepped ground.now intents.now room.now) }
-    ensures rules { IfOk result (λ done. KeepsItsRules between ground.now done.room) }
+    ensures rules { IfOk result (λ done. StaysInRules ground.now room.now done.room) }
+    ensures memory { IfOk result (λ done. HasAtMost
+        (asked_for ground.now intents.now room.now) room.now done.room) }
 {
     let entries = kept_in_room(alloc, room, intents)?;
     let table = copied(alloc, room, entries.len() as u32)?;
@@ -134,7 +137,9 @@ pub fn step_taken(
     requires serials { room.next ≤ serials_bound }
     requires few { length intents.now ≤ 2 ^ 18 }
     ensures stepped { IfOk result (IsStepped ground.now intents.now room) }
-    ensures rules { IfOk result (λ done. KeepsItsRules between ground.now done.room) }
+    ensures rules { IfOk result (λ done. StaysInRules ground.now room done.room) }
+    ensures memory { IfOk result (λ done. HasAtMost
+        (max room.spare (asked_for ground.now intents.now room)) room done.room) }
 {
     let entries = kept_in_room(alloc, &room, intents)?;
     step_entries(alloc, ground, room, &entries)
@@ -155,13 +160,15 @@ fn step_entries(
     ensures stepped { IfOk result (λ done. (list : List Intent)
         → intents_in entries.now ≡ in_turn (kept_in (table_part ground.now table) list)
         → IsStepped ground.now list table done) }
-    ensures rules { IfOk result (λ done. KeepsItsRules between ground.now done.room) }
+    ensures rules { IfOk result (λ done. StaysInRules ground.now table done.room) }
+    ensures memory { IfOk result (λ done. HasAtMost
+        (max table.spare (wanted_spare (length entries.now) (length table.objects))) table done.room) }
 {
     table.stands_in_order();
     widen(alloc, &mut table, entries.len() as u32)?;
     let gained = enter_all(ground, &mut table, entries);
     let moves = moves_among(alloc, entries)?;
-    tick_table(ground, &mut table, moves.as_slice())?;
+    let mut table = tick_table(ground, table, moves.as_slice())?;
     let index = table.index();
     let list = crossers(alloc, index, &mut table)?;
     Ok(StepDone {

@@ -24,7 +24,7 @@ use Rattle.world_rules.proofs.Lifting.{frame_stored}
 use Rattle.world_rules.proofs.Same.{same_lists}
 use Rattle.room_rules.specs.Calls.{IsReady}
 use Rattle.room_rules.specs.Within.{within}
-use Rattle.room_rules.specs.RoomRules.{IsOfPlayer, is_player}
+use Rattle.room_rules.specs.RoomRules.{is_player}
 use Rattle.room_rules.specs.Followed.{part_stored, FollowsAt, FollowRooms}
 use Rattle.ruled_tick.specs.inner.Entered.{entered_in, entered_all, harm_entered, harms_entered, harms_entered_in, many_in, widened, IsRuled, IsRuledIn, HasRoomFor, HasSumsOf, IsActed}
 use Rattle.ruled_tick.proofs.Actions.{entered_append, harms_append}
@@ -32,18 +32,22 @@ use Rattle.ruled_tick.proofs.Entered.{begins_at, came_from, follow_then, frame_a
 use Rattle.ruled_tick.proofs.Places.{get_set}
 use Rattle.ruled_tick.proofs.Summing.{summed_more, summed_none}
 
+-- those who have accounts
+abbrev players_of : Stored → ℕ → Bool
+players_of stored = is_player (world_of stored)
+
 -- ---- before the first entry
 
-module _ (stored : Stored) (entries : List Entry) (rooms : List Room) (sound : IsSound stored) (players : ℕ → Bool) (more : (player : ℕ) → is_player (world_of stored) player ≡ true → players player ≡ true)
+module _ (stored : Stored) (entries : List Entry) (rooms : List Room) (sound : IsSound stored)
     (are : (k : ℕ) → slice_get rooms k ≡ option_map (widened (many_in k entries)) (slice_get stored.rooms k)) where
-  wide_follows : (k n : ℕ) (found : Option Room) → slice_get stored.rooms k ≡ found → FollowsAt players within found (option_map (widened n) found)
+  wide_follows : (k n : ℕ) (found : Option Room) → slice_get stored.rooms k ≡ found → FollowsAt (players_of stored) within found (option_map (widened n) found)
   wide_follows k n None is = tt
   wide_follows k n (Some room) is =
-      let begins = begins_at stored sound players more k room is in
+      let begins = begins_at stored sound k room is in
       record { name = refl; terrain = refl; index = refl; rising = begins.rising; follows = begins.follows; keeps = begins.keeps }
 
-  wide_follow : FollowRooms players within stored (record stored { rooms = rooms })
-  wide_follow k = subst (FollowsAt players within (slice_get stored.rooms k)) (sym (are k)) (wide_follows k (many_in k entries) (slice_get stored.rooms k) refl)
+  wide_follow : FollowRooms (players_of stored) within stored (record stored { rooms = rooms })
+  wide_follow k = subst (FollowsAt (players_of stored) within (slice_get stored.rooms k)) (sym (are k)) (wide_follows k (many_in k entries) (slice_get stored.rooms k) refl)
 
   wide_listed : (n : ℕ) (found : Option Room) → option_map listed_room (option_map (widened n) found) ≡ option_map listed_room found
   wide_listed n None = refl
@@ -69,7 +73,7 @@ module _ (stored : Stored) (entries : List Entry) (rooms : List Room) (sound : I
       none_told : (id : ℕ) → tally_of id no_tallies ≡ no_tally
       none_told id = ap (λ (found : Option Tally). unwrap_or found no_tally) (get-empty {X = Tally} nat_cmp id)
 
-  pub acted_first : HaveSerials stored.rooms → length rooms ≡ length stored.rooms → IsActed stored players [] entries rooms
+  pub acted_first : HaveSerials stored.rooms → length rooms ≡ length stored.rooms → IsActed stored [] entries rooms
   acted_first serials many = record {
     many = many;
     follow = wide_follow;
@@ -80,7 +84,7 @@ module _ (stored : Stored) (entries : List Entry) (rooms : List Room) (sound : I
 
 -- ---- before each, and after it
 
-module _ (stored : Stored) (sound : IsSound stored) (players : ℕ → Bool) (done : List Entry) (entry : Entry) (of : IsOfPlayer players entry.intent) (later : List Entry) (rooms : List Room) (acted : IsActed stored players done (entry ∷ later) rooms) where
+module _ (stored : Stored) (sound : IsSound stored) (done : List Entry) (entry : Entry) (some : 1 ≤ entry.intent.player) (later : List Entry) (rooms : List Room) (acted : IsActed stored done (entry ∷ later) rooms) where
   abbrev world : List Room → World
   world list = world_of (record stored { rooms = list })
 
@@ -96,7 +100,7 @@ module _ (stored : Stored) (sound : IsSound stored) (players : ℕ → Bool) (do
   pub acted_ready : length done < 2 ^ 18 → (room : Room) → slice_get rooms entry.room ≡ Some room → IsReady room.table
   acted_ready few room at =
       let for = acted.ready entry.room room at in
-      is_ready stored sound rooms players acted.follow entry.room room at (omega (arith, for.serial)) (omega (arith, for.spare, here))
+      is_ready stored sound rooms (players_of stored) acted.follow entry.room room at (omega (arith, for.serial)) (omega (arith, for.spare, here))
 
   fewer : (k : ℕ) → many_in k later ≤ many_in k (entry ∷ later)
   fewer k = omega (arith, many_head k)
@@ -147,7 +151,7 @@ module _ (stored : Stored) (sound : IsSound stored) (players : ℕ → Bool) (do
       let stays : harms_entered_in k (world_of stored) (map placed (done ++ entry ∷ [])) ≡ before_in k = in_room_then k ∙ ap (λ (h : List (ℕ × Harm)). before_in k ++ map (λ (one : ℕ × Harm). one.1) h) (none_elsewhere k apart) ∙ append-nil (before_in k) in
       subst (λ (harms : List Harm). HasSumsOf harms room.table) (sym stays) has
 
-  acted_unchanged : slice_get rooms entry.room ≡ None → IsActed stored players (done ++ entry ∷ []) later rooms
+  acted_unchanged : slice_get rooms entry.room ≡ None → IsActed stored (done ++ entry ∷ []) later rooms
   acted_unchanged none = record {
     many = acted.many;
     follow = acted.follow;
@@ -175,7 +179,7 @@ module _ (stored : Stored) (sound : IsSound stored) (players : ℕ → Bool) (do
 
     -- the part of the room, in the world
     part_here : part_at (world rooms) entry.room ≡ Some (part_stored room)
-    part_here = part_of_stored stored sound rooms players acted.follow entry.room room at
+    part_here = part_of_stored stored sound rooms (players_of stored) acted.follow entry.room room at
 
     harm_here : map (λ (h : ℕ × Harm). h.1) (harms_in entry.room one_harm) ≡ book.harm entry.intent (part_stored room) ∷ []
     harm_here =
@@ -185,8 +189,8 @@ module _ (stored : Stored) (sound : IsSound stored) (players : ℕ → Bool) (do
     summed_here : HasSumsOf (harms_entered_in entry.room (world_of stored) (map placed (done ++ entry ∷ []))) table
     summed_here =
         subst (λ (harms : List Harm). HasSumsOf harms table) (sym (in_room_then entry.room ∙ ap (λ (h : List Harm). before_in entry.room ++ h) harm_here))
-        (summed_more (before_in entry.room) entry.intent room.terrain room.table table (came_from stored sound rooms players acted.follow entry.room room at).2.rising ruled
-        (unborn_here stored sound rooms players acted.follow entry.room room at) (acted.summed entry.room room at))
+        (summed_more (before_in entry.room) entry.intent room.terrain room.table table (came_from stored sound rooms (players_of stored) acted.follow entry.room room at).2.rising ruled
+        (unborn_here stored sound rooms (players_of stored) acted.follow entry.room room at) (acted.summed entry.room room at))
 
     at_then : (k : ℕ) (found : Room) → slice_get (set rooms entry.room other) k ≡ Some found
         → HasRoomFor (length (done ++ entry ∷ [])) (many_in k later) found.table × HasSumsOf (harms_entered_in k (world_of stored) (map placed (done ++ entry ∷ []))) found.table
@@ -202,31 +206,31 @@ module _ (stored : Stored) (sound : IsSound stored) (players : ℕ → Bool) (do
         turned : (k : ℕ) → (k == entry.room) ≡ false → (entry.room == k) ≡ false
         turned k apart = grind arith
 
-    acted_in : IsActed stored players (done ++ entry ∷ []) later (set rooms entry.room other)
+    acted_in : IsActed stored (done ++ entry ∷ []) later (set rooms entry.room other)
     acted_in = record {
       many = length-set rooms entry.room other ∙ acted.many;
-      follow = follow_then stored sound rooms players acted.follow entry.room room at entry.intent of table ruled;
+      follow = follow_then stored sound rooms (players_of stored) acted.follow entry.room room at entry.intent some table ruled;
       ready = λ k found is. (at_then k found is).0;
       summed = λ k found is. (at_then k found is).1;
-      same = sym (ruled_world stored sound rooms players acted.follow entry.room room at entry.intent of table ruled) ∙ ap (in_room change entry.room) acted.same ∙ sym pushed;
+      same = sym (ruled_world stored sound rooms (players_of stored) acted.follow entry.room room at entry.intent some table ruled) ∙ ap (in_room change entry.room) acted.same ∙ sym pushed;
     }
 
-  acted_found : (found : Option Room) (points : ℕ) (new : List Room) → slice_get rooms entry.room ≡ found → IsRuledIn found entry.room entry.intent points rooms new → IsActed stored players (done ++ entry ∷ []) later new
-  acted_found None points new at stays = subst (IsActed stored players (done ++ entry ∷ []) later) (sym stays.0) (acted_unchanged at)
-  acted_found (Some room) points new at d = subst (IsActed stored players (done ++ entry ∷ []) later) (sym d.1) (acted_in room d.0 at d.2)
+  acted_found : (found : Option Room) (points : ℕ) (new : List Room) → slice_get rooms entry.room ≡ found → IsRuledIn found entry.room entry.intent points rooms new → IsActed stored (done ++ entry ∷ []) later new
+  acted_found None points new at stays = subst (IsActed stored (done ++ entry ∷ []) later) (sym stays.0) (acted_unchanged at)
+  acted_found (Some room) points new at d = subst (IsActed stored (done ++ entry ∷ []) later) (sym d.1) (acted_in room d.0 at d.2)
 
   -- after one entry more
-  pub acted_more : (points : ℕ) (new : List Room) → IsRuledIn (slice_get rooms entry.room) entry.room entry.intent points rooms new → IsActed stored players (done ++ entry ∷ []) later new
+  pub acted_more : (points : ℕ) (new : List Room) → IsRuledIn (slice_get rooms entry.room) entry.room entry.intent points rooms new → IsActed stored (done ++ entry ∷ []) later new
   acted_more points new d = acted_found (slice_get rooms entry.room) points new refl d
 
 -- ---- along the entries
 
-pub acted_next : (stored : Stored) (players : ℕ → Bool) (entries : List Entry) (i : ℕ) (entry : Entry) (rooms : List Room) → i < length entries → entry ≡ get_or entries i entry → IsActed stored players (take i entries) (drop i entries) rooms → IsActed stored players (take i entries) (entry ∷ drop (i + 1) entries) rooms
-acted_next stored players entries i entry rooms inside is acted =
+pub acted_next : (stored : Stored) (entries : List Entry) (i : ℕ) (entry : Entry) (rooms : List Room) → i < length entries → entry ≡ get_or entries i entry → IsActed stored (take i entries) (drop i entries) rooms → IsActed stored (take i entries) (entry ∷ drop (i + 1) entries) rooms
+acted_next stored entries i entry rooms inside is acted =
     let next : suc i ≡ i + 1 = omega arith in
-    subst (λ (later : List Entry). IsActed stored players (take i entries) later rooms)
+    subst (λ (later : List Entry). IsActed stored (take i entries) later rooms)
     (drop-cons entries i entry inside ∙ ap (λ (e : Entry). e ∷ drop (suc i) entries) (sym is) ∙ ap (λ (n : ℕ). entry ∷ drop n entries) next) acted
 
-pub acted_then : (stored : Stored) (players : ℕ → Bool) (entries : List Entry) (i : ℕ) (entry : Entry) (rooms : List Room) → i < length entries → entry ≡ get_or entries i entry → IsActed stored players (take i entries ++ entry ∷ []) (drop (i + 1) entries) rooms → IsActed stored players (take (i + 1) entries) (drop (i + 1) entries) rooms
-acted_then stored players entries i entry rooms inside is acted =
-    subst (λ (done : List Entry). IsActed stored players done (drop (i + 1) entries) rooms) (ap (λ (e : Entry). take i entries ++ e ∷ []) is ∙ sym (take_more entries i entry inside)) acted
+pub acted_then : (stored : Stored) (entries : List Entry) (i : ℕ) (entry : Entry) (rooms : List Room) → i < length entries → entry ≡ get_or entries i entry → IsActed stored (take i entries ++ entry ∷ []) (drop (i + 1) entries) rooms → IsActed stored (take (i + 1) entries) (drop (i + 1) entries) rooms
+acted_then stored entries i entry rooms inside is acted =
+    subst (λ (done : List Entry). IsActed stored done (drop (i + 1) entries) rooms) (ap (λ (e : Entry). take i entries ++ e ∷ []) is ∙ sym (take_more entries i entry inside)) acted

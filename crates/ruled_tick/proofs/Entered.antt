@@ -19,8 +19,8 @@ use Rattle.world_rules.proofs.Lifting.{AreIdsOnce, found_in_table, frame_stored,
 use Rattle.world_rules.proofs.Orderly.{book_orderly}
 use Rattle.world_rules.proofs.Same.{tables_at}
 use Rattle.room_rules.specs.Calls.{IsReady}
-use Rattle.room_rules.specs.Within.{between, within}
-use Rattle.room_rules.specs.RoomRules.{IsOfPlayer, KeepsRoomRules, is_player}
+use Rattle.room_rules.specs.Within.{within}
+use Rattle.room_rules.specs.RoomRules.{KeepsRoomRules, is_player}
 use Rattle.room_rules.specs.Followed.{part_stored, FollowsRoom, FollowsAt, FollowRooms}
 use Rattle.room_rules.proofs.Followed.{came, followed_once}
 use Rattle.room_rules.proofs.Ready.{movable, unborn}
@@ -28,21 +28,20 @@ use Rattle.room_rules.proofs.Rules.{begun_leads, rule_keeps}
 use Rattle.room_rules.proofs.Sound.{get_part, sound_keeps}
 use Rattle.ruled_tick.specs.inner.Entered.{IsRuled}
 use Rattle.ruled_tick.proofs.Places.{get_set, split_at}
-use Rattle.ruled_tick.proofs.Players.{keeps_more}
 use Rattle.ruled_tick.proofs.Worlds.{stored_objects}
 
 abbrev pub frame_at : Option Room → Option Frame
 frame_at found = option_map (λ room. (listed_room room).frame) found
 
 -- A room of a sound world follows itself, at the stage within a tick.
-pub begins_at : (w : Stored) → IsSound w → (players : ℕ → Bool) → ((player : ℕ) → is_player (world_of w) player ≡ true → players player ≡ true) → (k : ℕ) (room : Room) → slice_get w.rooms k ≡ Some room → FollowsRoom players within room room
-begins_at w sound players more k room is = record {
+pub begins_at : (w : Stored) → IsSound w → (k : ℕ) (room : Room) → slice_get w.rooms k ≡ Some room → FollowsRoom (is_player (world_of w)) within room room
+begins_at w sound k room is = record {
   name = refl;
   terrain = refl;
   index = refl;
   rising = tables_at w.rooms k room sound.tables is;
   follows = follows_self (part_stored room);
-  keeps = begun_leads players (part_stored room) (keeps_more (is_player (world_of w)) players more between (part_stored room) (sound_keeps w sound k room is));
+  keeps = begun_leads (is_player (world_of w)) (part_stored room) (sound_keeps w sound k room is);
 }
 
 module _ (stored : Stored) (sound : IsSound stored) (rooms : List Room) (players : ℕ → Bool) (follow : FollowRooms players within stored (record stored { rooms = rooms })) where
@@ -84,7 +83,7 @@ module _ (stored : Stored) (sound : IsSound stored) (rooms : List Room) (players
         ap (option_map (part_of (world_of w) k)) frame
         ∙ (λ i. Some (record { rules = 1; index = sym (place_here k room at) i; grounds = room.terrain; next = room.table.next; objects = objects i }))
 
-    module _ (entry : Intent) (of : IsOfPlayer players entry) (table : Table) (r : IsRuled room.terrain entry room.table table) where
+    module _ (entry : Intent) (some : 1 ≤ entry.player) (table : Table) (r : IsRuled room.terrain entry room.table table) where
       abbrev other : Room
       other = record room { table = table }
 
@@ -109,7 +108,7 @@ module _ (stored : Stored) (sound : IsSound stored) (rooms : List Room) (players
             index = follows.index ∙ found.2.index;
             rising = r.rising;
             follows = follows_trans (part_stored found.0) (part_stored room) (part_stored other) found.2.follows follows;
-            keeps = subst (KeepsRoomRules players within) (sym part_then) (rule_keeps entry.action entry players (part_stored room) of found.2.keeps);
+            keeps = subst (KeepsRoomRules players within) (sym part_then) (rule_keeps entry.action entry players (part_stored room) some found.2.keeps);
           }
 
       -- the rooms keep following

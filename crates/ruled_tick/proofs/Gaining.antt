@@ -25,6 +25,7 @@ use Rattle.world_rules.specs.Tick.{Gain, book, gained, points_of, rule_of}
 use Rattle.world_rules.proofs.Lifting.{frame_stored}
 use Rattle.world_rules.proofs.Same.{same_lists}
 use Rattle.room_rules.specs.Followed.{part_stored}
+use Rattle.room_rules.specs.RoomRules.{is_player}
 use Rattle.ruled_tick.specs.inner.Entered.{gain_entered, gains_entered, points_entered, AreGains, HasNoAccount, IsActed, IsPlaceOf, IsRuledIn}
 use Rattle.ruled_tick.proofs.Actions.{acted_enters, gains_append}
 use Rattle.ruled_tick.proofs.Entered.{frame_at, part_of_stored}
@@ -200,7 +201,7 @@ one_more player gains one = sum_by-append (λ (gain : Gain). if gain.player == p
 one_points : (player : ℕ) (gain : Gain) → points_of player (gain ∷ []) ≡ (if gain.player == player then gain.points else 0)
 one_points player gain = omega (arith, sum_by-cons (λ (gain : Gain). if gain.player == player then gain.points else 0) gain [])
 
-module _ (stored : Stored) (sound : IsSound stored) (players : ℕ → Bool) (done : List Entry) (entry : Entry) (later : List Entry) (rooms : List Room) (acted : IsActed stored players done (entry ∷ later) rooms) where
+module _ (stored : Stored) (sound : IsSound stored) (done : List Entry) (entry : Entry) (later : List Entry) (rooms : List Room) (acted : IsActed stored done (entry ∷ later) rooms) where
   abbrev world : World
   world = world_of (record stored { rooms = rooms })
 
@@ -231,7 +232,7 @@ module _ (stored : Stored) (sound : IsSound stored) (players : ℕ → Bool) (do
         zeroth true = stays.1
         zeroth false = refl
     points_found (Some room) at ruled player =
-        let here : part_at world entry.room ≡ Some (part_stored room) = part_of_stored stored sound rooms players acted.follow entry.room room at in
+        let here : part_at world entry.room ≡ Some (part_stored room) = part_of_stored stored sound rooms (is_player (world_of stored)) acted.follow entry.room room at in
         ap (λ (found : Option RoomPart). points_of player (option_to_list (option_map gain_of found))) here
         ∙ one_points player (gain_of (part_stored room))
         ∙ ap (λ (n : ℕ). given n player) (sym (ruled.3 room.terrain))

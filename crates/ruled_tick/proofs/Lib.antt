@@ -17,5 +17,6 @@ pub mod Readied
 pub mod Ruled
 pub mod Follows
 pub mod Few
+pub mod Fewer
 pub mod Counting
 pub mod Next

@@ -14,7 +14,7 @@ use Rattle.world_rules.specs.Sound.{IsSound}
 use Rattle.world_rules.proofs.Keys.{keyed, accounts_sorted, entries_of_sorted}
 use Rattle.object_store.specs.declared.world.Room.{Room}
 use Rattle.exit_crossing.specs.declared.leaving.Crosser.{Crosser}
-use Rattle.exit_crossing.specs.Crossing.{AreCrossers, IsReadyToCross, KeepsFrames}
+use Rattle.exit_crossing.specs.Crossing.{AreCrossers, AreForgotten, IsReadyToCross, KeepsFrames}
 use Rattle.ruled_tick.specs.inner.Entered.{AreGains}
 use Rattle.ruled_tick.specs.inner.Ticked.{raised_by, IsRuledRooms}
 use Rattle.ruled_tick.proofs.Follows.{changed-IsSound}
@@ -56,7 +56,7 @@ module _ (change : ℕ → ℕ → Account → Account) (same : (gain : ℕ) (ac
       )
 
 -- The first world is ruled rooms with these accounts, and the second comes of it by the crossings.
-module _ (w : Stored) (Tells : List Intent → Type 0) (Proper : Type 0) (sound : IsSound w) (next : Stored) (crossers : List Crosser) (r : IsRuledRooms w Tells Proper next crossers) (f : Account → Account) (same : (account : Account) → (f account).player ≡ account.player)
+module _ (w : Stored) (Tells : List Intent → Type 0) (sound : IsSound w) (next : Stored) (crossers : List Crosser) (r : IsRuledRooms w Tells next crossers) (f : Account → Account) (same : (account : Account) → (f account).player ≡ account.player)
     (pushed : Stored) (is : pushed ≡ record next { accounts = map f w.accounts }) where
   ids : List ℕ
   ids = map (λ crosser. crosser.id) crossers
@@ -64,12 +64,15 @@ module _ (w : Stored) (Tells : List Intent → Type 0) (Proper : Type 0) (sound 
   pushed_is : pushed ≡ record r.rested { tick = w.tick + 1; accounts = map f w.accounts }
   pushed_is = is ∙ ap (λ (s : Stored). record s { accounts = map f w.accounts }) r.next
 
-  pub pushed-IsSound : Proper → IsSound pushed
-  pushed-IsSound of =
-      subst IsSound (sym (pushed_is ∙ (λ i. record r.rested { tick = w.tick + 1; accounts = map f (sym r.accounts i) }))) (changed-IsSound f same r.rested (w.tick + 1) (r.sound of))
+  pub pushed-IsSound : IsSound pushed
+  pushed-IsSound =
+      subst IsSound (sym (pushed_is ∙ (λ i. record r.rested { tick = w.tick + 1; accounts = map f (sym r.accounts i) }))) (changed-IsSound f same r.rested (w.tick + 1) r.sound)
 
   pub pushed_rooms : pushed.rooms ≡ r.rested.rooms
   pushed_rooms = ap (λ (s : Stored). s.rooms) pushed_is
+
+  pub pushed_forgotten : AreForgotten pushed.rooms
+  pushed_forgotten = subst AreForgotten (sym pushed_rooms) r.forgotten
 
   pub pushed_ready : IsReadyToCross pushed.rooms
   pushed_ready = subst IsReadyToCross (sym pushed_rooms) r.ready
@@ -105,15 +108,15 @@ module _ (w : Stored) (Tells : List Intent → Type 0) (Proper : Type 0) (sound 
     many keeps = as_many pushed.rooms later.rooms keeps.rooms ∙ ap length pushed_rooms ∙ r.rooms
 
 -- with the points raised
-pub plain-IsRuled : (w : Stored) (Tells : List Intent → Type 0) (Proper : Type 0) → IsSound w → (next : Stored) (crossers : List Crosser) → IsRuledRooms w Tells Proper next crossers → (pushed later : Stored) → (intents : List Intent)
+pub plain-IsRuled : (w : Stored) (Tells : List Intent → Type 0) → IsSound w → (next : Stored) (crossers : List Crosser) → IsRuledRooms w Tells next crossers → (pushed later : Stored) → (intents : List Intent)
     → pushed ≡ record next { accounts = map (raised_by (gained book (world_of w) intents)) w.accounts }
     → world_of later ≡ crossed_over (map (λ crosser. crosser.id) crossers) (world_of pushed) → Tells intents → world_of later ≡ plain_world (world_of w) intents
-plain-IsRuled w Tells Proper sound next crossers r pushed later intents is crossing are =
+plain-IsRuled w Tells sound next crossers r pushed later intents is crossing are =
     let f : Account → Account = raised_by (gained book (world_of w) intents) in
-    later_is w Tells Proper sound next crossers r f (λ account. refl) pushed is later crossing
-    ∙ earned_is (λ gain player account. account_raised gain account) (λ gain account. refl) w (after_rooms w Tells Proper sound next crossers r f (λ account. refl) pushed is) intents sound
-    (gone_accounts w Tells Proper sound next crossers r f (λ account. refl) pushed is)
-    (is_ruled w Tells Proper sound next crossers r f (λ account. refl) pushed is intents are)
+    later_is w Tells sound next crossers r f (λ account. refl) pushed is later crossing
+    ∙ earned_is (λ gain player account. account_raised gain account) (λ gain account. refl) w (after_rooms w Tells sound next crossers r f (λ account. refl) pushed is) intents sound
+    (gone_accounts w Tells sound next crossers r f (λ account. refl) pushed is)
+    (is_ruled w Tells sound next crossers r f (λ account. refl) pushed is intents are)
 
 -- what is read beside the accounts
 pub read_gains : (gain : ℕ → ℕ) (accounts read : List Account) (gains got : List ℕ) → read ≡ accounts → got ≡ gains → AreGains gain accounts gains → AreGains gain read got

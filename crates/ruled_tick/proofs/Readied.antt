@@ -24,7 +24,7 @@ use Rattle.room_rules.specs.Within.{between}
 use Rattle.room_rules.proofs.Followed.{came, followed_once}
 use Rattle.room_commutes.proofs.Rested.{all_rested_get, rested_first}
 use Rattle.exit_crossing.specs.declared.leaving.Crosser.{Crosser}
-use Rattle.exit_crossing.specs.Crossing.{AreCrossers, AreIdsApart, IsReadyToCross, most_arrivals, rested_room}
+use Rattle.exit_crossing.specs.Crossing.{AreForgotten, AreCrossers, AreIdsApart, IsReadyToCross, most_arrivals, rested_room}
 use Rattle.ruled_tick.specs.inner.Ticked.{IsRuledRooms}
 use Rattle.world_rules.proofs.Lifting.{AreIdsOnce}
 use Rattle.ruled_tick.proofs.Rested.{ids_apart, once_before_rest, rested_tiles}
@@ -98,6 +98,11 @@ rested_spare (room ∷ rooms) all = (all.0, rested_spare rooms all.1)
 -- ---- rooms before crossings
 
 -- Rooms in which creeps still keep whether they moved, that follow those of a sound world once they are at rest.
+-- What comes to rest tells no more than before.
+rested_forgotten : (rooms : List Room) → AreForgotten rooms → AreForgotten (map rested_room rooms)
+rested_forgotten [] forgotten = tt
+rested_forgotten (room ∷ rooms) forgotten = (forgotten.0, rested_forgotten rooms forgotten.1)
+
 module _ (stored : Stored) (begins : IsSound stored) (players : ℕ → Bool) (left : List Room) (follow : FollowRooms players between stored (record stored { rooms = map rested_room left }))
     (tiles : AllByRecursion (λ room. AllByRecursion IsOnTile room.table.objects) left) (spare : AllByRecursion (λ room. most_arrivals ≤ room.table.spare) left) where
   abbrev last : Stored
@@ -143,11 +148,11 @@ module _ (stored : Stored) (begins : IsSound stored) (players : ℕ → Bool) (l
   left_ids = ids_apart left once_left
 
   -- Where they are what happens inside the rooms, by intents that are told, they are the tick of the rooms with these to cross.
-  module _ (Tells : List Intent → Type 0) (Proper : Type 0) (sound : Proper → IsSound last) (many : length left ≡ length stored.rooms)
+  module _ (Tells : List Intent → Type 0) (sound : IsSound last) (forgotten : AreForgotten left) (many : length left ≡ length stored.rooms)
       (inside : (intents : List Intent) → Tells intents → world_of (record stored { rooms = left }) ≡ (inner book (world_of stored) intents).world)
       (crossing : List Crosser) (ids : (s : Stored) → s.rooms ≡ left → map (λ crosser. crosser.id) crossing ≡ crossers (world_of s)) (found : AreCrossers (map rested_room left) crossing)
       (next : Stored) (is : next ≡ record { tick = stored.tick + 1; rooms = map rested_room left; accounts = [] }) where
-    pub rooms_ruled : IsRuledRooms stored Tells Proper next crossing
+    pub rooms_ruled : IsRuledRooms stored Tells next crossing
     rooms_ruled =
         let before : World = world_of (record stored { rooms = left }) in
         let of_list : List ℕ = map (λ (crosser : Crosser). crosser.id) crossing in
@@ -157,6 +162,7 @@ module _ (stored : Stored) (begins : IsSound stored) (players : ℕ → Bool) (l
           accounts = refl;
           rooms = length-map left rested_room ∙ many;
           sound = sound;
+          forgotten = rested_forgotten left forgotten;
           ready = ready;
           crossers = found;
           same = λ intents told.

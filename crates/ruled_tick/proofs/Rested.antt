@@ -39,7 +39,6 @@ use Rattle.room_rules.proofs.Rules.{first_lead, later_lead}
 use Rattle.room_rules.proofs.Steps.{keeps_rest}
 use Rattle.room_rules.proofs.Moved.{keeps_moved}
 use Rattle.exit_crossing.specs.Crossing.{AreIdsApart, rested_room}
-use Rattle.ruled_tick.proofs.Players.{follow_more}
 use Rattle.ruled_tick.specs.inner.Ticked.{ticked_part, IsTicked, IsTickedAt}
 
 -- ---- objects at rest
@@ -126,8 +125,11 @@ beside_are table = record { damage = λ id has. refl; healing = λ id has. refl 
 pub part_ticked : (moves : List Intent) (room later : Room) → IsTicked moves room later → (sums : Sums) → AreSumsOf sums room.table → part_stored later ≡ ticked_part moves sums (part_stored room)
 part_ticked moves room later ticked sums are = ap (λ (grounds : List Ground). table_part grounds later.table) ticked.terrain ∙ ticked.table.part sums are
 
-module _ (stored : Stored) (sound : IsSound stored) (before : List Room) (players : ℕ → Bool) (follow : FollowRooms players within stored (record stored { rooms = before }))
+module _ (stored : Stored) (sound : IsSound stored) (before : List Room) (follow : FollowRooms (is_player (world_of stored)) within stored (record stored { rooms = before }))
     (rooms : List Room) (moves : ℕ → List Intent) (alone : (k : ℕ) → AreActorsOnce (moves k)) (are : (k : ℕ) → IsTickedAt (moves k) (slice_get before k) (slice_get rooms k)) where
+  abbrev players : ℕ → Bool
+  players = is_player (world_of stored)
+
   abbrev pub at_rest : Stored
   at_rest = record stored { rooms = map rested_room rooms }
 
@@ -167,9 +169,9 @@ module _ (stored : Stored) (sound : IsSound stored) (before : List Room) (player
   follow_rested k =
       subst (FollowsAt players between (slice_get stored.rooms k)) (sym (slice_get-map rested_room rooms k)) (at_follows k (slice_get stored.rooms k) (slice_get before k) (slice_get rooms k) (follow k) (are k))
 
-  -- Where all players have accounts it is a sound world.
-  pub rested_sound : ((player : ℕ) → players player ≡ true → is_player (world_of stored) player ≡ true) → IsSound at_rest
-  rested_sound listed = followed_sound stored at_rest sound (follow_more players (is_player (world_of stored)) listed between stored at_rest follow_rested) (record { rising = sound.accounts; players = λ player listed. listed; fewer = λ player. omega arith })
+  -- It is a sound world.
+  pub rested_sound : IsSound at_rest
+  rested_sound = followed_sound stored at_rest sound follow_rested (record { rising = sound.accounts; players = λ player listed. listed; fewer = λ player. omega arith })
 
   pub once_rested : AreIdsOnce (map rested_room rooms)
   once_rested = followed_once stored at_rest sound between players follow_rested

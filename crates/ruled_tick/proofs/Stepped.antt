@@ -1,5 +1,5 @@
 -- A room's table after movement and upkeep.
-use Rattle.std.proofs.Common.{◌≡◌, ℕ, ◌+◌, ◌*◌, ◌^◌, ◌<◌, ◌≤◌, ◌&&◌, ◌||◌, ◌++◌, max, nat_lt, Bool, true, false, cond, List, [], ◌∷◌, length, Option, Some, None, refl, sym, ap, subst, ◌∙◌, inl, inr, arith}
+use Rattle.std.proofs.Common.{◌≡◌, ℕ, ◌+◌, ◌-◌, ◌*◌, ◌^◌, ◌<◌, ◌≤◌, ◌&&◌, ◌||◌, ◌++◌, max, nat_lt, Bool, true, false, cond, List, [], ◌∷◌, length, Option, Some, None, refl, sym, ap, subst, ◌∙◌, inl, inr, arith}
 use Rattle.std.specs.List.{AllByRecursion, count_by}
 use Rattle.std.proofs.lemmas.List.Sums.{length-filter, sum_by-cons}
 use Rattle.game_tables.specs.Kinds.{is_building, is_creep}
@@ -7,7 +7,7 @@ use Rattle.room_terrain.specs.declared.terrain.Ground.{Ground}
 use Rattle.intent_book.specs.declared.intent.Intent.{Intent}
 use Rattle.room_table.specs.declared.object.Object.{Object}
 use Rattle.room_table.specs.Tables.{Table, IsRising, IsOnTile, HasId, HasNoId, find_object}
-use Rattle.room_table.specs.Tallies.{Tallies, tally_of}
+use Rattle.room_table.specs.Tallies.{Tallies, no_tallies, tally_of}
 use Rattle.world_rules.specs.RoomParts.{RoomPart, table_part}
 use Rattle.world_rules.specs.RuleBook.{Sums, Step, Follows, StaysInRoom}
 use Rattle.world_rules.specs.RoomTick.{room_after_steps}
@@ -23,6 +23,7 @@ use Rattle.room_rules.specs.Calls.{AreSumsOf, IsReadyFor, KeepsUpTo}
 use Rattle.upkeep_rules.specs.Falling.{many_fighters, may_fall, may_leave}
 use Rattle.exit_crossing.specs.Crossing.{most_arrivals}
 use Rattle.ruled_tick.specs.inner.Ticked.{HasMemory, IsReadyToTick, IsTickedTable}
+use Rattle.ruled_tick.proofs.Fewer.{no_more}
 use Rattle.ruled_tick.proofs.Rested.{beside_are, steps_follow, sums_beside}
 
 -- ---- how many piles may be made
@@ -106,8 +107,10 @@ pub record HasMoved (moves : List Intent) (grounds : List Ground) (start one two
   pub rule : table_part grounds one ≡ moved moves (table_part grounds start)
   pub index : one.index ≡ start.index
   pub next : one.next ≡ start.next
+  pub spare : one.spare ≡ start.spare
   pub tallies : one.tallies ≡ start.tallies
   pub tiles : AllByRecursion IsOnTile one.objects
+  pub rising : IsRising one.objects
   pub memory : HasMemory (2 * length one.objects) one two
 
 module _ (moves : List Intent) (grounds : List Ground) (start one two : Table) (has : HasMoved moves grounds start one two) where
@@ -192,17 +195,60 @@ module _ (moves : List Intent) (grounds : List Ground) (start one two : Table) (
         let few : may_fall four.objects ≤ length three.objects = subst (λ (t : Table). may_fall t.objects ≤ length three.objects) (sym memory.same) (few_fall three.objects) in
         omega (arith, kept.used, kept.made, spare, few)
 
+-- ---- how much memory is left
+
+-- What was taken is as much as there was, or as the steps needed.
+most_left : (spare next objects one two young_next young many grown three_next three more four last_next last : ℕ)
+    → two ≡ max spare (2 * one) → one ≤ objects → young_next + young ≡ next + two → next ≤ young_next
+    → grown ≡ max young many → many ≤ objects + (young_next - next) → three_next + three ≡ young_next + grown → young_next ≤ three_next
+    → four ≡ max three (more + 196) → more ≤ objects + (three_next - next) → last_next + last ≡ three_next + four → three_next ≤ last_next
+    → last ≤ max spare (2 * (objects + (last_next - next)) + 196)
+most_left spare next objects one two young_next young many grown three_next three more four last_next last first few made later second some born then third all left end =
+    omega (arith, first, few, made, later, second, some, born, then, third, all, left, end)
+
+module _ (moves : List Intent) (grounds : List Ground) (start one two young grown born three four last : Table) (has : HasMoved moves grounds start one two)
+    (rule : (sums : Sums) → AreSumsOf sums two → table_part grounds young ≡ room_after_steps sums first_steps (table_part grounds two)) (tiles : AllByRecursion IsOnTile young.objects) (for_hatch : HasMemory (length young.objects) young grown)
+    (keeps : KeepsUpTo (may_leave two.objects) two young) (young_rise : IsRising young.objects) (hatch : KeepsUpTo (may_hatch grown.objects) grown born) (aged : KeepsUpTo 0 born three)
+    (three_rule : (sums : Sums) → AreSumsOf sums two → table_part grounds three ≡ room_after_steps sums early_steps (table_part grounds two)) (index : three.index ≡ two.index) (three_tiles : AllByRecursion IsOnTile three.objects) (three_rise : IsRising three.objects)
+    (memory : HasMemory (length three.objects + most_arrivals) three four) (kept : KeepsUpTo (may_fall four.objects) four last) where
+  pub never_less : start.next ≤ last.next
+  never_less =
+      let two_next : two.next ≡ one.next = ap (λ (t : Table). t.next) has.memory.same in
+      let grown_next : grown.next ≡ young.next = ap (λ (t : Table). t.next) for_hatch.same in
+      let four_next : four.next ≡ three.next = ap (λ (t : Table). t.next) memory.same in
+      omega (arith, has.next, two_next, keeps.later, grown_next, hatch.later, aged.later, four_next, kept.later)
+
+  pub most_spare : last.spare ≤ max start.spare (2 * (length start.objects + (last.next - start.next)) + most_arrivals)
+  most_spare =
+      let two_spare : two.spare ≡ max one.spare (2 * length one.objects) = ap (λ (t : Table). t.spare) has.memory.same in
+      let two_next : two.next ≡ one.next = ap (λ (t : Table). t.next) has.memory.same in
+      let grown_spare : grown.spare ≡ max young.spare (length young.objects) = ap (λ (t : Table). t.spare) for_hatch.same in
+      let grown_next : grown.next ≡ young.next = ap (λ (t : Table). t.next) for_hatch.same in
+      let four_spare : four.spare ≡ max three.spare (length three.objects + most_arrivals) = ap (λ (t : Table). t.spare) memory.same in
+      let four_next : four.next ≡ three.next = ap (λ (t : Table). t.next) memory.same in
+      let one_few = no_more grounds start one (follows_one moves grounds start one two has) has.rising in
+      let young_few = no_more grounds start young (follows_young moves grounds start one two has young grown rule tiles for_hatch) young_rise in
+      let three_few = no_more grounds start three (follows_three moves grounds start one two has three four three_rule index three_tiles memory) three_rise in
+      most_left start.spare start.next (length start.objects) (length one.objects) two.spare young.next young.spare (length young.objects) grown.spare three.next three.spare (length three.objects) four.spare last.next last.spare
+      (omega (arith, two_spare, has.spare)) (omega (arith, one_few, has.next)) (omega (arith, keeps.used, two_next, has.next)) (omega (arith, keeps.later, two_next, has.next))
+      grown_spare young_few (omega (arith, hatch.used, aged.used, grown_next)) (omega (arith, hatch.later, aged.later, grown_next))
+      four_spare three_few (omega (arith, kept.used, four_next)) (omega (arith, kept.later, four_next))
+
 -- the whole
 pub ticked_table : (moves : List Intent) (grounds : List Ground) (start last one two three four : Table) → HasMoved moves grounds start one two
     → ((sums : Sums) → AreSumsOf sums two → table_part grounds three ≡ room_after_steps sums early_steps (table_part grounds two)) → three.index ≡ two.index → AllByRecursion IsOnTile three.objects → HasMemory (length three.objects + most_arrivals) three four
     → ((grounds : List Ground) (sums : Sums) → table_part grounds last ≡ room_after_steps sums last_steps (table_part grounds four)) → KeepsUpTo (may_fall four.objects) four last → IsRising last.objects
-    → IsTickedTable moves grounds start last
-ticked_table moves grounds start last one two three four has rule index tiles memory ends kept rise = record {
+    → start.next ≤ last.next → last.spare ≤ max start.spare (2 * (length start.objects + (last.next - start.next)) + most_arrivals)
+    → IsTickedTable moves grounds start (record last { tallies = no_tallies })
+ticked_table moves grounds start last one two three four has rule index tiles memory ends kept rise later most = record {
   index = kept.index ∙ ap (λ (t : Table). t.index) memory.same ∙ index_three moves grounds start one two has three four rule index tiles memory;
   part = λ sums are.
       ends grounds sums
       ∙ ap (room_after_steps sums last_steps) (part_four moves grounds start one two has three four rule index tiles memory ∙ part_three moves grounds start one two has three four rule index tiles memory sums are);
   rising = rise;
   tiles = kept.tiles;
+  sums = refl;
+  later = later;
   spare = spare_four moves grounds start one two has three four rule index tiles memory last kept;
+  most = most;
 }

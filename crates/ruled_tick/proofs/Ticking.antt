@@ -1,8 +1,7 @@
 -- Rooms that are ticked one after the other.
-use Rattle.std.proofs.Common.{◌≡◌, ℕ, zero, suc, ◌+◌, ◌<◌, ◌≤◌, ◌==◌, ◌&&◌, Bool, true, false, cond, List, [], ◌∷◌, ◌++◌, map, length, get_or, set, Option, Some, None, slice_get, slice_index_or, refl, sym, ap, subst, ◌∙◌, ◌⊎◌, inl, inr, arith}
+use Rattle.std.proofs.Common.{◌≡◌, ℕ, zero, suc, ◌+◌, ◌<◌, ◌==◌, ◌&&◌, Bool, true, false, cond, List, [], ◌∷◌, ◌++◌, map, length, get_or, set, slice_get, slice_index_or, refl, sym, ap, subst, ◌∙◌, arith}
 use Rattle.std.specs.List.{filter}
-use Rattle.std.proofs.lemmas.Bool.{eqb-true, eqb-false, cases_lt}
-use Rattle.std.proofs.lemmas.Option.{slice_get_past, slice_get_within}
+use Rattle.std.proofs.lemmas.Bool.{eqb-true, eqb-false}
 use Rattle.std.proofs.lemmas.List.{length_push, length-set}
 use Rattle.game_tables.specs.Actions.{action_number}
 use Rattle.game_tables.specs.declared.action.Action.TheVariants.{Move}
@@ -10,56 +9,26 @@ use Rattle.intent_book.specs.declared.intent.Intent.{Intent}
 use Rattle.kept_entries.specs.declared.entries.Entry.{Entry}
 use Rattle.object_store.specs.declared.world.Room.{Room}
 use Rattle.ruled_tick.specs.inner.Ticked.{is_move_in, moves_in, AreMoves, AreTicked, IsTicked, IsTickedAt}
-use Rattle.ruled_tick.proofs.Places.{get_set}
 
--- The rooms below a place are ticked, and the others are as they were.
-pub record AreTickedTo (entries : List Entry) (i : ℕ) (old new : List Room) : Type 0 where
-  pub done : (k : ℕ) → k < i → IsTickedAt (moves_in k entries) (slice_get old k) (slice_get new k)
-  pub later : (k : ℕ) → i ≤ k → slice_get new k ≡ slice_get old k
-
-pub ticked_none : (entries : List Entry) (rooms : List Room) → AreTickedTo entries 0 rooms rooms
-ticked_none entries rooms = record { done = λ k less. absurd (omega arith); later = λ k least. refl }
-
-pub ticked_more : (entries : List Entry) (i : ℕ) (old new : List Room) (room mate : Room) → AreTickedTo entries i old new → slice_get new i ≡ Some room → IsTicked (moves_in i entries) room mate → AreTickedTo entries (i + 1) old (set new i mate)
-ticked_more entries i old new room mate are at ticked =
-    let inside : i < length new = slice_get_within new i room at in
-    let was : slice_get old i ≡ Some room = sym (are.later i (omega arith)) ∙ at in
-    record {
-      done = λ k less. elim (k == i) as (λ b. (k == i) ≡ b → IsTickedAt (moves_in k entries) (slice_get old k) (slice_get (set new i mate) k)) [
-        | true ↦ λ same.
-            let here : k ≡ i = eqb-true k i same in
-            subst (λ (n : ℕ). IsTickedAt (moves_in n entries) (slice_get old n) (slice_get (set new i mate) n)) (sym here)
-            (subst (λ (found : Option Room). IsTickedAt (moves_in i entries) found (slice_get (set new i mate) i)) (sym was)
-            (subst (IsTickedAt (moves_in i entries) (Some room)) (sym (get_set new i i mate inside ∙ ap (λ (b : Bool). cond b (Some mate) (slice_get new i)) (eq_same i))) ticked))
-        | false ↦ λ apart.
-            let other = eqb-false k i apart in
-            subst (IsTickedAt (moves_in k entries) (slice_get old k)) (sym (get_set new i k mate inside ∙ ap (λ (b : Bool). cond b (Some mate) (slice_get new k)) apart)) (are.done k (before k less other))
-      ] refl;
-      later = λ k least. get_set new i k mate inside ∙ ap (λ (b : Bool). cond b (Some mate) (slice_get new k)) (not_same k (omega arith)) ∙ are.later k (omega arith);
-    }
+-- They are as many as before.
+pub as_many_ticked : (entries : List Entry) (old new : List Room) → AreTicked entries old new → length new ≡ length old
+as_many_ticked entries old new are = as_many (λ k. moves_in k entries) old new are
   where
-    eq_same : (n : ℕ) → (n == n) ≡ true
-    eq_same n = grind arith
+    as_many : (moves : ℕ → List Intent) (old new : List Room) → ((k : ℕ) → IsTickedAt (moves k) (slice_get old k) (slice_get new k)) → length new ≡ length old
+    as_many moves [] [] are = refl
+    as_many moves [] (y ∷ new) are = absurd (are 0)
+    as_many moves (x ∷ old) [] are = absurd (are 0)
+    as_many moves (x ∷ old) (y ∷ new) are = ap suc (as_many (λ j. moves (suc j)) old new (λ j. are (suc j)))
 
-    before : (k : ℕ) → k < i + 1 → (k ≡ i → ⊥) → k < i
-    before k less other = omega (arith, less, other)
-
-    not_same : (k : ℕ) → i + 1 ≤ k → (k == i) ≡ false
-    not_same k least = grind (arith, least)
-
-nothing_at : (moves : List Intent) (one other : Option Room) → one ≡ None → other ≡ None → IsTickedAt moves one other
-nothing_at moves one other is that = subst (λ (found : Option Room). IsTickedAt moves found other) (sym is) (subst (IsTickedAt moves None) (sym that) tt)
-
-pub ticked_all : (entries : List Entry) (i : ℕ) (old new : List Room) → length old ≤ i → AreTickedTo entries i old new → AreTicked entries old new
-ticked_all entries i old new past are k = elim (cases k) [
-  | inl less ↦ are.done k less
-  | inr more ↦
-      let none = slice_get_past old k (omega (arith, more, past)) in
-      nothing_at (moves_in k entries) (slice_get old k) (slice_get new k) none (are.later k more ∙ none)
-]
-  where
-    cases : (k : ℕ) → (k < i) ⊎ (i ≤ k)
-    cases k = cases_lt k i
+-- With one more that is ticked all are.
+pub ticked_push : (moves : ℕ → List Intent) (old new : List Room) (room mate : Room) → length old ≡ length new → ((k : ℕ) → IsTickedAt (moves k) (slice_get old k) (slice_get new k)) → IsTicked (moves (length old)) room mate
+    → (k : ℕ) → IsTickedAt (moves k) (slice_get (old ++ room ∷ []) k) (slice_get (new ++ mate ∷ []) k)
+ticked_push moves [] [] room mate same each ticked zero = ticked
+ticked_push moves [] [] room mate same each ticked (suc k) = tt
+ticked_push moves [] (y ∷ new) room mate same each ticked k = absurd (omega (arith, same))
+ticked_push moves (x ∷ old) [] room mate same each ticked k = absurd (omega (arith, same))
+ticked_push moves (x ∷ old) (y ∷ new) room mate same each ticked zero = each 0
+ticked_push moves (x ∷ old) (y ∷ new) room mate same each ticked (suc k) = ticked_push (λ j. moves (suc j)) old new room mate (omega (arith, same)) (λ j. each (suc j)) ticked k
 
 -- ---- lists with another item at a place
 

@@ -1,6 +1,6 @@
 // What the entries of a tick make of the rooms.
 ghost use Rattle.std.specs.Prelude.{◌≡◌, ◌≢◌, ◌<◌, ◌≤◌, ◌^◌, ℕ, length, Some, option_map, slice_get, OnOk};
-ghost use Rattle.std.specs.Prelude.{IfOk};
+ghost use Rattle.std.specs.Prelude.{IfOk, OnErr};
 ghost use Rattle.object_store.specs.declared.world.Room.{Room};
 ghost use Rattle.world_rules.specs.RoomParts.{table_part};
 ghost use Rattle.world_rules.specs.Tick.{book};
@@ -63,15 +63,16 @@ fn counts_of(alloc: Global, rooms: usize, entries: &[Entry]) -> Result<Vec<u32>,
     Ok(counts)
 }
 
-/// Begins a tick in a room's table: forgets what was done to its objects, and gives it memory for what so
-/// many entries and a step of upkeep may make, by a copy where it hasn't as much.
+/// Begins a tick in a room's table: gives it memory for what so many entries and a step of upkeep may make,
+/// by a copy where it hasn't as much, and forgets what was done to its objects.
 pub fn widen(alloc: Global, table: &mut RoomTable, entries: u32) -> Result<(), NoMemory>
-    ensures { OnOk result (table.new ≡ widened_table entries table.old) }
+    ensures widened { OnOk result (table.new ≡ widened_table entries table.old) }
+    ensures unchanged { OnErr result (table.new ≡ table.old) }
 {
-    table.clear_sums();
     if wanted(table, entries) > u64::from(table.spare()) {
         *table = copied(alloc, table, entries)?;
     }
+    table.clear_sums();
     Ok(())
 }
 

@@ -1,6 +1,6 @@
 // Movement and upkeep of all rooms.
 ghost use Rattle.std.specs.Prelude.{◌≡◌, IsTrue, ◌<◌, ◌^◌, ◌∷◌, ◌++◌, [], ℕ, List, Some, slice_get, OnOk};
-ghost use Rattle.std.specs.Prelude.{IfOk};
+ghost use Rattle.std.specs.Prelude.{IfOk, OnErr};
 ghost use Rattle.object_store.specs.declared.world.Room.{Room};
 ghost use Rattle.kept_entries.specs.declared.entries.Entry.{Entry};
 ghost use Rattle.room_rules.specs.Calls.{AreActorsOnce};
@@ -16,18 +16,20 @@ use spawn_rules::hatch;
 use std::alloc::{AllocError as NoMemory, Global};
 use upkeep_rules::{age_controllers, upkeep_first, upkeep_last};
 
-/// Lets the creeps of each room move, by those of the entries that are moves, and keeps the rooms up.
-pub fn tick_all(alloc: Global, rooms: &mut [Room], entries: &[Entry]) -> Result<(), NoMemory>
-    requires ready { (index : ℕ) (room : Room) → slice_get rooms.old index ≡ Some room
+/// The rooms in which creeps moved, by those of the entries that are moves, and that were kept up.
+pub fn tick_all(alloc: Global, rooms: Vec<Room>, entries: &[Entry]) -> Result<Vec<Room>, NoMemory>
+    requires ready { (index : ℕ) (room : Room) → slice_get rooms.items index ≡ Some room
         → IsReadyToTick room.table }
     requires once { (index : ℕ) → AreActorsOnce (moves_in index entries.now) }
-    ensures { OnOk result (AreTicked entries.now rooms.old rooms.new) }
+    ensures { IfOk result (λ ticked. AreTicked entries.now rooms.items ticked.items) }
 {
     let moves = moves_by_room(alloc, rooms.len(), entries)?;
-    for (index, room) in rooms.iter_mut().enumerate() {
-        tick_room(room, moves[index].as_slice())?;
+    let mut ticked = Vec::with_capacity(alloc, rooms.len())?;
+    for room in rooms {
+        let index = ticked.len();
+        ticked.push(tick_room(room, moves[index].as_slice())?)?;
     }
-    Ok(())
+    Ok(ticked)
 }
 
 // The moves of each room.
@@ -65,34 +67,54 @@ fn add_move(moves: &mut [Intents], entry: &Entry) -> Result<(), NoMemory>
 }
 
 // A room after movement and upkeep.
-fn tick_room(room: &mut Room, moves: &[Intent]) -> Result<(), NoMemory>
-    requires ready { IsReadyToTick room.old.table }
+fn tick_room(room: Room, moves: &[Intent]) -> Result<Room, NoMemory>
+    requires ready { IsReadyToTick room.table }
     requires once { AreActorsOnce moves.now }
-    ensures { OnOk result (IsTicked moves.now room.old room.new) }
+    ensures { IfOk result (IsTicked moves.now room) }
 {
-    tick_table(&room.terrain, &mut room.table, moves)
+    let Room {
+        name,
+        terrain,
+        table,
+    } = room;
+    let table = tick_table(&terrain, table, moves)?;
+    Ok(Room {
+        name,
+        terrain,
+        table,
+    })
 }
 
-/// Lets the creeps of a room move, by these moves all at once, and keeps the room up, by the steps of upkeep
-/// in their order. A room that has no serials for what the steps may make is refused as one without memory.
-pub fn tick_table(ground: &Terrain, table: &mut RoomTable, moves: &[Intent]) -> Result<(), NoMemory>
-    requires ready { IsReadyToTick table.old }
+/// The table of a room in which creeps moved, by these moves all at once, and that was kept up, by the steps
+/// of upkeep in their order. What was done to its objects is forgotten. A room that has no serials for what
+/// the steps may make is refused as one without memory.
+pub fn tick_table(
+    ground: &Terrain,
+    mut table: RoomTable,
+    moves: &[Intent],
+) -> Result<RoomTable, NoMemory>
+    requires ready { IsReadyToTick table }
     requires once { AreActorsOnce moves.now }
-    ensures { OnOk result (IsTickedTable moves.now ground.now table.old table.new) }
+    ensures { IfOk result (IsTickedTable moves.now ground.now table) }
 {
-    settle_moves(ground, table, moves);
-    let most_left = 2 * u64::from(table.len());
-    take_memory(table, most_left)?;
-    upkeep_first(table);
-    let most_hatched = u64::from(table.len());
-    take_memory(table, most_hatched)?;
-    hatch(ground, table);
-    age_controllers(table);
-    let most_made = u64::from(table.len()) + MOST_ARRIVALS;
-    take_memory(table, most_made)?;
-    upkeep_last(table);
+    settle_moves(ground, &mut table, moves);
+    // No more objects stand in order of their ids than stood and were made.
     table.stands_in_order();
-    Ok(())
+    let most_left = 2 * u64::from(table.len());
+    take_memory(&mut table, most_left)?;
+    upkeep_first(&mut table);
+    table.stands_in_order();
+    let most_hatched = u64::from(table.len());
+    take_memory(&mut table, most_hatched)?;
+    hatch(ground, &mut table);
+    age_controllers(&mut table);
+    table.stands_in_order();
+    let most_made = u64::from(table.len()) + MOST_ARRIVALS;
+    take_memory(&mut table, most_made)?;
+    upkeep_last(&mut table);
+    table.clear_sums();
+    table.stands_in_order();
+    Ok(table)
 }
 
 // Takes memory for so many objects, for the piles that upkeep may make and the creeps that may come, where
@@ -100,7 +122,8 @@ pub fn tick_table(ground: &Terrain, table: &mut RoomTable, moves: &[Intent]) -> 
 // the rules has at most 7,500 objects.
 fn take_memory(table: &mut RoomTable, many: u64) -> Result<(), NoMemory>
     requires few { many < 2 ^ 34 }
-    ensures { OnOk result (HasMemory many table.old table.new) }
+    ensures taken { OnOk result (HasMemory many table.old table.new) }
+    ensures unchanged { OnErr result (table.new ≡ table.old) }
 {
     let most = u64::from(u32::MAX);
     if u64::from(table.next()) + many > most || u64::from(table.len()) + many > most {

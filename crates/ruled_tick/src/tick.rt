@@ -7,8 +7,8 @@ ghost use Rattle.kept_entries.specs.Turns.{AreKept};
 ghost use Rattle.world_rules.specs.World.{world_of};
 ghost use Rattle.world_rules.specs.Tick.{book, plain_world, gained, account_raised, points_after};
 ghost use Rattle.world_rules.specs.Sound.{IsSound, HaveSerials};
-ghost use Rattle.ruled_tick.specs.Players.{AreByPlayers};
-ghost use Rattle.ruled_tick.specs.inner.Entered.{AreGains, AreOfPlayers};
+ghost use Rattle.exit_crossing.specs.Crossing.{AreForgotten};
+ghost use Rattle.ruled_tick.specs.inner.Entered.{AreGains};
 ghost use Rattle.ruled_tick.specs.inner.Ticked.{raised_by, IsRuledRooms, AreInPlace};
 
 use crate::act::{enter, widen_all};
@@ -23,7 +23,7 @@ use std::alloc::{AllocError as NoMemory, Global};
 use world_roster::Roster;
 
 /// The world after one tick with these entries: each account has the points that its player gained, up
-/// to 2^53, with the bucket and the memory text as they were.
+/// to 2^53, with the bucket and the memory text as they were. Of what was done to objects nothing is left.
 ///
 /// Of the entries that fit the world the last of each player, action and actor counts. They go by
 /// action, then player, then actor; then creeps move, upkeep goes through all rooms, and creeps that
@@ -36,7 +36,8 @@ pub fn tick_plain(alloc: Global, world: &World, intents: &[Intent]) -> Result<Wo
     requires few { length intents.now ≤ 2 ^ 18 }
     requires serials { HaveSerials world.now.rooms }
     ensures ruled { IfOk result (λ next. world_of next ≡ plain_world (world_of world.now) intents.now) }
-    ensures sound { IfOk result (λ next. AreByPlayers (world_of world.now) intents.now → IsSound next) }
+    ensures sound { IfOk result IsSound }
+    ensures forgotten { IfOk result (λ next. AreForgotten next.rooms) }
 {
     let roster = Roster::of(alloc, world)?;
     let entries = kept_entries(alloc, world, &roster, intents)?;
@@ -54,8 +55,8 @@ pub fn tick_taken(alloc: Global, world: World, entries: &[Entry]) -> Result<Worl
     requires kept { (list : List Intent) × AreKept (world_of world) list entries.now }
     ensures ruled { IfOk result (λ next. (list : List Intent) → AreKept (world_of world) list entries.now
         → world_of next ≡ plain_world (world_of world) list) }
-    ensures sound { IfOk result (λ next. (list : List Intent) → AreKept (world_of world) list entries.now
-        → AreByPlayers (world_of world) list → IsSound next) }
+    ensures sound { IfOk result IsSound }
+    ensures forgotten { IfOk result (λ next. AreForgotten next.rooms) }
 {
     let (mut next, accounts, gains, crossers) = ruled_rooms(alloc, world, entries)?;
     push_raised(alloc, &accounts, &gains, &mut next)?;
@@ -76,8 +77,7 @@ fn ruled_rooms(
     requires serials { HaveSerials world.rooms }
     requires kept { (list : List Intent) × AreKept (world_of world) list entries.now }
     ensures rooms { IfOk result (λ parts. IsRuledRooms world
-        (λ list. AreKept (world_of world) list entries.now) (AreOfPlayers (world_of world) entries.now)
-        parts.0 parts.3.items) }
+        (λ list. AreKept (world_of world) list entries.now) parts.0 parts.3.items) }
     ensures accounts { IfOk result (λ parts. parts.1.items ≡ world.accounts) }
     ensures within { IfOk result (λ parts. length parts.1.items < 2 ^ 32) }
     ensures gains { IfOk result (λ parts. (list : List Intent) → AreKept (world_of world) list entries.now
@@ -93,7 +93,7 @@ fn ruled_rooms(
         let points = enter(&mut rooms, entry);
         add_gain(&accounts, &mut gains, entry.intent.player, points);
     }
-    tick_all(alloc, &mut rooms, entries)?;
+    let mut rooms = tick_all(alloc, rooms, entries)?;
     let crossers = all_crossers(alloc, &mut rooms)?;
     let next = world_of_rooms(alloc, tick, rooms)?;
     Ok((next, accounts, gains, crossers))

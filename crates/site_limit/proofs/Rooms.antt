@@ -27,7 +27,7 @@ use Rattle.world_rules.specs.Loads.{with_more, with_less, handed_over, transferr
 use Rattle.world_rules.specs.Work.{live_work, harvested_by, hits_gained, repair_cost, repaired_by, total_of, work_put, building_on, advanced, built_as, built_by}
 use Rattle.world_rules.specs.Fights.{dismantled_by, salvage, without_hits}
 use Rattle.world_rules.specs.Claims.{claimed_by, claimed_for, controller_hurt, full_time, live_claim, progressed, refreshed, risen, hurt_by, reserved_by, ticks_reserved, upgraded_by, work_taken, worked_on}
-use Rattle.world_rules.specs.Sites.{removal_checks}
+use Rattle.world_rules.specs.Sites.{removing_checks}
 use Rattle.world_rules.specs.Spawns.{begun_with, paid, payers, share, spawn_checks}
 use Rattle.world_rules.specs.Steps.{by_object, over_ids, over_objects, with_left, each}
 use Rattle.world_rules.specs.Tick.{rule_of}
@@ -291,7 +291,7 @@ module _ (player : ℕ) (places : List ℕ) where
       (λ now creep controller are known too. fit_object (controller_hurt creep controller) (no_site (controller_hurt creep controller) (ap is_site (hurt_kind creep controller) ∙ controller_no_site controller.kind (attacks controller.kind (target_kind AttackController 1 entry now creep controller are.targets)))) now) part fit
   fit_rule CreateSite entry other part fit = absurd (cc)
   fit_rule RemoveSite entry other part fit =
-      fit_if (all_hold (removal_checks entry.player (standing_at part entry.actor))) (without entry.actor part) part (fit_without entry.actor part fit) fit
+      fit_if (all_hold (removing_checks entry part)) (without entry.actor part) part (fit_without entry.actor part fit) fit
   fit_rule SpawnCreep entry other part fit =
       let around : List Object = values part.objects in
       let after : RoomPart = paid (payers entry.player around) (body_cost entry.body) part in

@@ -19,7 +19,7 @@ use Rattle.world_rules.specs.Checks.{all_hold}
 use Rattle.world_rules.specs.Claims.{controller_aged_as, downgraded, owned_aged, reservation_aged}
 use Rattle.world_rules.specs.Movement.{Mover, has_mover, is_creep_on, moved_by, movers, stepped, worn_as}
 use Rattle.world_rules.specs.Moves.{candidates, fatigue, moved}
-use Rattle.world_rules.specs.Sites.{plan_of, site_checks, site_made, site_of}
+use Rattle.world_rules.specs.Sites.{making_checks, plan_of, site_made, site_of}
 use Rattle.world_rules.specs.Spawns.{held_by, hatched_as, hatched_on, newborn, tile_for}
 use Rattle.world_rules.specs.Steps.{over_objects}
 use Rattle.world_rules.specs.Upkeep.{aged_as, decay_hits, decayed_as, decays, filled_as, gone, hits_left, pile_decayed, recovered_as, renewed_as, source_renewed, spawn_capacity, standing_or_gone, steps, struck, struck_as, unloaded_as, weathered, weathered_as}
@@ -53,7 +53,7 @@ module _ (player : ℕ) (places : List ℕ) where
   pub fit_made : (entry : Intent) (part : RoomPart) → (entry.player ≡ player → Has places (next_id part)) → AllFit player places part → AllFit player places (site_made entry part)
   fit_made entry part new fit =
       let make : ℕ → Object = site_of (plan_of entry part) in
-      fit_if player places (all_hold (site_checks (plan_of entry part))) (with_new make part) part
+      fit_if player places (all_hold (making_checks entry part)) (with_new make part) part
       (fit_new_known player places make part refl (λ is. new (eqb-true entry.player player is)) fit) fit
 
   -- ---- movement

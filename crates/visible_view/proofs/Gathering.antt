@@ -12,7 +12,8 @@ use Rattle.object_store.specs.declared.world.Room.{Room}
 use Rattle.object_store.proofs.Accounts.{all_push}
 use Rattle.room_table.proofs.Rising.{Rises, all_weaker}
 use Rattle.game_tables.specs.Kinds.{is_building, is_controller, is_creep, is_site}
-use Rattle.visible_view.specs.Sights.{SeenRoom, gives_sight}
+use Rattle.world_rules.specs.Sights.{gives_sight}
+use Rattle.visible_view.specs.Sights.{SeenRoom}
 use Rattle.visible_view.specs.inner.Gathered.{shown_room, is_controller_of, is_seen, is_site_of, from_each, kept_objects, objects_if_seen, room_if_seen, controllers_at, sites_at, KeepsRoomIf, IsAdded, IsGathered}
 use Rattle.visible_view.specs.declared.gather.RoomInView.{RoomInView}
 use Rattle.visible_view.specs.declared.gather.Gathered.{Gathered}

@@ -25,7 +25,8 @@ use Rattle.world_rules.specs.Rules.{Stands}
 use Rattle.world_rules.specs.Sound.{IsSound}
 use Rattle.world_rules.proofs.Entries.{Entries, times, times_cons, no_times}
 use Rattle.world_rules.proofs.Same.{once}
-use Rattle.visible_view.specs.Sights.{SeenRoom, Sight, sight_of, gives_sight, sees_room, seen_rooms, seen_objects, site_count}
+use Rattle.world_rules.specs.Sights.{gives_sight}
+use Rattle.visible_view.specs.Sights.{SeenRoom, Sight, sight_of, sees_room, seen_rooms, seen_objects, site_count}
 use Rattle.world_roster.specs.Rosters.{shown_entry}
 use Rattle.world_roster.proofs.Known.{find_as}
 use Rattle.visible_view.specs.inner.Gathered.{shown_room, controllers_at, is_controller_of, is_flagged, is_seen, is_site_of, from_each, room_if_seen, sites_at}

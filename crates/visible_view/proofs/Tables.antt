@@ -1,7 +1,7 @@
 -- What is seen of a room is what stands there, and that is its table.
-use Rattle.std.proofs.Common.{◌≡◌, ℕ, ◌+◌, ◌==◌, Bool, true, false, cond, if◌then◌else◌, T, List, [], ◌∷◌, map, Option, Some, None, option_and_then, refl, sym, ap, ◌∙◌, inl, inr, arith}
+use Rattle.std.proofs.Common.{◌≡◌, ℕ, ◌+◌, ◌==◌, ◌&&◌, ◌||◌, Bool, true, false, cond, if◌then◌else◌, T, List, [], ◌∷◌, map, Option, Some, None, option_and_then, refl, sym, ap, ◌∙◌, inl, inr, arith}
 use Rattle.std.specs.Prelude.{slice_get}
-use Rattle.std.specs.List.{cons_option, filter, filter_map}
+use Rattle.std.specs.List.{cons_option, filter, filter_map, list_any}
 use Rattle.std.specs.Option.{unwrap_or}
 use Rattle.std.specs.Ordering.{nat_cmp}
 use Rattle.std.specs.Cmp.{nat_cmp_total}
@@ -13,8 +13,9 @@ use Rattle.room_table.specs.declared.object.Object.{Object}
 use Rattle.room_table.specs.declared.standing.Standing.{Standing}
 use Rattle.object_store.specs.declared.world.Room.{Room}
 use Rattle.object_store.specs.Stored.{Stored}
-use Rattle.world_rules.specs.World.{Placed, World, shown, placed, listing_of, world_of}
-use Rattle.world_rules.specs.RoomParts.{objects_in, standing_in}
+use Rattle.world_rules.specs.Sights.{gives_sight, is_visible}
+use Rattle.world_rules.specs.World.{Frame, Placed, World, shown, placed, listing_of, world_of}
+use Rattle.world_rules.specs.RoomParts.{objects_in, part_of, standing_in}
 use Rattle.world_rules.specs.Sound.{IsSound}
 use Rattle.world_rules.proofs.Entries.{Entries}
 use Rattle.world_rules.proofs.Keys.{keyed, joined, entries_of_sorted, table_sorted, values_of}
@@ -112,6 +113,21 @@ pub around_seen : (world : World) (account : Account) (room : ℕ) → objects_a
 around_seen world account room =
     shown_all (sees_room world account.player) room (entries world.objects)
     ∙ ap (λ (es : List (ℕ × Object)). cond (sees_room world account.player room) (second es) []) (sym (entries_of_sorted (standing room (entries world.objects)) (sorted_there world room)))
+
+-- A room that a player sees is visible by its part.
+any_standing : (player room : ℕ) (es : Entries) → list_any (gives_sight player) (second (standing room es)) ≡ list_any (λ (e : ℕ × Placed). (e.1.room == room) && gives_sight player e.1.object) es
+any_standing player room [] = refl
+any_standing player room (e ∷ es) =
+    let later : Entries → Bool = list_any (λ (f : ℕ × Placed). (f.1.room == room) && gives_sight player f.1.object) in
+    elim (e.1.room == room) as (λ b. list_any (gives_sight player) (second (cons_option (if b then Some (e.0, e.1.object) else None) (standing room es))) ≡ ((b && gives_sight player e.1.object) || later es)) [
+      | true ↦ ap (λ (b : Bool). gives_sight player e.1.object || b) (any_standing player room es)
+      | false ↦ any_standing player room es
+    ]
+
+pub seen_part : (world : World) (player room : ℕ) (frame : Frame) → sees_room world player room ≡ is_visible player (part_of world room frame)
+seen_part world player room frame =
+    sym (any_standing player room (entries world.objects))
+    ∙ ap (λ (es : List (ℕ × Object)). list_any (gives_sight player) (second es)) (sym (entries_of_sorted (standing room (entries world.objects)) (sorted_there world room)))
 
 -- ---- a sound world
 

@@ -1,19 +1,14 @@
 -- What a player sees of the world: the rooms in which a creep, a building or a controller of his stands, with
 -- all that is in them.
-use Rattle.std.specs.Prelude.{ℕ, ◌==◌, ◌&&◌, ◌||◌, Bool, if◌then◌else◌, List, [], ◌∷◌, map}
+use Rattle.std.specs.Prelude.{ℕ, ◌==◌, ◌&&◌, Bool, if◌then◌else◌, List, [], ◌∷◌, map}
 use Rattle.std.specs.List.{count_by, filter, list_any}
 use Rattle.std.specs.FinMap.{entries}
-use Rattle.game_tables.specs.Kinds.{is_building, is_controller, is_creep, is_site}
+use Rattle.game_tables.specs.Kinds.{is_controller, is_site}
 use Rattle.room_terrain.specs.declared.name.RoomName.{RoomName}
 use Rattle.room_terrain.specs.declared.terrain.Ground.{Ground}
 use Rattle.object_store.specs.declared.account.Account.{Account}
-use Rattle.room_table.specs.declared.object.Object.{Object}
+use Rattle.world_rules.specs.Sights.{gives_sight}
 use Rattle.world_rules.specs.World.{Frame, Placed, World}
-
--- The object is one by which the player sees its room.
-abbrev pub gives_sight : ℕ → Object → Bool
-gives_sight player object =
-    (object.owner == player) && (is_creep object.kind || is_building object.kind || is_controller object.kind)
 
 -- The player sees the room of this index.
 abbrev pub sees_room : World → ℕ → ℕ → Bool

@@ -2,15 +2,16 @@
 ghost use Rattle.std.specs.Prelude.{◌≡◌, ◌+◌, ◌<◌, ◌≤◌, ◌^◌, ◌++◌, [], ◌∷◌, length, OnOk, IfOk};
 ghost use Rattle.std.specs.List.{count_by, list_any};
 ghost use Rattle.game_tables.specs.Limits.{most_rooms};
-ghost use Rattle.visible_view.specs.Sights.{gives_sight as giving_sight};
+ghost use Rattle.world_rules.specs.Sights.{gives_sight};
 ghost use Rattle.visible_view.specs.inner.Gathered.{is_flagged as flagged, is_controller_of, is_site_of};
 ghost use Rattle.visible_view.specs.inner.Gathered.{IsAdded, IsGathered};
 ghost use Rattle.visible_view.specs.inner.Places.{flagged_from};
 
 use crate::NoMemory;
-use game_tables::{is_building, is_controller, is_creep, is_site};
-use object_store::{Object, Objects, Room, RoomTable, Standing};
+use game_tables::{is_controller, is_site};
+use object_store::{Objects, Room, RoomTable, Standing};
 use std::alloc::Global;
+use world_rules::gives_sight;
 
 /// A room that is seen.
 #[derive(Clone, Copy)]
@@ -95,16 +96,9 @@ struct Tallied {
     controllers: u64,
 }
 
-fn gives_sight(object: &Object, player: u32) -> bool
-    ensures { result ≡ giving_sight player object.now }
-{
-    object.owner == player
-        && (is_creep(object.kind) || is_building(object.kind) || is_controller(object.kind))
-}
-
 // Whether the player sees a room, and how many sites and controllers he has there.
 fn tally(table: &RoomTable, player: u32) -> Tallied
-    ensures seen { result.is_seen ≡ list_any (giving_sight player) table.now.objects }
+    ensures seen { result.is_seen ≡ list_any (gives_sight player) table.now.objects }
     ensures sites { result.sites ≡ count_by (is_site_of player) table.now.objects }
     ensures controllers { result.controllers ≡ count_by (is_controller_of player) table.now.objects }
     ensures few { (result.sites < 2 ^ 32) × (result.controllers < 2 ^ 32) }
@@ -122,7 +116,7 @@ fn tally(table: &RoomTable, player: u32) -> Tallied
 
 fn tally_objects(objects: Objects<'_>, player: u32) -> Tallied
     requires { length objects < 2 ^ 32 }
-    ensures seen { result.is_seen ≡ list_any (giving_sight player) objects.entry }
+    ensures seen { result.is_seen ≡ list_any (gives_sight player) objects.entry }
     ensures sites { result.sites ≡ count_by (is_site_of player) objects.entry }
     ensures controllers { result.controllers ≡ count_by (is_controller_of player) objects.entry }
     ensures few { (result.sites ≤ length objects.entry) × (result.controllers ≤ length objects.entry) }

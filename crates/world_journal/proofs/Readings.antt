@@ -1,9 +1,9 @@
 -- The readings of whole journals.
-use Rattle.std.proofs.Common.{◌≡◌, ◌≢◌, inl, inr, ℕ, ◌+◌, cond, eqb, List, [], ◌∷◌, ◌++◌, length, sym, ◌∙◌, ap, arith, length-append, Contains, Option, Some, None, IfSome}
+use Rattle.std.proofs.Common.{◌≡◌, ◌≢◌, inl, inr, ℕ, ◌+◌, ◌<◌, ◌≤◌, ◌^◌, cond, eqb, List, [], ◌∷◌, ◌++◌, length, sym, ◌∙◌, ap, arith, length-append, Contains, Option, Some, None, IfSome, IfOk, take}
 use Rattle.std.proofs.lemmas.Bool.Decides.{eqb_tells}
 use Rattle.std.specs.Option.{ok_or}
 use Rattle.std.specs.Result.{IfOk, IfErr}
-use Rattle.std.proofs.lemmas.List.{take-append-le, take_all}
+use Rattle.std.proofs.lemmas.List.{length-take-le, take-append-le, take_all}
 use Rattle.std.proofs.lemmas.List.Elements.{Contains-append_left, Contains-push}
 use Rattle.world_io.specs.Disk.{LengthIs}
 use Rattle.world_io.specs.Moments.{Moment}
@@ -11,7 +11,7 @@ use Rattle.frame_log.specs.Reading.{FindsAt}
 use Rattle.frame_log.specs.declared.read.Behind.TheVariants.{Closed}
 use Rattle.object_store.specs.Stored.{Stored}
 use Rattle.record_follows.specs.Courses.{IsWorldAt, world_after}
-use Rattle.record_follows.proofs.Steps.{tick_after, world_after_one}
+use Rattle.record_follows.proofs.Steps.{following_take, tick_after, world_after_one}
 use Rattle.rule_check.specs.Kept.{KeepsObjectRules}
 use Rattle.tick_journal.specs.declared.tick_record.TickRecord.{TickRecord}
 use Rattle.world_journal.specs.Answers.{IsFaultOf}
@@ -154,6 +154,13 @@ module _ (base : Stored) (entries : List TickRecord) (walk : Walk) (seen : Optio
       → IfOk (ok_or found none) (λ world. (base : Stored) × (entries : List TickRecord) × IsCourse base entries × IfSome seen (IsJournal base entries) × IsWorldAt base entries tick world)
   world_answered None none is = tt
   world_answered (Some world) none is = (base, entries, whole.course, whole.journal, is)
+
+  pub world_ticks : (gate len : ℕ) (found : Option Stored) (none : AtFault) → length entries ≤ gate → gate < len → len < 2 ^ 62 → IsWorldFound base entries tick found → IfOk (ok_or found none) (λ world. world.tick < 2 ^ 63)
+  world_ticks gate len None none many place limit is = tt
+  world_ticks gate len (Some world) none many place limit is =
+      let first = whole.course.form.tick in
+      let told : world.tick ≡ base.tick + length (take is.count entries) = ap (λ (w : Stored). w.tick) is.is ∙ tick_after base (take is.count entries) (following_take base entries is.count whole.course.follow) in
+      omega (arith, told, first, length-take-le is.count entries is.within, is.within, many, place, limit)
 
   pub record_answered : (found : Option TickRecord) (none : AtFault) → IsRecordFound base entries tick found
       → IfOk (ok_or found none) (λ entry. (base : Stored) × (entries : List TickRecord) × IsCourse base entries × IfSome seen (IsJournal base entries) × Contains entries entry × (entry.tick ≡ tick))

@@ -1,6 +1,6 @@
 // Ticks of a journal, read from its disk, which is left as it is.
-ghost use Rattle.std.specs.Prelude.{◌≡◌, ◌≢◌, ◌==◌, ℕ, ◌+◌, if◌then◌else◌, List, length, Contains, Some};
-ghost use Rattle.std.specs.Prelude.{IfOk, IfErr, IfSome};
+ghost use Rattle.std.specs.Prelude.{◌≡◌, ◌≢◌, ◌==◌, ℕ, ◌+◌, ◌<◌, ◌^◌, if◌then◌else◌, List, length, Contains};
+ghost use Rattle.std.specs.Prelude.{Some, IfOk, IfErr, IfSome};
 ghost use Rattle.object_store.specs.Stored.{Stored};
 ghost use Rattle.record_follows.specs.Courses.{IsWorldAt};
 ghost use Rattle.tick_journal.specs.declared.tick_record.TickRecord.{TickRecord as Recorded};
@@ -78,6 +78,7 @@ fn world_if(
 pub fn world_at<D: Disk>(alloc: Global, disk: &mut D, tick: u64) -> Result<World, AtFault>
     ensures found { IfOk result (λ world. (base : Stored) × (entries : List Recorded) × IsCourse base entries
         × IfSome (D.seen disk.old) (IsJournal base entries) × IsWorldAt base entries tick world) }
+    ensures tick { IfOk result (λ world. world.tick < 2 ^ 63) }
     ensures fault { IfErr result (IsFaultOf (HasNoWorld tick)
         (D.seen disk.old) (D.faults disk.old) (D.faults disk.new)) }
     ensures steady { IfErr result (λ e. e ≢ DiskFault → D.faults disk.new ≡ D.faults disk.old) }

@@ -11,7 +11,8 @@ use world_io::Disk;
 
 // Reads what stands at the gate at this place of a disk, whose length is the one given, in bytes, or more.
 // Where nothing that is whole stands there, the length is asked for once more: another program may have
-// committed the frame since, as a run does beside a reader. On a disk that nobody else changes it is as it was.
+// committed the frame since, as a run does beside a reader. On a disk that nobody else changes it is as it
+// was.
 pub(crate) fn next_frame<D: Disk>(
     alloc: Global,
     disk: &mut D,

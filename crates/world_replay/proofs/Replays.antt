@@ -2,28 +2,21 @@
 use Rattle.std.proofs.Common.{◌≡◌, ◌≢◌, ℕ, ◌+◌, ◌*◌, ◌^◌, ◌-◌, ◌<◌, ◌≤◌, ◌==◌, true, cond, List, [], ◌∷◌, ◌++◌, length, append_assoc, map, take, Option, Some, None, inl, inr, arith, below_more, refl, sym, ap, subst, ◌∙◌}
 use Rattle.std.specs.Prelude.{slice_get, IfSome}
 use Rattle.std.specs.List.{AllByRecursion, flat_map}
-use Rattle.std.specs.Option.{is_some}
 use Rattle.std.proofs.lemmas.Bool.{cases_Bool, eqb-true}
 use Rattle.std.proofs.lemmas.List.{length-append, length-map, take_all, take_more}
 use Rattle.std.proofs.lemmas.Option.{get_or_from_slice_get, slice_get_within}
-use Rattle.std.proofs.lemmas.List.Elements.{recursion_from_All}
 use Rattle.game_tables.specs.Limits.{most_players}
 use Rattle.object_store.specs.declared.account.Account.{Account}
 use Rattle.object_store.specs.declared.world.Room.{Room}
 use Rattle.room_table.specs.Tables.{Table}
 use Rattle.object_store.specs.Stored.{Stored, AreRising, HasAccount, find_account}
-use Rattle.intent_book.specs.Records.{AreOf, entries_bound}
+use Rattle.intent_book.specs.Records.{entries_bound}
 use Rattle.intent_book.specs.declared.intent.Intent.{Intent}
 use Rattle.world_bytes.specs.Forms.{room_bytes}
-use Rattle.world_rules.specs.Intents.{names_tile}
 use Rattle.world_rules.specs.Tick.{plain_world}
 use Rattle.world_rules.specs.World.{World, world_of}
-use Rattle.room_rules.specs.RoomRules.{is_player}
-use Rattle.ruled_tick.specs.Players.{AreByPlayers}
 use Rattle.world_rules.specs.Sound.{IsSound}
 use Rattle.hosted_tick.specs.Hosting.{IsHosted}
-use Rattle.hosted_tick.proofs.Accounts.{get_account}
-use Rattle.hosted_tick.proofs.Ran.{all_append}
 use Rattle.record_follows.specs.Courses.{world_after}
 use Rattle.record_follows.specs.Follows.{Fits, account_after, after, room_after}
 use Rattle.record_follows.proofs.Placing.{player_stays}
@@ -128,22 +121,6 @@ module _ (before : Stored) (entry : TickRecord) (hosted : IsHosted before) (form
       let most : length before.accounts ≤ most_players = hosted.players in
       omega (arith, runs, each, most)
 
-  abbrev IsListed : Intent → Type 0
-  IsListed intent = names_tile intent.action ≡ true → is_player (world_of before) intent.player ≡ true
-
-  own_listed : (player : ℕ) → HasAccount player before.accounts → (intents : List Intent) → AreOf player intents → AllByRecursion IsListed intents
-  own_listed player has intents own =
-      let listed_here : is_player (world_of before) player ≡ true = ap (λ (found : Option Account). is_some found) (get_account before player ∙ has.1) in
-      recursion_from_All IsListed intents (λ i intent inside tile. subst (λ (n : ℕ). is_player (world_of before) n ≡ true) (sym (own i intent inside)) listed_here)
-
-  runs_listed : (runs : List RunEntry) → AllByRecursion HasRunForm runs → HaveAccounts before.accounts runs → AllByRecursion IsListed (flat_map (λ (run : RunEntry). run.intents) runs)
-  runs_listed [] forms_are have = tt
-  runs_listed (run ∷ runs) forms_are have =
-      all_append IsListed run.intents (flat_map (λ (other : RunEntry). other.intents) runs) (own_listed run.player have.0 run.intents forms_are.0.intents.own) (runs_listed runs forms_are.1 have.1)
-
-  pub wanted_by_players : AreByPlayers (world_of before) (wanted entry)
-  wanted_by_players = runs_listed entry.runs formed.runs fits.runs
-
   pub tick_fits : before.tick < 2 ^ 64 - 1
   tick_fits = let next = fits.tick in let most = formed.tick in omega (arith, next, most)
 
@@ -164,15 +141,9 @@ form_alike one other same = ap room_bytes same
 
 -- what is ruled has the forms that are listed of it
 pub forms_ruled : (before : Stored) (entry : TickRecord) → IsHosted before → HasTickForm entry → Fits before entry → (next : Stored) (list : List Intent) → list ≡ wanted entry
-    → world_of next ≡ plain_world (world_of before) list → (AreByPlayers (world_of before) list → IsSound next) → forms next.rooms ≡ ruled_forms before entry
-forms_ruled before entry hosted formed fits next list same is makes =
-    let sound = makes (subst (AreByPlayers (world_of before)) (sym same) (wanted_by_players before entry hosted formed fits)) in
+    → world_of next ≡ plain_world (world_of before) list → IsSound next → forms next.rooms ≡ ruled_forms before entry
+forms_ruled before entry hosted formed fits next list same is sound =
     sym (forms_as_read next.rooms) ∙ sym (ap (λ (w : Stored). forms w.rooms) (file_listed next sound)) ∙ ap (λ (w : World). forms (listed w).rooms) (is ∙ ap (plain_world (world_of before)) same)
-
--- what is ruled is sound
-pub sound_ruled : (before : Stored) (entry : TickRecord) → IsHosted before → HasTickForm entry → Fits before entry → (next : Stored) (list : List Intent) → list ≡ wanted entry
-    → (AreByPlayers (world_of before) list → IsSound next) → IsSound next
-sound_ruled before entry hosted formed fits next list same makes = makes (subst (AreByPlayers (world_of before)) (sym same) (wanted_by_players before entry hosted formed fits))
 
 -- it has the rooms and the players of the world before
 pub frame_ruled : (before next : Stored) (list : List Intent) → IsSound before → IsSound next → world_of next ≡ plain_world (world_of before) list → HaveSameFrame before next

@@ -21,7 +21,7 @@ use Rattle.world_rules.specs.Loads.{with_more, with_less, handed_over, transferr
 use Rattle.world_rules.specs.Work.{live_work, harvested_by, hits_gained, repair_cost, repaired_by, total_of, work_put, building_on, advanced, built_as, built_by}
 use Rattle.world_rules.specs.Fights.{dismantled_by, salvage, without_hits}
 use Rattle.world_rules.specs.Claims.{claimed_by, claimed_for, controller_aged_as, controller_hurt, hurt_by, reserved_by, ticks_reserved, upgraded_by, work_taken, worked_on}
-use Rattle.world_rules.specs.Sites.{plan_of, removal_checks, site_checks, site_of}
+use Rattle.world_rules.specs.Sites.{making_checks, plan_of, removing_checks, site_of}
 use Rattle.world_rules.specs.Spawns.{begun_with, held_by, hatched_as, hatched_on, newborn, paid, payers, share, spawn_checks, tile_for}
 use Rattle.world_rules.specs.Steps.{by_object, over_objects}
 use Rattle.world_rules.specs.Movement.{Mover, movers, has_mover, stepped, worn_as, moved_by}
@@ -148,8 +148,8 @@ rule_follows ClaimController entry part = follows_parties ClaimController (claim
 rule_follows Upgrade entry part = follows_parties Upgrade upgraded_by upgrade_follows entry part
 rule_follows Reserve entry part = follows_parties Reserve (reserved_by entry.player) (λ creep controller now. follows_object (record controller { other = entry.player; other_ticks = ticks_reserved creep controller }) now) entry part
 rule_follows AttackController entry part = follows_parties AttackController hurt_by (λ creep controller now. follows_object (controller_hurt creep controller) now) entry part
-rule_follows CreateSite entry part = follows_if (all_hold (site_checks (plan_of entry part))) part (with_new (site_of (plan_of entry part)) part) part (follows_new (site_of (plan_of entry part)) part) (follows_self part)
-rule_follows RemoveSite entry part = follows_if (all_hold (removal_checks entry.player (standing_at part entry.actor))) part (without entry.actor part) part (follows_without entry.actor part) (follows_self part)
+rule_follows CreateSite entry part = follows_if (all_hold (making_checks entry part)) part (with_new (site_of (plan_of entry part)) part) part (follows_new (site_of (plan_of entry part)) part) (follows_self part)
+rule_follows RemoveSite entry part = follows_if (all_hold (removing_checks entry part)) part (without entry.actor part) part (follows_without entry.actor part) (follows_self part)
 rule_follows SpawnCreep entry part =
     let around : List Object = values part.objects in
     let after : RoomPart = paid (payers entry.player around) (body_cost entry.body) part in

@@ -1,5 +1,6 @@
 pub mod World
 pub mod RoomParts
+pub mod Sights
 pub mod Changes
 pub mod Steps
 pub mod RuleBook
@@ -25,3 +26,5 @@ pub mod Examples
 pub mod FrameExamples
 pub mod FightExamples
 pub mod ClaimExamples
+pub mod WorkExamples
+pub mod SiteExamples

@@ -1,5 +1,5 @@
 -- What creeps hand over, take and pick up.
-use Rattle.std.specs.Prelude.{ℕ, ◌+◌, ◌-◌, ◌==◌, min, if◌then◌else◌}
+use Rattle.std.specs.Prelude.{ℕ, ◌+◌, ◌-◌, ◌==◌, min, if◌then◌else◌, Option}
 use Rattle.game_tables.specs.declared.action.Action.TheVariants.{Transfer, Withdraw, Pickup}
 use Rattle.room_table.specs.Stores.{free_room}
 use Rattle.room_table.specs.declared.object.Object.{Object}
@@ -21,11 +21,16 @@ abbrev pub handed_over : ℕ → Object → Object → RoomPart → RoomPart
 handed_over amount giver taker part =
     with_object (with_more amount taker) (with_object (with_less amount giver) part)
 
+-- how much goes over, in a room with this controller: what is wanted of what the giver has, as far as the
+-- taker has room for it
+abbrev pub handed : ℕ → Option Object → Object → Object → ℕ
+handed wanted controller giver taker =
+    min (wanted_of wanted giver.energy) (free_room controller taker)
+
 -- A creep hands over what is wanted of its load, as far as the target has room for it.
 abbrev pub transferred_by : ℕ → Object → Object → RoomPart → RoomPart
 transferred_by wanted creep target part =
-    handed_over (min (wanted_of wanted creep.energy) (free_room (controller_of part) target))
-    creep target part
+    handed_over (handed wanted (controller_of part) creep target) creep target part
 
 abbrev pub transferred : Intent → RoomPart → RoomPart
 transferred entry = by_parties Transfer (transferred_by entry.amount) entry
@@ -33,8 +38,7 @@ transferred entry = by_parties Transfer (transferred_by entry.amount) entry
 -- A creep takes what is wanted of a store, as far as it has room for it.
 abbrev pub withdrawn_by : ℕ → Object → Object → RoomPart → RoomPart
 withdrawn_by wanted creep store part =
-    handed_over (min (wanted_of wanted store.energy) (free_room (controller_of part) creep))
-    store creep part
+    handed_over (handed wanted (controller_of part) store creep) store creep part
 
 abbrev pub withdrawn : Intent → RoomPart → RoomPart
 withdrawn entry = by_parties Withdraw (withdrawn_by entry.amount) entry

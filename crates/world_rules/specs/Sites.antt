@@ -24,6 +24,7 @@ use Rattle.world_rules.specs.RoomParts.{RoomPart}
 use Rattle.world_rules.specs.Changes.{with_new, without}
 use Rattle.world_rules.specs.Checks.{Check, all_hold, holds_of, standing_at}
 use Rattle.world_rules.specs.Moves.{is_open_ground}
+use Rattle.world_rules.specs.Sights.{is_visible}
 
 -- ---- what the checks of a new site read
 
@@ -145,12 +146,22 @@ site_of plan id = record {
   body = [];
 }
 
+-- The first check of both: the player of the entry sees the room. For an entry of a creep or a spawn this
+-- follows, since its actor is the player's; a tile is nobody's, and no site makes a room visible.
+abbrev pub sight_check : Intent → RoomPart → Check
+sight_check entry part = (is_visible entry.player part, NotFound)
+
+abbrev pub making_checks : Intent → RoomPart → List Check
+making_checks entry part = sight_check entry part ∷ site_checks (plan_of entry part)
+
+abbrev pub removing_checks : Intent → RoomPart → List Check
+removing_checks entry part =
+    sight_check entry part ∷ removal_checks entry.player (standing_at part entry.actor)
+
 abbrev pub site_made : Intent → RoomPart → RoomPart
 site_made entry part =
-    let plan : Plan = plan_of entry part in
-    if all_hold (site_checks plan) then with_new (site_of plan) part else part
+    if all_hold (making_checks entry part) then with_new (site_of (plan_of entry part)) part else part
 
 abbrev pub site_removed : Intent → RoomPart → RoomPart
 site_removed entry part =
-    if all_hold (removal_checks entry.player (standing_at part entry.actor))
-    then without entry.actor part else part
+    if all_hold (removing_checks entry part) then without entry.actor part else part

@@ -22,11 +22,14 @@ live_work creep = live_count part_kinds.Work creep.hits creep.body
 
 -- ---- harvest
 
--- 2 for each live WORK part leave the source, as far as it has them. The creep takes what it has room for,
--- and the rest falls on its tile.
+-- what leaves the source: 2 for each live WORK part, as far as it has them
+abbrev pub dug : Object → Object → ℕ
+dug creep source = min (2 * live_work creep) source.energy
+
+-- The creep takes what it has room for, and the rest falls on its tile.
 abbrev pub harvested_by : Object → Object → RoomPart → RoomPart
 harvested_by creep source part =
-    let amount : ℕ = min (2 * live_work creep) source.energy in
+    let amount : ℕ = dug creep source in
     let taken : ℕ = min amount (free_room (controller_of part) creep) in
     fallen creep.x creep.y (amount - taken)
     (with_object (with_more taken creep) (with_object (with_less amount source) part))

@@ -132,7 +132,7 @@ module _ (words : List (List ℕ)) (old new : Outside) where
       × ((first : World) × ReadsWorld old.world new.world first
       × IfSome old.disk (HasOther at kept given first))
       × IsUnprinted
-  -- The disk failed: nothing was printed, or the lines of some ticks. Nothing is said of its bytes.
+  -- The disk failed: nothing was printed, or the lines of some ticks. What it holds then is told apart.
   Ends statuses.DiskFault =
       AreRun words × AcceptsWorld × AcceptsUploads × Rose old.disk_faults new.disk_faults
       × ((new.written ≡ old.written) ⊎ Some_made (λ first stream entries steps. Asked steps

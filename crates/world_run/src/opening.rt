@@ -24,7 +24,7 @@ ghost use Rattle.world_io.specs.Moments.{LeavesSince, Rests};
 use crate::kept::Kept;
 use hosted_tick::Hosted;
 use object_store::World;
-use recorded_tick::{Recorder, courses_can_be_hosted};
+use recorded_tick::{Recorder, courses_can_be_hosted, courses_have_accepted_modules};
 use run_lines::start_line;
 use run_status::Status;
 use std::alloc::{AllocError as NoMemory, Global};
@@ -178,6 +178,7 @@ fn restore(alloc: Global, found: Recovered) -> Result<Opening, NoMemory>
         (λ opening. opening.line.items ≡ start_line_of opening.kept.hosted.world) }
 {
     courses_can_be_hosted();
+    courses_have_accepted_modules();
     let Recovered {
         journal,
         base: _,

@@ -290,8 +290,8 @@ fn room_for(alloc: Global, uploads: usize) -> Result<Vec<u8>, NoMemory>
     Vec::with_capacity(alloc, uploads.min(MOST_PIECE / MOST_LINE) * MOST_LINE)
 }
 
-// Makes the tick after a world with its uploads. The recorder, which stood at the world before, is led to the one
-// after.
+// Makes the tick after a world with its uploads. The recorder, which stood at the world before, is led to the
+// one after.
 fn make_tick<'a>(
     alloc: Global,
     hosted: Hosted,

@@ -1,5 +1,5 @@
 -- A room's part along the entries that count, each of which does its harm in its own turn.
-use Rattle.std.specs.Prelude.{◌≡◌, ◌⊎◌, ℕ, ◌*◌, ◌≤◌, ◌==◌, Bool, List, [], ◌∷◌, length, map}
+use Rattle.std.specs.Prelude.{◌≡◌, ◌⊎◌, ℕ, ◌+◌, ◌*◌, ◌≤◌, ◌==◌, Bool, List, [], ◌∷◌, length, map}
 use Rattle.std.specs.List.{AllByRecursion, sum_by}
 use Rattle.room_terrain.specs.declared.terrain.Ground.{Ground}
 use Rattle.room_table.specs.Tables.{Table, IsRising}
@@ -45,6 +45,8 @@ pub record HasCome (grounds : List Ground) (start : Table) (done : List Intent) 
   pub part : table_part grounds table ≡ part_entered (table_part grounds start) done
   pub keeps : KeepsItsRules within grounds table
   pub rising : IsRising table.objects
+  pub used : table.next + table.spare ≡ start.next + start.spare
+  pub after : start.next ≤ table.next
   pub ready : HasRoomFor (length done) later table
   pub summed : HasSumsOf (harms_entered (table_part grounds start) done) table
 

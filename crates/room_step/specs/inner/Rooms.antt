@@ -7,6 +7,7 @@ use Rattle.intent_book.specs.declared.player_run.PlayerRun.{PlayerRun}
 use Rattle.object_store.specs.declared.account.Account.{Account}
 use Rattle.object_store.specs.declared.world.Room.{Room}
 use Rattle.room_table.specs.Tables.{IsOnTile, IsRising}
+use Rattle.room_table.specs.Tallies.{no_tallies}
 use Rattle.world_rules.specs.RoomTick.{room_tick}
 use Rattle.world_rules.specs.Tick.{account_after, book, run_of, total_for}
 use Rattle.room_rules.specs.Followed.{part_stored}
@@ -44,6 +45,7 @@ pub record IsLeft (entries : List Intent) (room left : Room) : Type 0 where
   pub tick : part_stored left ≡ (room_tick book entries (part_stored room)).part
   pub rising : IsRising left.table.objects
   pub tiles : AllByRecursion IsOnTile left.table.objects
+  pub sums : left.table.tallies ≡ no_tallies
   pub memory : most_arrivals ≤ left.table.spare
 
 abbrev pub IsLeftAt : List Intent → Option Room → Option Room → Type 0

@@ -1,8 +1,8 @@
 -- What the entries of a tick make of what is stored.
-use Rattle.std.specs.Prelude.{◌≡◌, ◌≢◌, ℕ, ◌+◌, ◌-◌, ◌*◌, ◌^◌, ◌<◌, ◌≤◌, ◌==◌, ◌&&◌, ◌||◌, min, max, Bool}
+use Rattle.std.specs.Prelude.{◌≡◌, ◌≢◌, ℕ, ◌+◌, ◌-◌, ◌*◌, ◌^◌, ◌<◌, ◌≤◌, ◌==◌, min, max}
 use Rattle.std.specs.Prelude.{List, [], ◌∷◌, ◌++◌, length, map, Option, Some, None, option_map, slice_get}
 use Rattle.std.specs.Prelude.{slice_set, slice_index}
-use Rattle.std.specs.List.{AllByRecursion, count_by, list_any}
+use Rattle.std.specs.List.{count_by}
 use Rattle.std.specs.Option.{option_to_list}
 use Rattle.room_terrain.specs.declared.terrain.Ground.{Ground}
 use Rattle.object_store.specs.declared.account.Account.{Account}
@@ -15,12 +15,11 @@ use Rattle.kept_entries.specs.declared.entries.Entry.{Entry}
 use Rattle.kept_entries.specs.Turns.{placed}
 use Rattle.room_rules.specs.Calls.{AreSumsOf, IsHarmedBy, Keeps}
 use Rattle.room_rules.specs.Followed.{FollowRooms}
-use Rattle.room_rules.specs.RoomRules.{IsOfPlayer, is_player}
+use Rattle.room_rules.specs.RoomRules.{is_player}
 use Rattle.room_rules.specs.Within.{within}
 use Rattle.world_rules.specs.World.{World, world_of}
 use Rattle.world_rules.specs.RoomParts.{RoomPart, table_part, in_room, part_at}
 use Rattle.world_rules.specs.RuleBook.{Harm}
-use Rattle.world_rules.specs.Intents.{names_tile}
 use Rattle.world_rules.specs.Tick.{Gain, book, harms_in, points_of, sums_of}
 use Rattle.world_rules.specs.Sound.{serials_bound}
 
@@ -148,23 +147,10 @@ pub record HasSumsOf (harms : List Harm) (table : Table) : Type 0 where
   pub fresh_healing : (serial : ℕ) → table.next ≤ serial → serial < 2 ^ 32
       → (sums_of harms).healing (table.index * 2 ^ 32 + serial) ≡ 0
 
--- Each entry for a site is of a player who has an account.
-abbrev pub AreOfPlayers : World → List Entry → Type 0
-AreOfPlayers world entries =
-    AllByRecursion (λ entry. IsOfPlayer (is_player world) entry.intent) entries
-
--- The player has an account, or an entry for a site is his.
-abbrev pub takes_part : World → List Entry → ℕ → Bool
-takes_part world entries player =
-    is_player world player
-    || list_any (λ entry. names_tile entry.intent.action && (entry.intent.player == player)) entries
-
--- These entries of a tick of a sound world were ruled so far, and those are still to come; these are the
--- players.
-pub record IsActed (stored : Stored) (players : ℕ → Bool) (done later : List Entry)
-    (rooms : List Room) : Type 0 where
+-- These entries of a tick of a sound world were ruled so far, and those are still to come.
+pub record IsActed (stored : Stored) (done later : List Entry) (rooms : List Room) : Type 0 where
   pub many : length rooms ≡ length stored.rooms
-  pub follow : FollowRooms players within stored (record stored { rooms = rooms })
+  pub follow : FollowRooms (is_player (world_of stored)) within stored (record stored { rooms = rooms })
   pub ready : (index : ℕ) (room : Room) → slice_get rooms index ≡ Some room
       → HasRoomFor (length done) (many_in index later) room.table
   pub summed : (index : ℕ) (room : Room) → slice_get rooms index ≡ Some room

@@ -8,6 +8,7 @@ use Rattle.room_terrain.specs.declared.terrain.Ground.{Ground}
 use Rattle.object_store.specs.declared.account.Account.{Account}
 use Rattle.object_store.specs.declared.world.Room.{Room}
 use Rattle.room_table.specs.Tables.{Table, IsRising, IsOnTile, HasNoId}
+use Rattle.room_table.specs.Tallies.{no_tallies}
 use Rattle.object_store.specs.Stored.{Stored}
 use Rattle.intent_book.specs.declared.intent.Intent.{Intent}
 use Rattle.kept_entries.specs.declared.entries.Entry.{Entry}
@@ -22,7 +23,7 @@ use Rattle.world_rules.specs.Tick.{account_raised, book, inner}
 use Rattle.world_rules.specs.Sound.{IsSound}
 use Rattle.room_rules.specs.Calls.{AreSumsOf, IsMovable}
 use Rattle.exit_crossing.specs.declared.leaving.Crosser.{Crosser}
-use Rattle.exit_crossing.specs.Crossing.{AreCrossers, IsReadyToCross, most_arrivals}
+use Rattle.exit_crossing.specs.Crossing.{AreCrossers, AreForgotten, IsReadyToCross, most_arrivals}
 
 -- ---- moves
 
@@ -56,14 +57,19 @@ pub record HasMemory (many : ℕ) (old new : Table) : Type 0 where
   pub serials : old.next + many ≤ 2 ^ 32 - 1
   pub same : new ≡ record old { spare = max old.spare many }
 
--- A table of a room with these grounds after movement and upkeep.
+-- A table of a room with these grounds after movement and upkeep. Nothing is told any more of what was done
+-- to its objects. It has memory for the creeps that may come, and no more than it had or than twice the
+-- objects that stood and were made, and those creeps, may need.
 pub record IsTickedTable (moves : List Intent) (grounds : List Ground) (old new : Table) : Type 0 where
   pub index : new.index ≡ old.index
   pub part : (sums : Sums) → AreSumsOf sums old
       → table_part grounds new ≡ ticked_part moves sums (table_part grounds old)
   pub rising : IsRising new.objects
   pub tiles : AllByRecursion IsOnTile new.objects
+  pub sums : new.tallies ≡ no_tallies
+  pub later : old.next ≤ new.next
   pub spare : most_arrivals ≤ new.spare
+  pub most : new.spare ≤ max old.spare (2 * (length old.objects + (new.next - old.next)) + most_arrivals)
 
 -- A room after movement and upkeep.
 pub record IsTicked (moves : List Intent) (room later : Room) : Type 0 where
@@ -89,15 +95,16 @@ raised_by gain account = account_raised (gain account.player) account
 abbrev pub AreInPlace : List Room → Type 0
 AreInPlace rooms = (index : ℕ) (room : Room) → slice_get rooms index ≡ Some room → room.table.index ≡ index
 
--- Without accounts, it is a tick of the rooms up to crossings, and with these to cross it is the tick by any
--- entries of which the first holds. The world is sound where the second does.
-pub record IsRuledRooms (stored : Stored) (Tells : List Intent → Type 0) (Proper : Type 0) (later : Stored)
+-- Without accounts, it is a tick of the rooms of a sound world up to crossings, and with these to cross it is
+-- the tick by any entries of which this holds. The world is sound again.
+pub record IsRuledRooms (stored : Stored) (Tells : List Intent → Type 0) (later : Stored)
     (list : List Crosser) : Type 0 where
   pub rested : Stored
   pub tick : rested.tick ≡ stored.tick
   pub accounts : rested.accounts ≡ stored.accounts
   pub rooms : length rested.rooms ≡ length stored.rooms
-  pub sound : Proper → IsSound rested
+  pub sound : IsSound rested
+  pub forgotten : AreForgotten rested.rooms
   pub ready : IsReadyToCross rested.rooms
   pub crossers : AreCrossers rested.rooms list
   pub same : (intents : List Intent) → Tells intents

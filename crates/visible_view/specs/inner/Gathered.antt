@@ -9,7 +9,8 @@ use Rattle.room_table.specs.declared.standing.Standing.{Standing}
 use Rattle.object_store.specs.declared.world.Room.{Room}
 use Rattle.game_tables.specs.Kinds.{is_controller, is_site}
 use Rattle.world_rules.specs.World.{Placed}
-use Rattle.visible_view.specs.Sights.{SeenRoom, gives_sight}
+use Rattle.world_rules.specs.Sights.{gives_sight}
+use Rattle.visible_view.specs.Sights.{SeenRoom}
 use Rattle.visible_view.specs.declared.gather.RoomInView.{RoomInView}
 use Rattle.visible_view.specs.declared.gather.Gathered.{Gathered}
 use Rattle.room_table.proofs.Rising.{Rises}

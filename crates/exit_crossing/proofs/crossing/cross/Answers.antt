@@ -1,5 +1,5 @@
 use Rattle.std.proofs.Common.{◌+◌, drop, get_or, subst}
-use Rattle.exit_crossing.proofs.Underway.{Underway, starts, can_cross, next, ends, left_one, left_none}
+use Rattle.exit_crossing.proofs.Underway.{Underway, starts, can_cross, next, ends, left_one, left_none, still_forgotten}
 use Rattle.exit_crossing.proofs.Sound.{sound_then}
 use Rattle.exit_crossing.proofs.crossing.cross.Goals as goal
 
@@ -33,3 +33,6 @@ returns-clause-frames c = c.loop-crosser.invariant.frames
 
 pub returns-clause-sound : goal.returns-clause-sound
 returns-clause-sound c sound = sound_then c.args.world.now c.loop-crosser.world c.loop-crosser.invariant.chain sound
+
+pub returns-clause-forgotten : goal.returns-clause-forgotten
+returns-clause-forgotten c forgotten = still_forgotten c.args.world.now.rooms c.loop-crosser.world.rooms c.loop-crosser.invariant.frames.rooms forgotten

@@ -7,14 +7,14 @@ use Rattle.ruled_tick.specs.inner.Ticked.{IsTickedTable}
 use Rattle.world_rules.specs.RoomParts.{RoomPart, table_part}
 use Rattle.room_step.specs.inner.Course.{HasCome, HasGained, intents_in, is_move, points_entered}
 use Rattle.room_step.proofs.Coming.{all_entries, come_first, ready_to_tick}
-use Rattle.room_step.proofs.Stepped.{keeps_then, moves_once, players_in_turn, stepped}
+use Rattle.room_step.proofs.Stepped.{keeps_then, memory_left, moves_once, players_in_turn, stepped}
 use Rattle.room_step.proofs.step.step_entries.Goals as goal
 
 pub enter_all-gained-requires-clause-start : goal.enter_all-gained-requires-clause-start
 enter_all-gained-requires-clause-start c =
     let old : Table = c.args.table in
     let rising : IsRising old.objects = c.stands_in_order.ensures.rising in
-    subst (λ (t : Table). HasCome c.args.ground.now t [] (length c.args.entries.now) t) (sym c.in_ok-widen.ensures)
+    subst (λ (t : Table). HasCome c.args.ground.now t [] (length c.args.entries.now) t) (sym c.in_ok-widen.ensures.widened)
     (come_first c.args.ground.now old (length c.args.entries.now) c.requires.rules rising c.requires.serials)
 
 pub enter_all-gained-requires-clause-players : goal.enter_all-gained-requires-clause-players
@@ -39,11 +39,11 @@ returns-clause-stepped c = λ list kept.
     let old : Table = c.args.table in
     let entries : List Intent = intents_in c.args.entries.now in
     let start : Table = c.widen.new.table in
-    let same : table_part grounds start ≡ table_part grounds old = ap (table_part grounds) c.in_ok-widen.ensures in
-    let ticked : IsTickedTable (filter is_move entries) grounds c.enter_all-gained.new.table c.tick_table.new.table =
-    subst (λ (moves : List Intent). IsTickedTable moves grounds c.enter_all-gained.new.table c.tick_table.new.table) (c.as_slice.ensures ∙ c.in_ok-moves.ensures) c.in_ok-tick_table.ensures in
+    let same : table_part grounds start ≡ table_part grounds old = ap (table_part grounds) c.in_ok-widen.ensures.widened in
+    let ticked : IsTickedTable (filter is_move entries) grounds c.enter_all-gained.new.table c.in_ok-table.table =
+    subst (λ (moves : List Intent). IsTickedTable moves grounds c.enter_all-gained.new.table c.in_ok-table.table) (c.as_slice.ensures ∙ c.in_ok-moves.ensures) c.in_ok-table.ensures in
     let gained = subst (λ (part : RoomPart). HasGained (points_entered part entries) c.enter_all-gained.result.player c.enter_all-gained.result.points) same c.enter_all-gained.ensures.gained in
-    stepped grounds old list entries kept c.requires.rules start c.enter_all-gained.new.table c.tick_table.new.table same c.enter_all-gained.ensures.come ticked
+    stepped grounds old list entries kept c.requires.rules start c.enter_all-gained.new.table c.in_ok-table.table same c.enter_all-gained.ensures.come ticked
     (record { room = c.crossers.new.room; crossers = c.in_ok-list.list.items; player = c.enter_all-gained.result.player; points = c.enter_all-gained.result.points })
     c.in_ok-list.ensures.rested c.in_ok-list.ensures.list gained
 
@@ -53,8 +53,15 @@ returns-clause-rules c =
     let old : Table = c.args.table in
     let entries : List Intent = intents_in c.args.entries.now in
     let start : Table = c.widen.new.table in
-    let same : table_part grounds start ≡ table_part grounds old = ap (table_part grounds) c.in_ok-widen.ensures in
-    let ticked : IsTickedTable (filter is_move entries) grounds c.enter_all-gained.new.table c.tick_table.new.table =
-    subst (λ (moves : List Intent). IsTickedTable moves grounds c.enter_all-gained.new.table c.tick_table.new.table) (c.as_slice.ensures ∙ c.in_ok-moves.ensures) c.in_ok-tick_table.ensures in
+    let same : table_part grounds start ≡ table_part grounds old = ap (table_part grounds) c.in_ok-widen.ensures.widened in
+    let ticked : IsTickedTable (filter is_move entries) grounds c.enter_all-gained.new.table c.in_ok-table.table =
+    subst (λ (moves : List Intent). IsTickedTable moves grounds c.enter_all-gained.new.table c.in_ok-table.table) (c.as_slice.ensures ∙ c.in_ok-moves.ensures) c.in_ok-table.ensures in
     let kept = c.requires.kept in
-    keeps_then grounds old kept.0 entries kept.1 c.requires.rules start c.enter_all-gained.new.table c.tick_table.new.table same c.enter_all-gained.ensures.come ticked c.crossers.new.room c.in_ok-list.ensures.rested
+    keeps_then grounds old kept.0 entries kept.1 c.requires.rules start c.enter_all-gained.new.table c.in_ok-table.table same c.enter_all-gained.ensures.come ticked c.crossers.new.room c.in_ok-list.ensures.rested
+
+pub returns-clause-memory : goal.returns-clause-memory
+returns-clause-memory c =
+    let grounds = c.args.ground.now in
+    let entries : List Intent = intents_in c.args.entries.now in
+    memory_left grounds c.args.table c.widen.new.table c.enter_all-gained.new.table c.in_ok-table.table c.crossers.new.room entries c.as_slice.result.now (length c.args.entries.now)
+    c.in_ok-widen.ensures.widened c.enter_all-gained.ensures.come c.in_ok-table.ensures c.in_ok-list.ensures.rested

@@ -5,8 +5,6 @@ use Rattle.std.proofs.lemmas.Result.{IfOk-weaker}
 use Rattle.object_store.specs.Stored.{Stored}
 use Rattle.world_rules.specs.World.{world_of}
 use Rattle.world_rules.specs.Tick.{plain_world}
-use Rattle.world_rules.specs.Sound.{IsSound}
-use Rattle.ruled_tick.specs.Players.{AreByPlayers}
 use Rattle.ruled_tick.proofs.Few.{kept_few}
 use Rattle.ruled_tick.proofs.Next.{copy_ticks, TicksWith}
 use Rattle.ruled_tick.proofs.tick.tick_plain.Goals as goal
@@ -27,14 +25,3 @@ pub tick_taken-requires-clause-kept : goal.tick_taken-requires-clause-kept
 tick_taken-requires-clause-kept c =
     let intents : List Intent = c.args.intents.now in
     (intents, subst (λ (w : Stored). AreKept (world_of w) intents c.deref.result.now) (sym c.in_ok-copy.ensures) (subst (AreKept (world_of c.args.world.now) intents) (sym c.deref.ensures.value) c.in_ok-entries.ensures))
-
-pub returns-clause-sound : goal.returns-clause-sound
-returns-clause-sound c =
-    let world = c.args.world.now in
-    let intents : List Intent = c.args.intents.now in
-    let copied = c.in_ok-copy.field-0 in
-    let entries = c.deref.result.now in
-    let kept = subst (λ (w : Stored). AreKept (world_of w) intents entries) (sym c.in_ok-copy.ensures) (subst (AreKept (world_of world) intents) (sym c.deref.ensures.value) c.in_ok-entries.ensures) in
-    IfOk-weaker c.tick_taken.result (λ (next : Stored). (list : List Intent) → AreKept (world_of copied) list entries → AreByPlayers (world_of copied) list → IsSound next) (λ (next : Stored). AreByPlayers (world_of world) intents → IsSound next)
-    (λ next is by. is intents kept (subst (λ (w : Stored). AreByPlayers (world_of w) intents) (sym c.in_ok-copy.ensures) by))
-    c.tick_taken.ensures.sound

@@ -2,7 +2,7 @@ use Rattle.std.proofs.Common.{◌+◌, ◌-◌, ◌^◌, ◌<◌, ◌≤◌, sym
 use Rattle.room_table.specs.declared.object.Object.{Object}
 use Rattle.room_table.specs.Tables.{IsOnTile, with_new}
 use Rattle.world_rules.specs.RoomParts.{table_part}
-use Rattle.world_rules.specs.Sites.{plan_of, site_of}
+use Rattle.world_rules.specs.Sites.{plan_of}
 use Rattle.world_rules.proofs.TableParts.{tiles_new}
 use Rattle.room_rules.specs.Calls.{Keeps}
 use Rattle.spawn_rules.proofs.Sited.{site_added, site_tile}

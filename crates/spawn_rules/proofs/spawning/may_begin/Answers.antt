@@ -1,4 +1,4 @@
-use Rattle.std.proofs.Common.{◌-◌, min, Some, subst, sym, ◌∙◌}
+use Rattle.std.proofs.Common.{min, Some, subst, sym, ◌∙◌}
 use Rattle.room_table.specs.Tables.{IsRising}
 use Rattle.world_rules.specs.Checks.{all_hold}
 use Rattle.world_rules.specs.Spawns.{held_by, spawn_checks}

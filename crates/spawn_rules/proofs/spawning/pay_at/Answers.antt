@@ -1,4 +1,4 @@
-use Rattle.std.proofs.Common.{ℕ, ◌-◌, true, false, option_copied, refl, sym, ap, ◌∙◌}
+use Rattle.std.proofs.Common.{ℕ, ◌-◌, option_copied, refl, sym, ap, ◌∙◌}
 use Rattle.room_table.specs.Tables.{IsOnTile, with_object}
 use Rattle.upkeep_rules.proofs.Passing.{all_read, found_there}
 use Rattle.spawn_rules.proofs.Paid.{paid_other, paid_share}

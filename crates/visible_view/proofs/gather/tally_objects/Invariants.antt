@@ -1,6 +1,6 @@
 use Rattle.std.proofs.Common.{◌≡◌, ◌≤◌, ◌++◌, length, map}
 use Rattle.std.specs.List.{count_by, list_any}
-use Rattle.visible_view.specs.Sights.{gives_sight}
+use Rattle.world_rules.specs.Sights.{gives_sight}
 use Rattle.visible_view.specs.inner.Gathered.{is_controller_of, is_site_of}
 use Rattle.visible_view.proofs.gather.tally_objects.Given as goal
 

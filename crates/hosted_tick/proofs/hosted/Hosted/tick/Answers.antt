@@ -6,10 +6,8 @@ use Rattle.intent_book.specs.declared.player_run.PlayerRun.{PlayerRun}
 use Rattle.kept_entries.specs.Split.{AreSplit}
 use Rattle.world_rules.specs.Tick.{book, gained, intents_of, next_world}
 use Rattle.world_rules.specs.World.{world_of}
-use Rattle.ruled_tick.specs.Players.{AreByPlayers}
-use Rattle.hosted_tick.specs.Hosting.{Held, IsHosted, modules_of}
+use Rattle.hosted_tick.specs.Hosting.{Held, IsHosted}
 use Rattle.hosted_tick.proofs.After.{hosted_after, next_of}
-use Rattle.hosted_tick.proofs.Players.{wanted_by_players}
 use Rattle.hosted_tick.proofs.hosted.Hosted.tick.Goals as goal
 
 pub next_world-requires-clause-few : goal.next_world-requires-clause-few
@@ -36,7 +34,5 @@ returns-clause-hosted c =
     let runs = c.deref-2.result.now in
     let hosted = subst (λ (h : Held). IsHosted h.world) (sym c.self.view_is) c.requires.hosted in
     let short = subst (AllByRecursion (λ (run : PlayerRun). length run.memory ≤ most_memory)) (sym c.deref-2.ensures.value) c.in_ok-runs.ensures.short in
-    let by = subst (λ (r : List PlayerRun). AreByPlayers (world_of world) (intents_of r)) (sym c.deref-2.ensures.value)
-    (wanted_by_players world (modules_of c.judge_all.new.modules.entries) c.in_ok-runs.field-0.runs.items hosted.sound.accounts c.in_ok-runs.ensures.runs) in
     let ensured = c.in_ok-after.ensures in
-    hosted_after world c.in_ok-after.after (gained book (world_of world) (intents_of runs)) runs hosted short (ensured.sound by) ensured.rooms ensured.accounts
+    hosted_after world c.in_ok-after.after (gained book (world_of world) (intents_of runs)) runs hosted short ensured.sound ensured.rooms ensured.accounts
