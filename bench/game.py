@@ -266,6 +266,11 @@ FURTHER = {
 # ---- the checks of what no creep does, each whether it holds and the code where it doesn't
 
 
+def sees(player, objects):
+    """Whether a player sees the room in which these objects stand: by a creep, a building or a controller of his."""
+    return any(one["owner"] == player and one["kind"] in ("creep", "controller", *BUILDINGS) for one in objects)
+
+
 def of_site(player, number, x, y, place, recorded=0, sites=0):
     """The checks of a new site for the kind of a number on a tile of a room. So many of that kind are recorded for other tiles of the room, and
     so many sites the player has in the world, with all that are recorded for other tiles."""
@@ -496,14 +501,15 @@ class Course:
         """A site is made, where its checks hold in the room alone: whether it was."""
         index, tile = divmod(tile, 2500)
         y, x = divmod(tile, 50)
-        if first_failing(of_site(player, number, x, y, self.rooms[index])):
+        place = self.rooms[index]
+        if not sees(player, place["objects"]) or first_failing(of_site(player, number, x, y, place)):
             return False
         self.make(index, "site", x, y, owner=player, extra=number)
         return True
 
     def do_remove_site(self, player, id, *_):
         index, site = self.found.get(id, (None, None))
-        if first_failing(of_removal(player, site)):
+        if first_failing(of_removal(player, site)) or not sees(player, self.rooms[index]["objects"]):
             return False
         self.remove(index, site)
         return True

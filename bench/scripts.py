@@ -6,7 +6,6 @@ The answers of the host's calls stand here by a writing of the table in docs/pla
 import struct
 
 from game import (
-    BUILDINGS,
     FULL,
     GLOBAL_LEVEL_NOT_ENOUGH,
     INVALID,
@@ -24,6 +23,7 @@ from game import (
     part_hits,
     place_of,
     refusal,
+    sees,
 )
 from modules import HOST_CALLS, I32, leb, player_module, signed_leb
 from worlds import UNIT, Run, account_of, allowance, objects_of, part_bytes
@@ -41,10 +41,6 @@ def signed(value, bits):
 # ---- what a player sees
 
 
-def gives_sight(one, player):
-    return one["owner"] == player and (one["kind"] in ("creep", "controller") or one["kind"] in BUILDINGS)
-
-
 def body_in(memory, at, length):
     """The parts in a span of a memory, where each byte is the number of one. None where one isn't, or the span passes the end, or has too many."""
     found = memory[at : at + length]
@@ -59,7 +55,7 @@ class Desk:
     def __init__(self, world, player):
         self.world, self.account = world, account_of(world, player)
         self.player = player
-        self.rooms = [index for index, room in enumerate(world["rooms"]) if any(gives_sight(one, player) for one in room["objects"])]
+        self.rooms = [index for index, room in enumerate(world["rooms"]) if sees(player, room["objects"])]
         self.objects = sorted(((index, one) for index in self.rooms for one in world["rooms"][index]["objects"]), key=lambda seen: seen[1]["id"])
         self.places = {one["id"]: place for place, (_, one) in enumerate(self.objects)}
         self.text = bytes.fromhex(self.account["memory"])

@@ -25,9 +25,9 @@ import tempfile
 TOP = os.path.dirname(os.path.dirname(os.path.abspath(__file__)))
 sys.path.insert(0, os.path.join(TOP, "bench"))
 from compared_runs import ACTION_NAMES, journal_faults, world_faults  # noqa: E402
-from game import ACTIONS, BUILDINGS, DIRECTIONS, FULL, NOT_ENOUGH, STORES, capacity, distance, hits_max, live, place_of, thing  # noqa: E402
+from game import ACTIONS, BUILDINGS, DIRECTIONS, FULL, NOT_ENOUGH, STORES, capacity, distance, hits_max, live, place_of, sees, thing  # noqa: E402
 from movement import beyond, obstructed, pace  # noqa: E402
-from scripts import Desk, gives_sight  # noqa: E402
+from scripts import Desk  # noqa: E402
 from worlds import Run, Step, allowance, full, grounds, journal_of, objects_of, output_of, ticked, ticks_in  # noqa: E402
 
 PLAYERS = os.path.join(TOP, "players")
@@ -377,7 +377,7 @@ def check_actions(text):
 def check_powers(text):
     """The sentences that say how much a part does, and how long a building lasts."""
     work, kinds = text_of("crates/world_rules/specs/Work.antt"), text_of("crates/game_tables/specs/Kinds.antt")
-    harvested, mended, worked = (re.search(rf"{name}.*?(\d+) \* live_work creep", work, re.S)[1] for name in ("harvested_by creep", "hits_gained creep", "work_put kind creep"))
+    harvested, mended, worked = (re.search(rf"{name}.*?(\d+) \* live_work creep", work, re.S)[1] for name in ("dug creep", "hits_gained creep", "work_put kind creep"))
     timers = {name: int(ticks) for *name, ticks in re.findall(r"^full_timer (\w+) (\w+) = (\d+)$", kinds, re.M) for name in [" ".join(name)]}
     sentences = [
         f"**harvest**: {harvested} for each work part leave the source",
@@ -861,7 +861,7 @@ def check_harvester(name, module):
 def leads_to_wall(world, place, tile, player):
     """The tile beyond a border tile is a wall of a room that the player sees."""
     name, (x, y) = beyond(place["name"], tile)
-    others = [it for it in world["rooms"] if place_of(it["name"]) == name and any(gives_sight(one, player) for one in it["objects"])]
+    others = [it for it in world["rooms"] if place_of(it["name"]) == name and sees(player, it["objects"])]
     return any(it["terrain"][50 * y + x] == "1" for it in others)
 
 

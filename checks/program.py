@@ -26,6 +26,7 @@ from worlds import CLOSED, MIB, OPEN, SMALL, Run, Step, base_content, bytes_of, 
 
 FULL = "/dev/full"
 MOST_NEXT = 2**32 - 2**20
+ROAD = KINDS.index("road") + 1
 
 checks = Checks(__file__)
 check, note = checks.check, checks.note
@@ -342,17 +343,22 @@ def check_shows():
 REPLAY = ["replay", "journal.bin"]
 
 
+def differing(index, kept_world, ruled_world):
+    """The fault line of a replay that finds the one world where the rules make the other, which differ in this room first."""
+    kept, ruled = (room_bytes(index, it["rooms"][index]) for it in (kept_world, ruled_world))
+    place = next(n for n in range(max(len(kept), len(ruled)) + 1) if kept[n : n + 1] != ruled[n : n + 1])
+    one, other = (str(form[place]) if place < len(form) else "none" for form in (kept, ruled))
+    return refused(14, f"Differs {kept_world['tick']} {index} {place} {one} {other}")
+
+
 def other_tick(first, count, at, change):
     """The journal of some ticks of a world, of which one, counted from 0, has another world after it; with the fault line that a replay has to end with."""
     steps = played(first, count)
     world_after = copy.deepcopy(steps[at].world)
     index = change(world_after)
-    kept, ruled = (room_bytes(index, it["rooms"][index]) for it in (world_after, steps[at].world))
-    place = next(n for n in range(max(len(kept), len(ruled)) + 1) if kept[n : n + 1] != ruled[n : n + 1])
-    one, other = (str(form[place]) if place < len(form) else "none" for form in (kept, ruled))
+    fault = differing(index, world_after, steps[at].world)
     steps[at] = Step([], [], world_after)
-    kept_journal = journal_of(first, [*steps[: at + 1], *played(world_after, count - at - 1)])
-    return kept_journal, refused(14, f"Differs {world_after['tick']} {index} {place} {one} {other}")
+    return journal_of(first, [*steps[: at + 1], *played(world_after, count - at - 1)]), fault
 
 
 def richer(index, key, more):
@@ -367,11 +373,61 @@ def richer(index, key, more):
 
 
 def crowded(count):
-    """A world in which a player has so many sites, and the journal of a tick in which he makes one more, whether he may or not."""
-    sites = [thing("site", at + 1, 1 + at % 48, 1 + at // 48, owner=1, extra=KINDS.index("road") + 1) for at in range(count)]
-    first = world(room("E0S0", count + 1, *sites), players=[{"player": 1, "limit": 20}])
-    runs = [Run(1, "finished", 0, b"", {("create_site", 50 * 20 + 20): (0, KINDS.index("road") + 1)})]
+    """A world in which a player has a creep and so many sites, and the journal of a tick in which he makes one more, whether he may or not."""
+    sites = [thing("site", at + 1, 1 + at % 48, 1 + at // 48, owner=1, extra=ROAD) for at in range(count)]
+    creep = thing("creep", count + 1, 30, 30, owner=1, body=["move"], timer=1500)
+    first = world(room("E0S0", count + 2, *sites, creep), players=[{"player": 1, "limit": 20}])
+    runs = [Run(1, "finished", 0, b"", {("create_site", 50 * 20 + 20): (0, ROAD)})]
     return first, journal_of(first, [Step([], runs, ticked(full(first), runs))])
+
+
+def with_site(it):
+    """A world with a new site of player 1 in its second room, as an entry of his would make it."""
+    it = copy.deepcopy(it)
+    place = it["rooms"][1]
+    place["objects"].append(full(world(room("E0S0", 2, thing("site", SECOND + place["next"], 20, 20, owner=1, extra=ROAD))))["rooms"][0]["objects"][0])
+    place["next"] += 1
+    return it
+
+
+def without_site(it):
+    """A world without the site of player 1 in its second room."""
+    it = copy.deepcopy(it)
+    it["rooms"][1]["objects"] = [one for one in it["rooms"][1]["objects"] if one["id"] != SECOND + 2]
+    return it
+
+
+SEEN_BY = {
+    "nothing": (),
+    "a site": (thing("site", SECOND + 3, 7, 7, owner=1, extra=8),),
+    "a reservation": (thing("controller", SECOND + 3, 7, 7, other=1, other_ticks=9),),
+    "a creep": (thing("creep", SECOND + 3, 7, 7, owner=1, body=["move"], timer=1500),),
+    "an extension": (thing("extension", SECOND + 3, 7, 7, owner=1),),
+    "a controller": (thing("controller", SECOND + 3, 7, 7, owner=1, extra=1, timer=20000),),
+}
+
+
+def check_sights():
+    """Entries that make and remove a site of a player in a room that he sees, and in one in which he has nothing by which he does: journals by hand, in which the room is
+    as the rules leave it, or as the others would."""
+    making, removing = {("create_site", 2500 + 50 * 20 + 20): (0, ROAD)}, {("remove_site", SECOND + 2): (0, 0)}
+    for name, owned in SEEN_BY.items():
+        may = name in ("a creep", "an extension", "a controller")
+        others = thing("creep", SECOND + 1, 5, 5, owner=2, body=["move"], timer=1500)
+        players = [{"player": 1, "limit": 20}, {"player": 2, "limit": 20}]
+        first = world(
+            room("E0S0", 2, thing("creep", 1, 5, 5, owner=1, body=["move"], timer=1500)),
+            room("E1S0", 4, others, thing("site", SECOND + 2, 9, 9, owner=1, extra=ROAD), *owned),
+            players=players,
+        )
+        for what, entries, change in (("makes", making, with_site), ("removes", removing, without_site)):
+            runs = [Run(1, "finished", 0, b"", entries)]
+            still = ticked(full(first), [Run(1, "finished", 0, b"")])
+            ruled, other = (change(still), still) if may else (still, change(still))
+            assert ticked(full(first), runs) == ruled, (name, what)
+            kept, differs = (journal_of(first, [Step([], runs, it)]) for it in (ruled, other))
+            check(f"the replay of a tick in which an entry {what} a site, or doesn't, in a room in which its player has {name}", REPLAY, {"journal.bin": kept}, 0, out=b"replayed 1\n")
+            check(f"the replay of the other world, where an entry {what} a site and its player has {name}", REPLAY, {"journal.bin": differs}, 14, err=differing(1, other, ruled))
 
 
 def check_replays():
@@ -389,6 +445,7 @@ def check_replays():
         first, kept = crowded(count)
         ending = {"status": 0, "out": b"replayed 1\n"} if count < MOST_SITES else {"status": 8, "err": refused(8, f"NotAJournal {len(journal_of(first, [])) - 1}")}
         check(f"the replay of a tick in which a player of {count} sites makes one more", REPLAY, {"journal.bin": kept}, **ending)
+    check_sights()
     past = world(room("E0S0", MOST_NEXT, thing("pile", 1, 5, 5, energy=9000)), room("E1S0", MOST_NEXT + 1, thing("pile", SECOND + 1, 5, 5, energy=9000)))
     check("the replay of a tick that no room could rule", REPLAY, {"journal.bin": journal_of(past, played(past, 1))}, 10, err=refused(10, "IdsExhausted 1"))
     check("the replay of no tick of such a world", REPLAY, {"journal.bin": journal_of(past, [])}, 0, out=b"replayed 0\n")
