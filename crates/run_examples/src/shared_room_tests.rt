@@ -1,5 +1,5 @@
-// Players who run one after the other in one room.
-ghost use Rattle.std.specs.Prelude.{◌≡◌, ◌≤◌, length, Some, IfOk, IsTrue};
+// Players who run one after the other in one room, and those whom workers run.
+ghost use Rattle.std.specs.Prelude.{◌≡◌, ◌<◌, ◌≤◌, length, Some, IfOk, IsTrue};
 ghost use Rattle.game_tables.specs.Limits.{most_memory, most_rooms};
 ghost use Rattle.object_store.specs.declared.account.Account.{Account};
 ghost use Rattle.object_store.specs.Stored.{HasAccount, find_account};
@@ -10,12 +10,15 @@ use crate::worlds::{room, world_in};
 use host_calls::Desk;
 use intent_book::{Intents, PlayerRun, RunOutcome};
 use object_store::{Bytes, World};
+use player_jobs::{PlayerModule, runs_by_workers};
 use player_run::{Linked, RunRoom, admit, run_player_among, run_player_in};
 use std::alloc::{AllocError, Global};
 use std::process::Abort;
 use std::test::Fail;
+use std::thread::Threads;
 use visible_view::View;
 use wasm_machine::{Instance, Outcome};
+use world_io::OpenGate;
 use world_roster::Roster;
 
 // Fills its memory with bytes of 255, wants four things of each of 1,024 creeps, makes the whole memory its
@@ -326,4 +329,63 @@ fn two_player_world(alloc: Global) -> Result<World, Fail>
 fn a_run_is_the_same_in_the_room_of_another(rt: HostRuntime) -> Result<(), Fail> {
     let world = two_player_world(rt.alloc())?;
     assert_modules_are_alike(&rt, rt.alloc(), &world)
+}
+
+// The runs of both players among the players, by so many workers.
+fn runs_by<R: Threads + Sync>(
+    rt: &R,
+    alloc: Global,
+    world: &World,
+    many: &Linked,
+    few: &Linked,
+    workers: u32,
+) -> Result<Vec<PlayerRun>, Fail>
+    requires sound { IsSound world.now }
+    requires some { (0 < workers) × (workers ≤ 16) }
+{
+    if !can_run(world, 1) || !can_run(world, 2) {
+        return Err("not the world of the file".into());
+    }
+    let roster = Roster::of(alloc, world)?;
+    let players = [
+        PlayerModule {
+            player: 1,
+            linked: many,
+        },
+        PlayerModule {
+            player: 2,
+            linked: few,
+        },
+    ];
+    Ok(runs_by_workers(rt, alloc, world, &roster, &players, &OpenGate, workers)?)
+}
+
+// Links the modules, and runs them by one worker, by two, and by more than there are players.
+fn assert_workers_run<R: Abort + Threads + Sync>(
+    rt: &R,
+    alloc: Global,
+    world: &World,
+) -> Result<(), Fail>
+    requires { IsSound world.now }
+{
+    let many = linked(alloc, MANY)?;
+    let few = linked(alloc, FEW)?;
+    let first = run_in_world(alloc, &many, world, 1, 200_000)?;
+    let second = run_in_world(alloc, &few, world, 2, 10_000)?;
+    for workers in [1, 2, 16] {
+        let runs = runs_by(rt, alloc, world, &many, &few, workers)?;
+        assert!(rt; runs.len() == 2);
+        let (Some(one), Some(other)) = (runs.get(0), runs.get(1)) else {
+            return Err("no run".into());
+        };
+        assert_fills(rt, one, &first);
+        assert_clean(rt, other, &second);
+    }
+    Ok(())
+}
+
+#[test]
+fn a_run_is_the_same_by_workers(rt: HostRuntime) -> Result<(), Fail> {
+    let world = two_player_world(rt.alloc())?;
+    assert_workers_run(&rt, rt.alloc(), &world)
 }

@@ -1,16 +1,19 @@
 // Single ticks of worlds that were read from files.
-ghost use Rattle.std.specs.Prelude.{◌<◌, ◌≤◌, ◌^◌, IfOk, IsTrue, length};
+ghost use Rattle.std.specs.Prelude.{◌<◌, ◌≤◌, ◌^◌, All, IfOk, IsTrue, length};
 ghost use Rattle.world_rules.specs.Sound.{HaveSerials, IsSound};
 
 use crate::worlds::{room, world_in};
 use exit_crossing::Crosser;
 use game_tables::{Action, Body};
-use intent_book::Intent;
+use intent_book::{Intent, Intents};
 use object_store::World;
+use room_jobs::steps_by_workers;
 use room_step::{Crossers, StepDone, step_room};
 use ruled_tick::tick_plain;
 use std::alloc::{AllocError, Global};
 use std::test::Fail;
+use std::thread::Threads;
+use world_io::OpenGate;
 
 // Creeps 3 and 4 of players 2 and 1 stand in the first room, and one of player 1 on a pile; in the second one
 // of each
@@ -229,6 +232,63 @@ fn the_second_room_steps_by_itself(rt: HostRuntime) -> Result<(), Fail> {
     assert!(rt; (done.room.len(), done.room.next()) == (4, 5));
     assert!(rt; done.room.get(4_294_967_297).map(|creep| creep.energy) == Some(43));
     assert!(rt; done.room.get(4_294_967_299).map(|source| source.energy) == Some(1_500));
+    Ok(())
+}
+
+// Whether no list has more entries than a tick may have.
+fn are_few(lists: &[Intents]) -> bool
+    ensures { IsTrue result → All (λ list. length list ≤ 2 ^ 18) lists.now }
+{
+    lists.iter().all(|list| list.len() <= 262_144)
+}
+
+// The steps of all rooms of a world, each by its list of entries, by so many workers.
+fn stepped_by<R: Threads + Sync>(
+    rt: &R,
+    alloc: Global,
+    world: &World,
+    lists: &[Intents],
+    workers: u32,
+) -> Result<Vec<StepDone>, Fail>
+    requires sound { IsSound world.now }
+    requires serials { HaveSerials world.now.rooms }
+    requires some { (0 < workers) × (workers ≤ 16) }
+{
+    let rooms = world.room_list();
+    if lists.len() != rooms.len() || !are_few(lists) {
+        return Err("other lists".into());
+    }
+    Ok(steps_by_workers(rt, alloc, rooms, lists, &OpenGate, workers)?)
+}
+
+// A list of this entry alone.
+fn only(alloc: Global, intent: Intent) -> Result<Intents, AllocError> {
+    let mut list = Intents::new(alloc);
+    list.push(intent)?;
+    Ok(list)
+}
+
+// (the entry of the second list stands for a creep of the second room)
+#[test]
+fn workers_step_each_room_by_its_list(rt: HostRuntime) -> Result<(), Fail> {
+    let alloc = rt.alloc();
+    let world = two_room_world(alloc)?;
+    let lists = vec![in alloc;
+        only(alloc, entry(1, Action::DropLoad, 4, 5))?,
+        only(alloc, entry(1, Action::DropLoad, 4_294_967_297, 7))?,
+    ]?;
+    for workers in [1, 2, 16] {
+        let done = stepped_by(&rt, alloc, &world, &lists, workers)?;
+        assert!(rt; done.len() == 2);
+        let (Some(first), Some(second)) = (done.get(0), done.get(1)) else {
+            return Err("no room".into());
+        };
+        assert!(rt; (first.room.index(), first.room.len(), first.room.next()) == (0, 5, 8));
+        assert!(rt; first.room.get(4).map(|creep| creep.energy) == Some(15));
+        assert!(rt; (second.room.index(), second.room.len(), second.room.next()) == (1, 4, 5));
+        assert!(rt; second.room.get(4_294_967_297).map(|creep| creep.energy) == Some(43));
+        assert!(rt; second.room.get(4_294_967_299).map(|source| source.energy) == Some(1_500));
+    }
     Ok(())
 }
 

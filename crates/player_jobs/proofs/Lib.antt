@@ -1,0 +1,3 @@
+pub mod ModuleCrossing
+pub mod Crossing
+pub mod Ran
