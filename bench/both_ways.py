@@ -19,7 +19,7 @@ that way, the copy and the choice of the entries with it:
             let roster = Roster::of(alloc, world)?;
             let lists = intents_by_room(alloc, world, &roster, &wanted)?;
             let again = world.copy(alloc)?;
-            let _rooms = next_world(alloc, again, &lists, runs)?;
+            let _rooms = next_world(alloc, &room_step::InTurn, again, &lists, runs)?;
         }
         Ok(())
     }

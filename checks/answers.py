@@ -66,6 +66,7 @@ RUNS = {
     "recorded_tick::Recorder::record": "journals.py",
     "recorded_tick::catch_up": "rooms.py",
     "recorded_tick::record_tick": "journals.py",
+    "room_jobs::stepped_by_workers": "workers.py",
     "room_step::Crossers::push": "rooms.py",
     "room_step::all_intents": "rooms.py",
     "room_step::next_world": "rooms.py",

@@ -504,8 +504,6 @@ def check_words():
         RUN[:-1],
         RUN[:-2],
         [*RUN, "1"],
-        [*RUN, "--workers", "1"],
-        [*RUN, "--workers=1"],
         [*RUN, "-t", "1"],
         [*RUN, "-"],
         [*RUN, "--ticks", "1"],
@@ -539,7 +537,7 @@ def check_pages():
     """What the program says of itself. Its texts are compared in part: docs/hosting.md has their first and last lines."""
     pages = {
         ("--help",): [b"run WORLD UPLOADS JOURNAL --ticks N", b"check MODULE", b"gen SEED ROOMS PART", b"demo SEED ROOMS TICKS", b"show JOURNAL TICK", b"replay JOURNAL", b"docs/hosting.md", b"docs/players.md"],
-        ("run", "--help"): [b"WORLD", b"UPLOADS", b"JOURNAL", b"--ticks N", b"docs/hosting.md"],
+        ("run", "--help"): [b"WORLD", b"UPLOADS", b"JOURNAL", b"--ticks N", b"--workers K", b"docs/hosting.md"],
         ("check", "--help"): [b"MODULE", b"docs/players.md"],
         ("gen", "--help"): [b"SEED", b"ROOMS", b"PART", b"`world`", b"`uploads`", b"docs/hosting.md", b"docs/formats.md"],
         ("show", "--help"): [b"JOURNAL", b"TICK", b"docs/hosting.md", b"docs/formats.md"],
@@ -744,7 +742,7 @@ MAKER = "players/upload_stream.py "
 SHOWER = "players/show_room.py "
 
 # How many examples each document has: one that is lost, or that is no longer found, is a fault as one too many is.
-EXAMPLES = {"README.md": 6, "docs/hosting.md": 25, "docs/players.md": 23}
+EXAMPLES = {"README.md": 6, "docs/hosting.md": 26, "docs/players.md": 23}
 
 # What the other blocks of these documents begin with, and where they are run, if anywhere.
 OF_PLAYERS, OF_GATE, NOWHERE = "checks/players.py", ".ci/run", "a form, or a command that takes a prover or a compiler for Rust"

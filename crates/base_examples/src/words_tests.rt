@@ -20,7 +20,8 @@ fn line_of(alloc: Global, command: &Command) -> Result<String, AllocError> {
             uploads,
             journal,
             ticks,
-        } => format!(in alloc; "run {world} {uploads} {journal} {ticks}"),
+            workers,
+        } => format!(in alloc; "run {world} {uploads} {journal} {ticks} by {workers}"),
         Command::Check { module } => format!(in alloc; "check {module}"),
         Command::Replay { journal } => format!(in alloc; "replay {journal}"),
         Command::Show { journal, tick } => format!(in alloc; "show {journal} {tick}"),
@@ -46,14 +47,17 @@ fn is_said(alloc: Global, texts: &[&str], line: &str) -> Result<bool, AllocError
 
 // Words, and what they say.
 static COMMANDS: [(&[&str], &str); 12] = [
-    (&["run", "w", "u", "j", "--ticks", "0007"], "run w u j 7"),
+    (
+        &["run", "w", "u", "j", "--ticks", "0007"],
+        "run w u j 7 by 1",
+    ),
     (
         &["run", "--ticks=1000000", "w", "u", "j"],
-        "run w u j 1000000",
+        "run w u j 1000000 by 1",
     ),
     (
         &["run", "w", "--ticks", "0", "u", "--", "-j"],
-        "run w u -j 0",
+        "run w u -j 0 by 1",
     ),
     (&["run", "w", "u", "j", "--ticks", "1000001"], "usage"),
     (&["run", "w", "u", "j", "--ticks=+1"], "usage"),
@@ -72,6 +76,83 @@ static COMMANDS: [(&[&str], &str); 12] = [
 #[test]
 fn words_say_their_command(rt: HostRuntime) -> Result<(), Fail> {
     for row in &COMMANDS {
+        let (words, line) = *row;
+        assert!(rt; is_said(rt.alloc(), words, line)?, "{line}");
+    }
+    Ok(())
+}
+
+static WORKERS: [(&[&str], &str); 15] = [
+    (
+        &["run", "w", "u", "j", "--ticks", "3", "--workers", "1"],
+        "run w u j 3 by 1",
+    ),
+    (
+        &["run", "w", "u", "j", "--ticks", "3", "--workers", "16"],
+        "run w u j 3 by 16",
+    ),
+    (
+        &["run", "w", "u", "j", "--ticks", "3", "--workers=2"],
+        "run w u j 3 by 2",
+    ),
+    (
+        &["run", "--workers", "0004", "w", "--ticks", "3", "u", "j"],
+        "run w u j 3 by 4",
+    ),
+    (
+        &["run", "w", "u", "j", "--ticks", "3", "--", "--workers"],
+        "usage",
+    ),
+    (
+        &["run", "w", "u", "--ticks", "3", "--", "--workers"],
+        "run w u --workers 3 by 1",
+    ),
+    (
+        &["run", "w", "u", "j", "--ticks", "3", "--workers", "17"],
+        "usage",
+    ),
+    (
+        &["run", "w", "u", "j", "--ticks", "3", "--workers", "0"],
+        "usage",
+    ),
+    (
+        &["run", "w", "u", "j", "--ticks", "3", "--workers", "-1"],
+        "usage",
+    ),
+    (
+        &["run", "w", "u", "j", "--ticks", "3", "--workers", "=2"],
+        "usage",
+    ),
+    (
+        &["run", "w", "u", "j", "--ticks", "3", "--workers=+2"],
+        "usage",
+    ),
+    (
+        &[
+            "run",
+            "w",
+            "u",
+            "j",
+            "--ticks",
+            "3",
+            "--workers",
+            "2",
+            "--workers",
+            "2",
+        ],
+        "usage",
+    ),
+    (
+        &["run", "w", "u", "j", "--ticks", "3", "--workers"],
+        "usage",
+    ),
+    (&["run", "w", "u", "j", "--workers", "2"], "usage"),
+    (&["check", "m", "--workers", "2"], "usage"),
+];
+
+#[test]
+fn words_say_how_many_workers(rt: HostRuntime) -> Result<(), Fail> {
+    for row in &WORKERS {
         let (words, line) = *row;
         assert!(rt; is_said(rt.alloc(), words, line)?, "{line}");
     }

@@ -29,7 +29,7 @@ is_at a_demo rest = refl
 -- Words of a choice begin with its word.
 pub begins : (kind : Kind) (words : List Text) → AreOf kind words
     → (rest : List Text) × (words ≡ word_of kind ∷ rest)
-begins a_run words are = (are.4.taken.rest, are.4.taken.chosen)
+begins a_run words are = (are.5.taken.rest, are.5.taken.chosen)
 begins a_check words are = (are.1.taken.rest, are.1.taken.chosen)
 begins a_replay words are = (are.1.taken.rest, are.1.taken.chosen)
 begins a_show words are = (are.2.taken.rest, are.2.taken.chosen)

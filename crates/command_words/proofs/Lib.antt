@@ -1,4 +1,5 @@
 pub mod Apart
+pub mod Asking
 pub mod Built
 pub mod First
 pub mod Parsed

@@ -12,7 +12,7 @@ use Rattle.clap.specs.declared.error.kind.ErrorKind.TheVariants.{OutOfMemory}
 use Rattle.clap.specs.declared.parser.matches.ArgMatches.{ArgMatches}
 use Rattle.command_words.specs.Numbers.{IsNumber}
 use Rattle.command_words.specs.Choices.{Choice, command_of, run, check, replay, show, gen, demo}
-use Rattle.command_words.specs.Words.{AreRooms, GivesNumber, IsRun, IsCheck, IsReplay, IsShow, IsGen, IsDemo, faults_in, part_word, rows_in}
+use Rattle.command_words.specs.Words.{AreRooms, AreWorkers, GivesNumber, IsRun, IsCheck, IsReplay, IsShow, IsGen, IsDemo, faults_in, part_word, rows_in}
 use Rattle.command_words.specs.declared.command.GenPart.{GenPart}
 
 first_holds : (x y : Bool) → (x && y) ≡ true → x ≡ true
@@ -81,12 +81,18 @@ no_number choice words rows name n found gives refused =
 
 -- ---- the commands
 
-pub says_run : (words rest : List Text) (rows : List Row) (world uploads journal number : Text) (ticks : ℕ)
+pub same_workers : (rows other : List Row) (name : Text) (workers : ℕ) → rows ≡ other
+    → AreWorkers (first_of name other) workers → AreWorkers (first_of name rows) workers
+same_workers rows other name workers same are =
+    subst (λ (r : List Row). AreWorkers (first_of name r) workers) (sym same) are
+
+pub says_run : (words rest : List Text) (rows : List Row) (world uploads journal number : Text) (ticks workers : ℕ)
     → words ≡ codes "run" ∷ rest → faults_in run words ≡ [] → rows ≡ rows_in run words
     → first_of (codes "WORLD") rows ≡ Some world → first_of (codes "UPLOADS") rows ≡ Some uploads
     → first_of (codes "JOURNAL") rows ≡ Some journal → first_of (codes "ticks") rows ≡ Some number
-    → IsNumber number ticks → ticks ≤ 1000000 → IsRun words world uploads journal ticks
-says_run words rest rows world uploads journal number ticks chosen none found w u j n spells limit = record {
+    → IsNumber number ticks → ticks ≤ 1000000 → AreWorkers (first_of (codes "workers") rows) workers
+    → IsRun words world uploads journal ticks workers
+says_run words rest rows world uploads journal number ticks workers chosen none found w u j n spells limit by = record {
   taken = record { rest = rest; chosen = chosen; faultless = none };
   world_is = same_value (rows_in run words) rows (codes "WORLD") world (sym found) w;
   uploads_is = same_value (rows_in run words) rows (codes "UPLOADS") uploads (sym found) u;
@@ -95,6 +101,7 @@ says_run words rest rows world uploads journal number ticks chosen none found w 
   number_is = same_value (rows_in run words) rows (codes "ticks") number (sym found) n;
   spells = spells;
   limit = limit;
+  workers_are = same_workers (rows_in run words) rows (codes "workers") workers (sym found) by;
 }
 
 pub says_check : (words rest : List Text) (rows : List Row) (path : Text) → words ≡ codes "check" ∷ rest

@@ -9,8 +9,8 @@ use Rattle.command_words.specs.declared.command.Command.TheVariants as commands
 
 -- The command is the one that the words say.
 abbrev pub Words : List Text → Command → Type 0
-Words words (commands.Run world uploads journal ticks) =
-    IsRun words (string_bytes world) (string_bytes uploads) (string_bytes journal) ticks
+Words words (commands.Run world uploads journal ticks workers) =
+    IsRun words (string_bytes world) (string_bytes uploads) (string_bytes journal) ticks workers
 Words words (commands.Check path) = IsCheck words (string_bytes path)
 Words words (commands.Replay path) = IsReplay words (string_bytes path)
 Words words (commands.Show path tick) = IsShow words (string_bytes path) tick
@@ -45,7 +45,7 @@ AreOf a_demo words = AreDemo words
 
 -- the choice of a command
 abbrev pub kind_of : Command → Kind
-kind_of (commands.Run world uploads journal ticks) = a_run
+kind_of (commands.Run world uploads journal ticks workers) = a_run
 kind_of (commands.Check path) = a_check
 kind_of (commands.Replay path) = a_replay
 kind_of (commands.Show path tick) = a_show

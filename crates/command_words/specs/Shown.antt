@@ -1,5 +1,5 @@
 -- Words in the order in which the choices are shown.
-use Rattle.std.specs.Prelude.{◌≡◌, ◌≢◌, ℕ, ◌≤◌, ◌<◌, ◌^◌, List, [], ◌∷◌, codes}
+use Rattle.std.specs.Prelude.{◌≡◌, ◌≢◌, ℕ, ◌≤◌, ◌<◌, ◌^◌, ◌⊎◌, List, [], ◌∷◌, codes}
 use Rattle.clap.specs.Walk.{Text}
 use Rattle.command_words.specs.Numbers.{IsNumber}
 use Rattle.command_words.specs.Words.{AreRooms, IsRun, IsCheck, IsDemo, IsGen, IsReplay, IsShow, part_word}
@@ -10,10 +10,19 @@ abbrev pub IsPlain : Text → Type 0
 IsPlain [] = Unit {0}
 IsPlain (first ∷ rest) = first ≢ 45
 
--- The words are `run WORLD UPLOADS JOURNAL --ticks N`, one after the other.
-pub record ShowsRun (words : List Text) (world uploads journal : Text) (ticks : ℕ) : Type 0 where
+-- The last words are `--workers K`, or there are none, which says one worker.
+abbrev pub ShowsWorkers : List Text → ℕ → Type 0
+ShowsWorkers words workers =
+    ((words ≡ []) × (workers ≡ 1))
+    ⊎ ((number : Text) × (words ≡ codes "--workers" ∷ number ∷ []) × IsNumber number workers
+    × (1 ≤ workers) × (workers ≤ 16))
+
+-- The words are `run WORLD UPLOADS JOURNAL --ticks N`, one after the other, with `--workers K` or without.
+pub record ShowsRun (words : List Text) (world uploads journal : Text) (ticks workers : ℕ) : Type 0 where
   pub number : Text
-  pub order : words ≡ codes "run" ∷ world ∷ uploads ∷ journal ∷ codes "--ticks" ∷ number ∷ []
+  pub rest : List Text
+  pub order : words ≡ codes "run" ∷ world ∷ uploads ∷ journal ∷ codes "--ticks" ∷ number ∷ rest
+  pub by : ShowsWorkers rest workers
   pub world_plain : IsPlain world
   pub uploads_plain : IsPlain uploads
   pub journal_plain : IsPlain journal
@@ -63,8 +72,8 @@ pub record ShowsDemo (words : List Text) (seed rooms ticks : ℕ) : Type 0 where
 
 -- Words as they are shown are those of the command.
 pub record TakesShown (words : List Text) : Type 0 where
-  pub run_taken : (world uploads journal : Text) (ticks : ℕ) → ShowsRun words world uploads journal ticks
-      → IsRun words world uploads journal ticks
+  pub run_taken : (world uploads journal : Text) (ticks workers : ℕ)
+      → ShowsRun words world uploads journal ticks workers → IsRun words world uploads journal ticks workers
   pub check_taken : (path : Text) → ShowsCheck words path → IsCheck words path
   pub replay_taken : (path : Text) → ShowsReplay words path → IsReplay words path
   pub show_taken : (path : Text) (tick : ℕ) → ShowsShow words path tick → IsShow words path tick

@@ -1,5 +1,5 @@
 -- The words of a call, as `clap` reads them.
-use Rattle.std.specs.Prelude.{◌≡◌, ℕ, ◌≤◌, ◌<◌, ◌^◌, ◌⊎◌, List, [], ◌∷◌, Some, codes}
+use Rattle.std.specs.Prelude.{◌≡◌, ℕ, ◌≤◌, ◌<◌, ◌^◌, ◌⊎◌, List, [], ◌∷◌, Option, None, Some, codes}
 use Rattle.clap.specs.Walk.{Row, Text, first_of}
 use Rattle.clap.specs.Simple.{matches_of}
 use Rattle.clap.specs.Faults.{fault_of}
@@ -25,18 +25,27 @@ pub record IsTaken (choice : Choice) (words : List Text) : Type 0 where
   pub chosen : words ≡ choice.word ∷ rest
   pub faultless : faults_in choice words ≡ []
 
+-- the value of the argument of this name
+abbrev pub value_of : Choice → List Text → Text → Option Text
+value_of choice words name = first_of name (rows_in choice words)
+
 -- The argument of this name has this value.
 abbrev pub Gives : Choice → List Text → Text → Text → Type 0
-Gives choice words name value = first_of name (rows_in choice words) ≡ Some value
+Gives choice words name value = value_of choice words name ≡ Some value
 
 -- The argument of this name has a value that spells this number.
 abbrev pub GivesNumber : Choice → List Text → Text → ℕ → Type 0
 GivesNumber choice words name n = (text : Text) × Gives choice words name text × IsNumber text n
 
--- ---- `run WORLD UPLOADS JOURNAL --ticks N`
+-- ---- `run WORLD UPLOADS JOURNAL --ticks N --workers K`
 
--- The words are those of a run of at most 1,000,000 ticks, with these paths.
-pub record IsRun (words : List Text) (world uploads journal : Text) (ticks : ℕ) : Type 0 where
+-- The value of an option says so many workers, 1 to 16; where the option is left out, it is one.
+abbrev pub AreWorkers : Option Text → ℕ → Type 0
+AreWorkers None workers = workers ≡ 1
+AreWorkers (Some text) workers = IsNumber text workers × (1 ≤ workers) × (workers ≤ 16)
+
+-- The words are those of a run of at most 1,000,000 ticks, with these paths, by so many workers.
+pub record IsRun (words : List Text) (world uploads journal : Text) (ticks workers : ℕ) : Type 0 where
   pub taken : IsTaken run words
   pub world_is : Gives run words (codes "WORLD") world
   pub uploads_is : Gives run words (codes "UPLOADS") uploads
@@ -45,21 +54,27 @@ pub record IsRun (words : List Text) (world uploads journal : Text) (ticks : ℕ
   pub number_is : Gives run words (codes "ticks") number
   pub spells : IsNumber number ticks
   pub limit : ticks ≤ 1000000
+  pub workers_are : AreWorkers (value_of run words (codes "workers")) workers
 
 -- The words are those of a run.
 abbrev pub AreRun : List Text → Type 0
 AreRun words =
-    (world : Text) × (uploads : Text) × (journal : Text) × (ticks : ℕ)
-    × IsRun words world uploads journal ticks
+    (world : Text) × (uploads : Text) × (journal : Text) × (ticks : ℕ) × (workers : ℕ)
+    × IsRun words world uploads journal ticks workers
 
--- The words are those of a run of so many ticks.
-abbrev pub Asks : List Text → ℕ → Type 0
-Asks words ticks =
-    (world : Text) × (uploads : Text) × (journal : Text) × IsRun words world uploads journal ticks
+-- The words are those of a run of so many ticks, by at most so many workers.
+abbrev pub Asks : ℕ → List Text → ℕ → Type 0
+Asks most words ticks =
+    (world : Text) × (uploads : Text) × (journal : Text) × (workers : ℕ)
+    × IsRun words world uploads journal ticks workers × (workers ≤ most)
 
--- The words are those of a run of so many ticks or more.
-abbrev pub AsksAtLeast : List Text → ℕ → Type 0
-AsksAtLeast words done = (ticks : ℕ) × (done ≤ ticks) × Asks words ticks
+-- The words are those of a run by at most so many workers.
+abbrev pub AreRunBy : ℕ → List Text → Type 0
+AreRunBy most words = (ticks : ℕ) × Asks most words ticks
+
+-- The words are those of a run of so many ticks or more, by at most so many workers.
+abbrev pub AsksAtLeast : ℕ → List Text → ℕ → Type 0
+AsksAtLeast most words done = (ticks : ℕ) × (done ≤ ticks) × Asks most words ticks
 
 -- ---- `check MODULE`
 

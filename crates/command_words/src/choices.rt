@@ -6,7 +6,7 @@ ghost use Rattle.command_words.specs.Choices.{gen as gen_of_words, demo as demo_
 
 use crate::simple::Choice;
 
-/// `run WORLD UPLOADS JOURNAL --ticks N`
+/// `run WORLD UPLOADS JOURNAL --ticks N`, and `--workers K`, which may be left out
 pub(crate) fn run<'a>() -> Choice<'a>
     ensures { result ≡ run_of_words }
 {
@@ -14,6 +14,7 @@ pub(crate) fn run<'a>() -> Choice<'a>
         word: "run",
         positionals: &["WORLD", "UPLOADS", "JOURNAL"],
         options: &["ticks"],
+        optional: &["workers"],
     }
 }
 
@@ -25,6 +26,7 @@ pub(crate) fn check<'a>() -> Choice<'a>
         word: "check",
         positionals: &["MODULE"],
         options: &[],
+        optional: &[],
     }
 }
 
@@ -36,6 +38,7 @@ pub(crate) fn replay<'a>() -> Choice<'a>
         word: "replay",
         positionals: &["JOURNAL"],
         options: &[],
+        optional: &[],
     }
 }
 
@@ -47,6 +50,7 @@ pub(crate) fn show<'a>() -> Choice<'a>
         word: "show",
         positionals: &["JOURNAL", "TICK"],
         options: &[],
+        optional: &[],
     }
 }
 
@@ -58,6 +62,7 @@ pub(crate) fn gen_<'a>() -> Choice<'a>
         word: "gen",
         positionals: &["SEED", "ROOMS", "PART"],
         options: &[],
+        optional: &[],
     }
 }
 
@@ -69,5 +74,6 @@ pub(crate) fn demo<'a>() -> Choice<'a>
         word: "demo",
         positionals: &["SEED", "ROOMS", "TICKS"],
         options: &[],
+        optional: &[],
     }
 }

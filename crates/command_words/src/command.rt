@@ -7,12 +7,14 @@ use std::alloc::AllocError;
 /// What the program is asked to do.
 #[derive(Drop)]
 pub enum Command {
-    /// Runs this many ticks on a world file and an upload file, and keeps a journal at a path.
+    /// Runs this many ticks on a world file and an upload file by so many workers, 1 to 16, and keeps a
+    /// journal at a path.
     Run {
         world: String,
         uploads: String,
         journal: String,
         ticks: u64,
+        workers: u32,
     },
     /// Says whether the file at a path is a module that is taken.
     Check {

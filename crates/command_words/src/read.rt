@@ -5,7 +5,7 @@ ghost use Rattle.clap.specs.Matches.{found_of};
 ghost use Rattle.clap.specs.Walk.{rows_of, first_of};
 ghost use Rattle.command_words.specs.Numbers.{IsNumber};
 ghost use Rattle.command_words.specs.Commands.{Words, IsAlone, AreNone};
-ghost use Rattle.command_words.specs.Words.{AreRooms, part_word};
+ghost use Rattle.command_words.specs.Words.{AreRooms, AreWorkers, part_word};
 ghost use Rattle.command_words.specs.Shown.{TakesShown};
 ghost use Rattle.command_words.specs.declared.command.GenPart.{GenPart as Part};
 
@@ -19,13 +19,17 @@ use std::alloc::Global;
 /// The most ticks of a run.
 const MOST_TICKS: u64 = 1_000_000;
 
+/// The most workers of a run.
+const MOST_WORKERS: u64 = 16;
+
 /// The most rooms of a generated world.
 const MOST_ROOMS: u64 = 400;
 
 /// The command that words after the program's name say.
 ///
 /// The first word chooses. The rest is read by one command of `clap` for each choice, whose positionals
-/// and options have each to be given and take one value. `--help` and `--version` are faults.
+/// and options take one value each and have to be given, but for `--workers`. `--help` and `--version` are
+/// faults.
 #[tactic(auto, using(crate::proofs::Shown::takes_shown, crate::proofs::Apart::unchosen))]
 pub fn read_words(alloc: Global, words: &[String]) -> Result<Command, WordsFault>
     ensures ok { IfOk result (Words (map string_bytes words.now)) }
@@ -77,11 +81,13 @@ fn read_run(alloc: Global, words: &[String]) -> Result<Command, WordsFault>
     let uploads = value(alloc, &matches, "UPLOADS")?;
     let journal = value(alloc, &matches, "JOURNAL")?;
     let ticks = number(&matches, "ticks", MOST_TICKS)?;
+    let workers = workers(&matches)?;
     Ok(Command::Run {
         world,
         uploads,
         journal,
         ticks,
+        workers,
     })
 }
 
@@ -184,6 +190,21 @@ fn text_of<'a>(matches: &ArgMatches<'a>, name: &str) -> Option<&'a str>
     ensures { option_map (λ s. s.now) result ≡ first_of name.now (rows_of (found_of matches.now)) }
 {
     matches.get_str(name)
+}
+
+// The number of workers of a run: one, where none is said.
+fn workers(matches: &ArgMatches) -> Result<u32, WordsFault>
+    ensures ok { IfOk result (AreWorkers (first_of (codes "workers") (rows_of (found_of matches.now)))) }
+    ensures usage { IfErr result (λ e. e ≡ WordsFault.Usage → (n : ℕ)
+        → AreWorkers (first_of (codes "workers") (rows_of (found_of matches.now))) n → ⊥) }
+{
+    let Some(text) = text_of(matches, "workers") else {
+        return Ok(1);
+    };
+    match number_of(text, MOST_WORKERS) {
+        Some(0) | None => Err(WordsFault::Usage),
+        Some(workers) => Ok(workers as u32),
+    }
 }
 
 // The number of rooms of a generated world.

@@ -5,7 +5,7 @@ ghost use Rattle.clap.specs.Matches.{found_of};
 ghost use Rattle.clap.specs.Walk.{rows_of, rule_of};
 ghost use Rattle.clap.specs.Simple.{app_of};
 ghost use Rattle.clap.specs.Faults.{is_simple_and_free};
-ghost use Rattle.command_words.specs.Choices.{command_of, positional, option};
+ghost use Rattle.command_words.specs.Choices.{command_of, positional, option, optional_option};
 ghost use Rattle.command_words.specs.Words.{faults_in, rows_in};
 
 use crate::command::WordsFault;
@@ -15,12 +15,13 @@ use std::alloc::{AllocError, Global};
 use std::marker::Model;
 
 /// A choice of the program: the word that names it, the positionals that follow, in their order,
-/// and the options. Each takes one value, which has to be given.
+/// the options, and the options that may be left out. Each takes one value; all others have to be given.
 #[derive(Drop)]
 pub(crate) struct Choice<'a> {
     pub word: &'a str,
     pub positionals: &'a [&'a str],
     pub options: &'a [&'a str],
+    pub optional: &'a [&'a str],
 }
 
 impl<'a> Model for Choice<'a> {
@@ -33,6 +34,7 @@ impl<'a> Model for Choice<'a> {
       word = c.word.now;
       positionals = map (λ s. s.now) c.positionals.now;
       options = map (λ s. s.now) c.options.now;
+      optional = map (λ s. s.now) c.optional.now;
     } };
 }
 
@@ -52,6 +54,14 @@ fn option_named(alloc: Global, name: &str) -> Arg<'_>
     positional_named(alloc, name).long(name)
 }
 
+// An option that may be left out.
+fn optional_named(alloc: Global, name: &str) -> Arg<'_>
+    ensures rule { rule_of result ≡ optional_option name.entry.now }
+    ensures local { result.global ≡ false }
+{
+    option_named(alloc, name).required(false)
+}
+
 // The command of a choice.
 fn command<'a>(alloc: Global, choice: &Choice<'a>) -> Result<Command<'a>, AllocError>
     ensures { IfOk result (λ command. app_of command ≡ command_of choice.now) }
@@ -62,6 +72,9 @@ fn command<'a>(alloc: Global, choice: &Choice<'a>) -> Result<Command<'a>, AllocE
     }
     for option in choice.options {
         command = command.arg(option_named(alloc, option))?;
+    }
+    for optional in choice.optional {
+        command = command.arg(optional_named(alloc, optional))?;
     }
     Ok(command)
 }

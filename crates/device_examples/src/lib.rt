@@ -1,5 +1,6 @@
-// Calls over devices in memory that fail, and adapters over files, of which no clause tells: examples that
-// are tests alone. They stand in a crate of their own, so that the calls are not proved once more for them.
+// Calls over devices in memory that fail, runs by two workers, and adapters over files, of which no clause
+// tells: examples that are tests alone. They stand in a crate of their own, so that the calls are not proved
+// once more for them.
 #![tactic(auto)]
 
 #[cfg(test)]
@@ -10,3 +11,5 @@ mod disk_tests;
 mod failing_tests;
 #[cfg(test)]
 mod file_tests;
+#[cfg(test)]
+mod shared_tests;

@@ -4,5 +4,6 @@ pub mod Found
 pub mod Idle
 pub mod Judged
 pub mod Kept
+pub mod Listed
 pub mod Ran
 pub mod Restored

@@ -1,2 +1,2 @@
 -- Definitions that private functions and proofs cite alone.
-pub mod Adding
+pub mod Listing

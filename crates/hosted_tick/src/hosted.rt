@@ -18,7 +18,8 @@ use intent_book::{Intents, PlayerRun};
 use judged_uploads::JudgedUploads;
 use kept_entries::{intents_by_room, no_intents_by_room};
 use object_store::{Bytes, World};
-use room_step::{all_intents, next_world};
+use player_runs::RunsPlayers;
+use room_step::{StepsRooms, all_intents, next_world};
 pub use std::alloc::AllocError as NoMemory;
 use std::alloc::Global;
 use std::collections::BTreeMap;
@@ -89,10 +90,19 @@ impl Hosted {
         &self.world
     }
 
-    /// One tick: the uploads are judged in their order, each player with a module runs it on the
-    /// world as it is, in rising player, and what the runs want is ruled. An upload that is refused takes
+    /// One tick: the uploads are judged in their order, the runner runs each player with a module on the
+    /// world as it is, and what the runs want is ruled, with the rooms stepped by the stepper. The two take
+    /// players and rooms in whatever order; the runs stand in rising player. An upload that is refused takes
     /// one byte, for its result.
-    pub fn tick<'a>(self, alloc: Global, uploads: Uploads<'a>) -> Result<Ticked<'a>, NoMemory>
+    pub fn tick<'a, P: RunsPlayers, S: StepsRooms>(
+        self,
+        alloc: Global,
+        runner: &P,
+        stepper: &S,
+        uploads: Uploads<'a>,
+    ) -> Result<Ticked<'a>, NoMemory>
+        requires runner { P.ready runner.now }
+        requires stepper { S.ready stepper.now }
         requires hosted { IsHosted self.world }
         requires tick { self.world.tick < 2 ^ 64 - 1 }
         requires serials { HaveSerials self.world.rooms }
@@ -103,8 +113,8 @@ impl Hosted {
     {
         let Hosted { world, mut modules } = self;
         let judged = judge_all(alloc, &world, uploads, &mut modules)?;
-        let Wanted { runs, lists } = run_players(alloc, &world, &modules)?;
-        let after = next_world(alloc, world, &lists, &runs)?;
+        let Wanted { runs, lists } = run_players(alloc, runner, &world, &modules)?;
+        let after = next_world(alloc, stepper, world, &lists, &runs)?;
         Ok(Ticked {
             hosted: Hosted {
                 world: after,
@@ -125,7 +135,13 @@ struct Wanted {
 
 // Runs all players on the world as it is. Where its objects stand is listed once, for all of them and to tell
 // the rooms of the entries; where nobody has a module it is not listed.
-fn run_players(alloc: Global, world: &World, modules: &Modules) -> Result<Wanted, NoMemory>
+fn run_players<P: RunsPlayers>(
+    alloc: Global,
+    runner: &P,
+    world: &World,
+    modules: &Modules,
+) -> Result<Wanted, NoMemory>
+    requires ready { P.ready runner.now }
     requires hosted { IsHosted world.now }
     requires linked { AreLinked modules.now.entries }
     ensures runs { IfOk result
@@ -145,7 +161,7 @@ fn run_players(alloc: Global, world: &World, modules: &Modules) -> Result<Wanted
         });
     }
     let roster = Roster::of(alloc, world)?;
-    let runs = run_all(alloc, world, &roster, modules)?;
+    let runs = run_all(alloc, runner, world, &roster, modules)?;
     let intents = all_intents(alloc, &runs)?;
     let lists = intents_by_room(alloc, world, &roster, &intents)?;
     Ok(Wanted { runs, lists })

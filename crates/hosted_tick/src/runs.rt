@@ -1,29 +1,30 @@
 // The runs of a tick.
-ghost use Rattle.std.specs.Prelude.{◌≡◌, ◌≤◌, ◌^◌, length, Some, IfOk, OnOk};
+ghost use Rattle.std.specs.Prelude.{◌≡◌, ◌≤◌, ◌^◌, length, IfOk};
 ghost use Rattle.std.specs.List.{AllByRecursion};
 ghost use Rattle.game_tables.specs.Limits.{most_memory};
-ghost use Rattle.object_store.specs.Stored.{find_account};
 ghost use Rattle.world_rules.specs.Tick.{intents_of};
 ghost use Rattle.world_rules.specs.World.{world_of};
 ghost use Rattle.hosted_tick.specs.Hosting.{AreLinked, IsHosted, modules_of};
 ghost use Rattle.hosted_tick.specs.Next.{AreRuns};
-ghost use Rattle.hosted_tick.specs.inner.Adding.{Adds};
+ghost use Rattle.hosted_tick.specs.inner.Listing.{AreListed};
 
 use crate::hosted::NoMemory;
 use crate::modules::Modules;
 use intent_book::PlayerRun;
-use object_store::{Account, World};
-use player_run::{RunRoom, run_player_in};
+use object_store::World;
+use player_runs::{PlayerModule, RunsPlayers};
 use std::alloc::Global;
 use world_roster::Roster;
 
-/// Runs each player that has a module on the same world, in rising player, all in one room.
-pub(crate) fn run_all(
+/// Runs each player that has a module on the same world: the runs, in rising player.
+pub(crate) fn run_all<P: RunsPlayers>(
     alloc: Global,
+    runner: &P,
     world: &World,
     roster: &Roster,
     modules: &Modules,
 ) -> Result<Vec<PlayerRun>, NoMemory>
+    requires ready { P.ready runner.now }
     requires hosted { IsHosted world.now }
     requires roster { roster.now ≡ (world_of world.now).objects }
     requires linked { AreLinked modules.now.entries }
@@ -34,35 +35,29 @@ pub(crate) fn run_all(
     ensures short { IfOk result
         (λ runs. AllByRecursion (λ run. length run.memory ≤ most_memory) runs.items) }
 {
-    let mut room = RunRoom::new(alloc)?;
-    let mut runs = Vec::new(alloc);
-    for account in world.account_list() {
-        add_run(alloc, &mut room, world, roster, modules, account, &mut runs)?;
-    }
-    Ok(runs)
+    let players = players_with_modules(alloc, world, modules)?;
+    runner.run_players(alloc, world, roster, &players)
 }
 
-// Adds the run of an account's player, if he has a module.
-fn add_run<'a>(
+// The players of a world who have modules, in rising player.
+fn players_with_modules<'a>(
     alloc: Global,
-    room: &mut RunRoom<'a>,
     world: &World,
-    roster: &Roster,
     modules: &'a Modules,
-    account: &Account,
-    runs: &mut Vec<PlayerRun>,
-) -> Result<(), NoMemory>
+) -> Result<Vec<PlayerModule<'a>>, NoMemory>
     requires hosted { IsHosted world.now }
-    requires roster { roster.now ≡ (world_of world.now).objects }
     requires linked { AreLinked modules.now.entries }
-    requires account { find_account account.now.player world.now.accounts ≡ Some account.now }
-    ensures { OnOk result
-        (Adds (world_of world.now)
-        (modules_of modules.entry.now.entries) account.now runs.old.items runs.new.items) }
+    ensures { IfOk result (λ players. AreListed world.now (modules_of modules.entry.now.entries)
+        world.now.accounts players.items) }
 {
-    if let Some(module) = modules.get(&account.player) {
-        let run = run_player_in(alloc, room, &module.linked, world, roster, account.player)?;
-        runs.push(run)?;
+    let mut players = Vec::new(alloc);
+    for account in world.account_list() {
+        if let Some(module) = modules.get(&account.player) {
+            players.push(PlayerModule {
+                player: account.player,
+                linked: &module.linked,
+            })?;
+        }
     }
-    Ok(())
+    Ok(players)
 }

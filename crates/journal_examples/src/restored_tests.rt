@@ -48,7 +48,7 @@ fn ticked(alloc: Global, hosted: Hosted) -> Result<Ticked<'static>, Fail>
     let Ok(none) = Uploads::read(&[]) else {
         return Err("no stream".into());
     };
-    Ok(hosted.tick(alloc, none)?)
+    Ok(hosted.tick(alloc, &player_runs::InTurn, &room_step::InTurn, none)?)
 }
 
 // The record of a tick to this world, without uploads.

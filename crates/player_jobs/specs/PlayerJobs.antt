@@ -1,39 +1,10 @@
 -- What a worker makes of a player.
-use Rattle.std.specs.Prelude.{◌≡◌, ℕ, ◌≤◌, List, length, Some, slice_get}
-use Rattle.game_tables.specs.Limits.{most_memory, most_rooms}
-use Rattle.object_store.specs.declared.account.Account.{Account}
-use Rattle.object_store.specs.Stored.{Stored, HasAccount, find_account}
-use Rattle.intent_book.specs.Records.{entries_bound}
+use Rattle.std.specs.Prelude.{◌≡◌, ℕ, List, Some, slice_get}
+use Rattle.object_store.specs.Stored.{Stored}
 use Rattle.intent_book.specs.declared.player_run.PlayerRun.{PlayerRun}
-use Rattle.world_rules.specs.Sound.{IsSound}
-use Rattle.world_rules.specs.World.{Objects, world_of}
-use Rattle.visible_view.specs.Sights.{sight_of}
-use Rattle.wasm_link.specs.Kept.{link_view}
-use Rattle.player_run.specs.Emitted.{EmitsBy, fuel_of}
-use Rattle.player_jobs.specs.declared.jobs.PlayerModule.{PlayerModule}
+use Rattle.player_runs.specs.PlayerRuns.{IsRunOf}
+use Rattle.player_runs.specs.declared.runs.PlayerModule.{PlayerModule}
 
--- The player has an account, whose text is no longer than a run takes.
-pub record MayRun (world : Stored) (player : ℕ) : Type 0 where
-  pub account : HasAccount player world.accounts
-  pub memory : (account : Account) → find_account player world.accounts ≡ Some account
-      → length account.memory ≤ most_memory
-
--- These players may be run on this world, whose objects are these.
-pub record MayBeRun (world : Stored) (objects : Objects) (players : List PlayerModule) : Type 0 where
-  pub sound : IsSound world
-  pub rooms : length world.rooms ≤ most_rooms
-  pub listed : objects ≡ (world_of world).objects
-  pub each : (k : ℕ) (one : PlayerModule) → slice_get players k ≡ Some one → MayRun world one.player
-
--- It is what this player's module emits of what he sees of the world.
-pub record IsRunOf (world : Stored) (one : PlayerModule) (run : PlayerRun) : Type 0 where
-  pub account : Account
-  pub found : find_account one.player world.accounts ≡ Some account
-  pub emitted : EmitsBy (link_view one.linked.now) (sight_of (world_of world) account) run
-  pub used : run.used ≤ fuel_of account
-  pub few : length run.intents ≤ entries_bound
-  pub short : length run.memory ≤ most_memory
-
--- the same of the player at a place
-abbrev pub IsRunAt : Stored → List PlayerModule → ℕ → PlayerRun → Type 0
-IsRunAt world players k run = (one : PlayerModule) → slice_get players k ≡ Some one → IsRunOf world one run
+-- It is the run of the player at a place.
+abbrev pub IsRunDone : Stored → List PlayerModule → ℕ → PlayerRun → Type 0
+IsRunDone world players k run = (one : PlayerModule) → slice_get players k ≡ Some one → IsRunOf world one run

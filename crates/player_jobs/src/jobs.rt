@@ -1,20 +1,15 @@
 // The runs of players as a row of jobs.
 ghost use Rattle.std.specs.Prelude.{◌≡◌, ◌<◌, ◌≤◌, ◌^◌, length, slice_get, Some, IfOk};
-ghost use Rattle.player_jobs.specs.PlayerJobs.{IsRunAt, MayBeRun};
+ghost use Rattle.player_runs.specs.PlayerRuns.{MayBeRun};
+ghost use Rattle.player_jobs.specs.PlayerJobs.{IsRunDone};
 
 use intent_book::PlayerRun;
 use object_store::World;
-use player_run::{Linked, RunRoom, run_player_in};
+use player_run::{RunRoom, run_player_in};
+use player_runs::PlayerModule;
 use room_workers::{NoMemory, RoomedJob};
 use std::alloc::Global;
 use world_roster::Roster;
-
-/// A player, and the module that he has.
-#[derive(Clone, Copy)]
-pub struct PlayerModule<'a> {
-    pub player: u32,
-    pub linked: &'a Linked,
-}
 
 /// The runs of these players, each with his module, on the same world. A worker's room is that of its runs.
 #[derive(Clone, Copy)]
@@ -27,7 +22,8 @@ pub(crate) struct PlayerJobs<'a> {
 
 impl<'a> RoomedJob for PlayerJobs<'a> {
     ghost use Rattle.std.specs.Prelude.{◌≡◌, length};
-    ghost use Rattle.player_jobs.specs.PlayerJobs.{IsRunAt, MayBeRun};
+    ghost use Rattle.player_runs.specs.PlayerRuns.{MayBeRun};
+    ghost use Rattle.player_jobs.specs.PlayerJobs.{IsRunDone};
 
     type Room = RunRoom<'a>;
 
@@ -38,7 +34,7 @@ impl<'a> RoomedJob for PlayerJobs<'a> {
 
     ghost size = { λ jobs. jobs.count };
 
-    ghost gives = { λ jobs k run. IsRunAt jobs.world.now jobs.players.now k run };
+    ghost gives = { λ jobs k run. IsRunDone jobs.world.now jobs.players.now k run };
 
     fn count(&self) -> u32 {
         self.count

@@ -1,6 +1,7 @@
 // Steps of rooms as a row of jobs.
 ghost use Rattle.std.specs.Prelude.{◌≡◌, ◌<◌, ◌^◌, length, IfOk};
-ghost use Rattle.room_jobs.specs.RoomJobs.{IsStepAt, MayBeStepped};
+ghost use Rattle.room_jobs.specs.RoomJobs.{IsStepDone};
+ghost use Rattle.room_step.specs.Steps.{MayBeStepped};
 
 use intent_book::Intents;
 use object_store::Room;
@@ -20,13 +21,13 @@ pub(crate) struct RoomJobs<'a> {
 }
 
 impl<'a> Job for RoomJobs<'a> {
-    ghost use Rattle.room_jobs.specs.RoomJobs.{IsStepAt};
+    ghost use Rattle.room_jobs.specs.RoomJobs.{IsStepDone};
 
     type Done = StepDone;
 
     ghost size = { λ jobs. jobs.count };
 
-    ghost gives = { λ jobs k done. IsStepAt jobs.rooms.now jobs.lists.now k done };
+    ghost gives = { λ jobs k done. IsStepDone jobs.rooms.now jobs.lists.now k done };
 
     fn count(&self) -> u32 {
         self.count

@@ -2,6 +2,8 @@
 #![tactic(auto)]
 
 mod jobs;
+mod shared;
 mod steps;
 
+pub use shared::{StepsBy, stepped_by_workers};
 pub use steps::steps_by_workers;

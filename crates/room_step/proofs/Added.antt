@@ -18,7 +18,8 @@ use Rattle.ruled_tick.proofs.Gaining.{gained_first}
 use Rattle.room_step.specs.Stepping.{IsStepped}
 use Rattle.room_step.specs.declared.rooms.Underway.{Underway}
 use Rattle.room_step.specs.declared.step.StepDone.{StepDone}
-use Rattle.room_step.specs.inner.Rooms.{earned_from, list_at, with_points, HasStepped, IsAdded, IsLeft, IsLeftAt}
+use Rattle.room_step.specs.Steps.{list_at}
+use Rattle.room_step.specs.inner.Rooms.{earned_from, with_points, HasStepped, IsAdded, IsLeft, IsLeftAt}
 use Rattle.room_step.proofs.Earned.{earned_more}
 use Rattle.room_step.proofs.Following.{tick_follows}
 

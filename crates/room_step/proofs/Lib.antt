@@ -13,3 +13,4 @@ pub mod Earned
 pub mod Added
 pub mod Whole
 pub mod Next
+pub mod Steps

@@ -32,7 +32,8 @@ use Rattle.ruled_tick.proofs.Players.{keeps_more}
 use Rattle.ruled_tick.proofs.Readied.{all_of_places, left_ids, left_places, once_left, rooms_ruled}
 use Rattle.room_step.specs.Stepping.{anybody, KeepsItsRules}
 use Rattle.room_step.specs.declared.rooms.Underway.{Underway}
-use Rattle.room_step.specs.inner.Rooms.{list_at, HasStepped, IsLeft, IsLeftAt}
+use Rattle.room_step.specs.Steps.{list_at}
+use Rattle.room_step.specs.inner.Rooms.{HasStepped, IsLeft, IsLeftAt}
 use Rattle.room_step.proofs.Earned.{all_earned}
 use Rattle.room_step.proofs.Following.{follow_left}
 use Rattle.room_step.proofs.Inside.{inside}

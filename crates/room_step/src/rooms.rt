@@ -15,11 +15,11 @@ ghost use Rattle.exit_crossing.specs.Crossing.{AreForgotten};
 ghost use Rattle.ruled_tick.specs.inner.Entered.{AreGains};
 ghost use Rattle.ruled_tick.specs.inner.Ticked.{IsRuledRooms};
 ghost use Rattle.room_step.specs.Stepping.{KeepsItsRules};
-ghost use Rattle.room_step.specs.inner.Rooms.{HasStepped, IsAdded};
+ghost use Rattle.room_step.specs.inner.Rooms.{HasStepped, IsPut};
 
 use crate::NoMemory;
 use crate::accounts::push_accounted;
-use crate::step::step_taken;
+use crate::steppers::{SteppedRoom, StepsRooms};
 use exit_crossing::{Crosser, cross};
 use intent_book::{Intent, Intents, PlayerRun};
 use object_store::{Account, Room, World};
@@ -27,20 +27,23 @@ use ruled_tick::add_gain;
 use std::alloc::Global;
 
 /// The world after one tick with these runs, in place of the world before, which is taken. Each room is
-/// stepped by itself, in rising index, with those of its entries that the runs want, and then all creeps that
-/// moved onto border tiles cross, in rising id over the whole world. Each account gets its limit of CPU units
+/// stepped once by itself, in whatever order the stepper takes them (`InTurn`: in rising index), with those
+/// of its entries that the runs want, and then all creeps that moved onto border tiles cross, in rising id
+/// over the whole world. Each account gets its limit of CPU units
 /// into its bucket, up to 10,000, without what its player's run used, the points that its player gained in
 /// all rooms, up to 2^53, and the memory text that the run left. A player has one run at most; of two, the
 /// first would count for the bucket and the memory text, and what both want would be ruled.
 ///
 /// `lists` has what the runs want, room by room (`all_intents`, `intents_by_room`). A room is copied only
 /// where its table has not as much memory as its entries and the steps may need.
-pub fn next_world(
+pub fn next_world<S: StepsRooms>(
     alloc: Global,
+    stepper: &S,
     world: World,
     lists: &[Intents],
     runs: &[PlayerRun],
 ) -> Result<World, NoMemory>
+    requires ready { S.ready stepper.now }
     requires tick { world.tick < 2 ^ 64 - 1 }
     requires sound { IsSound world }
     requires few { length (intents_of runs.now) ≤ 2 ^ 18 }
@@ -58,7 +61,7 @@ pub fn next_world(
         (run_of account.player runs.now)) world.accounts) }
     ensures rooms { IfOk result (λ next. length next.rooms ≡ length world.rooms) }
 {
-    let (stepped, accounts) = stepped_rooms(alloc, world, lists)?;
+    let (stepped, accounts) = stepped_rooms(alloc, stepper, world, lists)?;
     let mut next = stepped.world;
     push_accounted(alloc, &accounts, &stepped.gains, runs, &mut next)?;
     cross(&mut next, &stepped.crossers);
@@ -86,11 +89,13 @@ struct Underway {
 }
 
 // The rooms of a world, each stepped, with the accounts as they were.
-fn stepped_rooms(
+fn stepped_rooms<S: StepsRooms>(
     alloc: Global,
+    stepper: &S,
     world: World,
     lists: &[Intents],
 ) -> Result<(Underway, Vec<Account>), NoMemory>
+    requires ready { S.ready stepper.now }
     requires tick { world.tick < 2 ^ 64 - 1 }
     requires sound { IsSound world }
     requires serials { HaveSerials world.rooms }
@@ -107,48 +112,32 @@ fn stepped_rooms(
     // The numbers of rooms and of accounts are below 2^32.
     world.stands_in_order();
     let (rooms, accounts) = world.into_parts();
+    let done = stepper.step_rooms(alloc, rooms, lists)?;
     let mut stepped = Underway {
         world: World::empty(alloc, tick),
         crossers: Vec::new(alloc),
         gains: vec![in alloc; 0_u64; accounts.len()]?,
     };
-    for room in rooms {
-        let index = stepped.world.rooms() as usize;
-        add_step(
-            alloc,
-            room,
-            lists[index].as_slice(),
-            &accounts,
-            &mut stepped,
-        )?;
+    for room in done {
+        add_step(&accounts, room, &mut stepped)?;
     }
     stepped.crossers.sort_unstable_by_key(|crosser| crosser.id);
     Ok((stepped, accounts))
 }
 
-// Steps a room, and adds it to the others.
-fn add_step(
-    alloc: Global,
-    room: Room,
-    intents: &[Intent],
-    accounts: &[Account],
-    stepped: &mut Underway,
-) -> Result<(), NoMemory>
-    requires rules { KeepsItsRules between room.terrain room.table }
-    requires serials { room.table.next ≤ serials_bound }
-    requires few { length intents.now ≤ 2 ^ 18 }
-    requires place { room.table.index ≡ length stepped.old.world.rooms }
+// Adds a stepped room to the others.
+fn add_step(accounts: &[Account], room: SteppedRoom, stepped: &mut Underway) -> Result<(), NoMemory>
+    requires place { room.done.room.index ≡ length stepped.old.world.rooms }
     requires within { length stepped.old.world.rooms + 1 < 2 ^ 32 }
     requires rising { AreRising accounts.now }
     requires long { length stepped.old.gains.items ≡ length accounts.now }
-    ensures { OnOk result (IsAdded accounts.now room intents.now stepped.old stepped.new) }
+    ensures { OnOk result (IsPut accounts.now room stepped.old stepped.new) }
 {
-    let Room {
+    let SteppedRoom {
         name,
         terrain,
-        table,
+        done,
     } = room;
-    let done = step_taken(alloc, &terrain, table, intents)?;
     add_gain(accounts, &mut stepped.gains, done.player, done.points);
     stepped
         .crossers

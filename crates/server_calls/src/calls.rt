@@ -1,11 +1,15 @@
 // The commands, and the files that they are run over.
-ghost use Rattle.std.specs.Prelude.{◌≡◌, ◌⊎◌, map, string_bytes};
-ghost use Rattle.command_words.specs.Words.{AreOfTool, AreRun};
+ghost use Rattle.std.specs.Prelude.{◌≡◌, ◌≢◌, ◌≤◌, ◌⊎◌, map, string_bytes};
+ghost use Rattle.command_words.specs.Words.{AreOfTool, AreRun, AreRunBy};
 ghost use Rattle.world_run.specs.Runs.{IsPastWords};
 
 use command_words::{Command, WordsFault, read_words};
 use run_status::Status;
-use world_io::{Disk, FileDisk, FileSource, MemoryDisk, Source, SteadySource, StreamSink};
+use shared_run::run_shared;
+use std::thread::Threads;
+use world_io::{
+    Disk, FileDisk, FileSource, MemoryDisk, OpenGate, Source, SteadySource, StreamSink,
+};
 use world_run::run_alone;
 use world_tools::tool_main;
 
@@ -20,11 +24,12 @@ pub fn refused_words(fault: WordsFault) -> Status
     }
 }
 
-/// Runs the command that the words say, over the files that they name, with standard output as its sink.
+/// Runs the command that the words say, over the files that they name, with standard output as its sink. A
+/// run by several workers starts their threads.
 ///
 /// A journal is made where a run finds none. A file that cannot be opened fails at its first call, as a
 /// source or a disk that fails.
-pub fn run_command(rt: &HostRuntime, words: &[String]) -> Status
+pub fn run_command<R: Threads + Sync>(rt: &HostRuntime, threads: &R, words: &[String]) -> Status
     ensures usage { result ≡ Status.Usage → (AreRun (map string_bytes words.now) → ⊥)
         × (AreOfTool (map string_bytes words.now) → ⊥) }
     ensures words { IsPastWords result → AreRun (map string_bytes words.now)
@@ -37,10 +42,13 @@ pub fn run_command(rt: &HostRuntime, words: &[String]) -> Status
                 uploads,
                 journal,
                 ticks: _,
+                workers,
             },
         ) => run_files(
             rt,
+            threads,
             words,
+            workers,
             world.as_str(),
             uploads.as_str(),
             journal.as_str(),
@@ -58,26 +66,46 @@ pub fn run_command(rt: &HostRuntime, words: &[String]) -> Status
     }
 }
 
-// Runs ticks over the files of a world, of an upload stream and of a journal, which is made where it is not
-// there.
-fn run_files(
+// Runs ticks by so many workers over the files of a world, of an upload stream and of a journal, which is
+// made where it is not there.
+fn run_files<R: Threads + Sync>(
     rt: &HostRuntime,
+    threads: &R,
     words: &[String],
+    workers: u32,
     world: &str,
     uploads: &str,
     journal: &str,
 ) -> Status
-    ensures usage { result ≡ Status.Usage → AreRun (map string_bytes words.now) → ⊥ }
-    ensures words { IsPastWords result → AreRun (map string_bytes words.now) }
+    requires words { AreRunBy workers (map string_bytes words.now) }
+    requires few { workers ≤ 16 }
+    ensures { result ≢ Status.Usage }
 {
-    run_alone(
-        rt.alloc(),
-        words,
-        &mut FileSource::open(rt, world),
-        &mut FileSource::open(rt, uploads),
-        &mut StreamSink::over(rt.stdout()),
-        &mut FileDisk::open_or_make(rt, journal),
-    )
+    let mut world = FileSource::open(rt, world);
+    let mut uploads = FileSource::open(rt, uploads);
+    let mut out = StreamSink::over(rt.stdout());
+    let mut disk = FileDisk::open_or_make(rt, journal);
+    if workers == 1 {
+        run_alone(
+            rt.alloc(),
+            words,
+            &mut world,
+            &mut uploads,
+            &mut out,
+            &mut disk,
+        )
+    } else {
+        run_shared(
+            threads,
+            rt.alloc(),
+            words,
+            &mut world,
+            &mut uploads,
+            &mut out,
+            &mut disk,
+            &OpenGate,
+        )
+    }
 }
 
 // Shows a tick of the journal of a file, or rules its ticks again.

@@ -17,7 +17,7 @@ use Rattle.hosted_tick.specs.Hosting.{Held, state_of}
 use Rattle.hosted_tick.specs.Next.{State}
 use Rattle.run_status.specs.declared.status.Status.{Status}
 use Rattle.run_status.specs.declared.status.Status.TheVariants as statuses
-use Rattle.command_words.specs.Words.{AreRun, Asks, AsksAtLeast}
+use Rattle.command_words.specs.Words.{AreRunBy, Asks, AsksAtLeast}
 use Rattle.world_replay.specs.Listed.{listed}
 use Rattle.world_replay.specs.Differing.{DifferAt}
 use Rattle.world_replay.specs.Serials.{HasRunOut, IsExhausted}
@@ -28,7 +28,7 @@ use Rattle.world_run.specs.Ends.{Outside, CutsLast, Keeps, Makes, Leaves, Leaves
 use Rattle.world_replay.proofs.Listing.{file_listed, exhausted_shown}
 use Rattle.world_run.proofs.Worldly.{shown, follow_shown, last_shown, many_shown, output_left, cuts_left, records_shown, start_is}
 
-module _ (words : List (List ℕ)) (old new : Outside) where
+module _ (most : ℕ) (words : List (List ℕ)) (old new : Outside) where
   -- Some ticks of stored worlds, of which this is known.
   abbrev Stored_made : (Stored → List Upload → List held.Step → Type 0) → Type 0
   Stored_made Known =
@@ -40,11 +40,11 @@ module _ (words : List (List ℕ)) (old new : Outside) where
   -- what is known of a run of stored worlds
   pub record IsStored (status : Status) : Type 0 where
     pub done : status ≡ statuses.Done → (first : Stored) × (stream : List Upload) × (steps : List held.Step)
-        × Asks words (length steps) × ReadsWorld old.world new.world (world_of first) × IsSound first × ReadsUploads old.uploads new.uploads stream
+        × Asks most words (length steps) × ReadsWorld old.world new.world (world_of first) × IsSound first × ReadsUploads old.uploads new.uploads stream
         × held.Leaves old.disk new.disk old.written new.written stream first steps
     pub only : IsOfRun status
-    pub usage : status ≡ statuses.Usage → AreRun words → ⊥
-    pub said : IsPastWords status → AreRun words
+    pub usage : status ≡ statuses.Usage → AreRunBy most words → ⊥
+    pub said : IsPastWords status → AreRunBy most words
     pub world_refused : (fault : WorldFault) → status ≡ statuses.World fault → ReadsFault old.world new.world fault
     pub world_accepted : IsPastWorld status → (found : World) × ReadsWorld old.world new.world found
     pub uploads_refused : (at : ℕ) → status ≡ statuses.Uploads at → ReadsBad old.uploads new.uploads at
@@ -54,7 +54,7 @@ module _ (words : List (List ℕ)) (old new : Outside) where
         × IfSome old.disk (λ bytes. (base : Stored) × (entries : List TickRecord) × IsJournal base entries bytes × DifferAt at kept given (base_content base) (base_content first))
     pub other_kept : (at : ℕ) (kept given : Option ℕ) → status ≡ statuses.OtherWorld at kept given → IsKept old.disk new.disk × (new.written ≡ old.written)
     pub exhausted : (index : ℕ) → status ≡ statuses.IdsExhausted index → (first : Stored) × (stream : List Upload) × (steps : List held.Step)
-        × AsksAtLeast words (suc (length steps)) × ReadsWorld old.world new.world (world_of first) × IsSound first × ReadsUploads old.uploads new.uploads stream
+        × AsksAtLeast most words (suc (length steps)) × ReadsWorld old.world new.world (world_of first) × IsSound first × ReadsUploads old.uploads new.uploads stream
         × (leaves : held.Leaves old.disk new.disk old.written new.written stream first steps)
         × HasRunOut (held.last_of leaves.prints.first steps).world index
     pub read_fault : status ≡ statuses.ReadFault → (Rose old.world_faults new.world_faults × (new.uploads ≡ old.uploads))
@@ -63,15 +63,15 @@ module _ (words : List (List ℕ)) (old new : Outside) where
     pub disk_fault : status ≡ statuses.DiskFault → Rose old.disk_faults new.disk_faults
     pub untouched : IsBeforeJournal status → (new.disk ≡ old.disk) × (new.written ≡ old.written)
     pub write_stopped : status ≡ statuses.WriteFault → (first : Stored) × (stream : List Upload) × (steps : List held.Step)
-        × AsksAtLeast words (length steps) × ReadsWorld old.world new.world (world_of first) × IsSound first × ReadsUploads old.uploads new.uploads stream
+        × AsksAtLeast most words (length steps) × ReadsWorld old.world new.world (world_of first) × IsSound first × ReadsUploads old.uploads new.uploads stream
         × held.LeavesPart old.disk new.disk old.written new.written stream first steps
     pub disk_stopped : status ≡ statuses.DiskFault → (new.written ≡ old.written)
         ⊎ ((first : Stored) × (stream : List Upload) × (steps : List held.Step)
-        × AsksAtLeast words (length steps) × ReadsWorld old.world new.world (world_of first) × IsSound first × ReadsUploads old.uploads new.uploads stream
+        × AsksAtLeast most words (length steps) × ReadsWorld old.world new.world (world_of first) × IsSound first × ReadsUploads old.uploads new.uploads stream
         × held.Prints old.disk old.written new.written stream first steps)
     pub memory_stopped : status ≡ statuses.Memory → (IsKept old.disk new.disk × (new.written ≡ old.written))
         ⊎ ((first : Stored) × (stream : List Upload) × (steps : List held.Step)
-        × AsksAtLeast words (length steps) × ReadsWorld old.world new.world (world_of first) × IsSound first × ReadsUploads old.uploads new.uploads stream
+        × AsksAtLeast most words (length steps) × ReadsWorld old.world new.world (world_of first) × IsSound first × ReadsUploads old.uploads new.uploads stream
         × held.Leaves old.disk new.disk old.written new.written stream first steps)
     pub unread : status ≡ statuses.Usage → (new.world ≡ old.world) × (new.uploads ≡ old.uploads)
     pub uploads_unread : (fault : WorldFault) → status ≡ statuses.World fault → new.uploads ≡ old.uploads
@@ -84,7 +84,7 @@ module _ (words : List (List ℕ)) (old new : Outside) where
       start : state_of first ≡ resumed (listed (world_of world)) entries
       start = start_is (world_as_read world) entries first at ∙ ap (λ (b : Stored). resumed b entries) (sym base_is)
 
-      made : Stood old.disk (world_as_read world) entries → Makes words old new (world_of world) stream entries (map shown steps)
+      made : Stood old.disk (world_as_read world) entries → Makes most words old new (world_of world) stream entries (map shown steps)
       made stood = record {
         world = read;
         uploads = uploads;
@@ -92,18 +92,18 @@ module _ (words : List (List ℕ)) (old new : Outside) where
         follow = subst (λ (s : State). Follow stream s (map shown steps)) start (follow_shown stream first steps follow);
       }
 
-      kept : IfSome new.disk (IsWholeJournal (world_as_read world) (entries ++ held.recorded_of steps)) → Keeps words old new (world_of world) entries (map shown steps)
+      kept : IfSome new.disk (IsWholeJournal (world_as_read world) (entries ++ held.recorded_of steps)) → Keeps most words old new (world_of world) entries (map shown steps)
       kept is =
           subst (λ (b : Stored). IfSome new.disk (IsWholeJournal b (entries ++ recorded_of (map shown steps)))) (sym base_is)
           (subst (λ (l : List TickRecord). IfSome new.disk (IsWholeJournal (world_as_read world) (entries ++ l))) (sym (records_shown steps)) is)
 
-      given : Appends old.written new.written (held.output first.world steps) → Appends old.written new.written (output (start_of words old new (world_of world) entries) (map shown steps))
+      given : Appends old.written new.written (held.output first.world steps) → Appends old.written new.written (output (start_of most words old new (world_of world) entries) (map shown steps))
       given is = subst (λ (s : State). Appends old.written new.written (output s.world (map shown steps))) start (output_left stream first steps follow old.written new.written is)
 
-      cut : held.CutsLast old.written new.written first.world steps → CutsLast old.written new.written (start_of words old new (world_of world) entries) (map shown steps)
+      cut : held.CutsLast old.written new.written first.world steps → CutsLast old.written new.written (start_of most words old new (world_of world) entries) (map shown steps)
       cut is = subst (λ (s : State). CutsLast old.written new.written s.world (map shown steps)) start (cuts_left stream first steps follow old.written new.written is)
 
-    left : (l : held.Leaves old.disk new.disk old.written new.written stream world steps) → Leaves words old new (world_of world) stream l.prints.entries (map shown steps)
+    left : (l : held.Leaves old.disk new.disk old.written new.written stream world steps) → Leaves most words old new (world_of world) stream l.prints.entries (map shown steps)
     left l =
         let p = l.prints in
         record {
@@ -112,15 +112,15 @@ module _ (words : List (List ℕ)) (old new : Outside) where
           output_is = given p.entries p.first p.at_end p.follow p.output_is;
         }
 
-    left_part : (l : held.LeavesPart old.disk new.disk old.written new.written stream world steps) → LeavesPart words old new (world_of world) stream l.entries (map shown steps)
+    left_part : (l : held.LeavesPart old.disk new.disk old.written new.written stream world steps) → LeavesPart most words old new (world_of world) stream l.entries (map shown steps)
     left_part l = record {
       makes = made l.entries l.first l.at_end l.follow l.stood;
       journal_is = kept l.entries l.first l.at_end l.follow l.journal_is;
       output_is = cut l.entries l.first l.at_end l.follow l.output_is;
     }
 
-    asked : AsksAtLeast words (length steps) → Asked words old new (map shown steps)
-    asked asks = subst (AsksAtLeast words) (sym (many_shown steps)) asks
+    asked : AsksAtLeast most words (length steps) → Asked most words old new (map shown steps)
+    asked asks = subst (AsksAtLeast most words) (sym (many_shown steps)) asks
 
     exhausted_here : (entries : List TickRecord) (first : Held) → held.IsAt (world_as_read world) entries first → held.Follow stream first steps → (index : ℕ)
         → HasRunOut (held.last_of first steps).world index → IsExhausted (last_of (resumed (listed (world_of world)) entries) (map shown steps)).world index
@@ -141,10 +141,10 @@ module _ (words : List (List ℕ)) (old new : Outside) where
     contents = subst (DifferAt at kept given (base_content h.0)) (sym (ap base_content (file_listed world sound) ∙ as_read_same world)) h.3;
   }
 
-  ends_as : (status : Status) → IsStored status → Ends words old new status
+  ends_as : (status : Status) → IsStored status → Ends most words old new status
   ends_as statuses.Done h =
       let d = h.done refl in
-      (world_of d.0, d.1, d.7.prints.entries, map shown d.2, (subst (Asks words) (sym (many_shown d.2)) d.3, left d.0 d.1 d.2 d.4 d.5 d.6 d.7))
+      (world_of d.0, d.1, d.7.prints.entries, map shown d.2, (subst (Asks most words) (sym (many_shown d.2)) d.3, left d.0 d.1 d.2 d.4 d.5 d.6 d.7))
   ends_as statuses.Usage h = let read = h.unread refl in (h.usage refl, h.untouched tt, read.0, read.1)
   ends_as (statuses.World fault) h = (h.said tt, h.world_refused fault refl, h.untouched tt, h.uploads_unread fault refl)
   ends_as (statuses.Uploads at) h = (h.said tt, h.world_accepted tt, h.uploads_refused at refl, h.untouched tt)
@@ -171,7 +171,7 @@ module _ (words : List (List ℕ)) (old new : Outside) where
       (h.said tt, h.uploads_accepted tt, (world_of d.0, d.1, other_listed at kept given d.0 d.2 old.disk d.3), record { disk = left.0; sink = left.1 })
   ends_as (statuses.IdsExhausted index) h =
       let d = h.exhausted index refl in
-      let asks = subst (λ (n : ℕ). AsksAtLeast words (suc n)) (sym (many_shown d.2)) d.3 in
+      let asks = subst (λ (n : ℕ). AsksAtLeast most words (suc n)) (sym (many_shown d.2)) d.3 in
       let p = d.7.prints in
       (world_of d.0, d.1, p.entries, map shown d.2, (asks, left d.0 d.1 d.2 d.4 d.5 d.6 d.7, exhausted_here d.0 d.1 d.2 d.4 d.5 d.6 p.entries p.first p.at_end p.follow index d.8))
   ends_as statuses.Memory h = elim (h.memory_stopped refl) [
@@ -183,5 +183,5 @@ module _ (words : List (List ℕ)) (old new : Outside) where
   ends_as (statuses.Differs tick room at kept ruled) h = h.only
   ends_as statuses.NoJournal h = h.only
 
-pub stored_ends : (words : List (List ℕ)) (old new : Outside) (status : Status) → IsStored words old new status → Ends words old new status
-stored_ends words old new status h = ends_as words old new status h
+pub stored_ends : (most : ℕ) (words : List (List ℕ)) (old new : Outside) (status : Status) → IsStored most words old new status → Ends most words old new status
+stored_ends most words old new status h = ends_as most words old new status h

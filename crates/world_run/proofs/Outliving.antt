@@ -24,8 +24,8 @@ follow_front stream first [] [] f = f
 follow_front stream first [] (step ∷ rest) f = f.0
 follow_front stream first (step ∷ begun) rest f = (f.0, f.1, f.2, follow_front stream step.after begun rest f.3)
 
-module _ (words : List (List ℕ)) (old new : Outside) where
-  outlasts_shown : (stream : List Upload) (bytes : List ℕ) (base : Stored) (entries : List TickRecord) (count : ℕ) → Asks words count → crashes.Outlasts old.written new.written stream bytes base entries count old.moments new.moments → Outlasts words old new stream bytes base entries
+module _ (most : ℕ) (words : List (List ℕ)) (old new : Outside) where
+  outlasts_shown : (stream : List Upload) (bytes : List ℕ) (base : Stored) (entries : List TickRecord) (count : ℕ) → Asks most words count → crashes.Outlasts old.written new.written stream bytes base entries count old.moments new.moments → Outlasts most words old new stream bytes base entries
   outlasts_shown stream bytes base entries count asks o = elim o.printed [
     | inl same ↦ record {
       steps = [];
@@ -61,15 +61,15 @@ module _ (words : List (List ℕ)) (old new : Outside) where
         })
   ]
 
-  stood_as : (world : Stored) (bytes : List ℕ) (base : Stored) (entries : List TickRecord) → IsSound world → Began words old new (world_of world) bytes base entries → crashes.StoodAs world bytes base entries
+  stood_as : (world : Stored) (bytes : List ℕ) (base : Stored) (entries : List TickRecord) → IsSound world → Began most words old new (world_of world) bytes base entries → crashes.StoodAs world bytes base entries
   stood_as world bytes base entries sound (inl none) = inl (none.0, none.1 ∙ file_listed world sound, none.2)
   stood_as world bytes base entries sound (inr is) = inr is
 
   pub outlives_shown : ((bytes : List ℕ) → Rests bytes old.disk old.moments
       → ((new.moments ≡ old.moments) × (new.disk ≡ old.disk) × (new.written ≡ old.written))
-      ⊎ ((first : Stored) × (stream : List Upload) × (count : ℕ) × Asks words count × ReadsWorld old.world new.world (world_of first) × IsSound first × ReadsUploads old.uploads new.uploads stream
+      ⊎ ((first : Stored) × (stream : List Upload) × (count : ℕ) × Asks most words count × ReadsWorld old.world new.world (world_of first) × IsSound first × ReadsUploads old.uploads new.uploads stream
       × ((base : Stored) (entries : List TickRecord) → crashes.StoodAs first bytes base entries → crashes.Outlasts old.written new.written stream bytes base entries count old.moments new.moments)))
-      → Outlives words old new
+      → Outlives most words old new
   outlives_shown h = λ bytes rests. elim (h bytes rests) [
     | inl same ↦ inl (same.0, (same.1, same.2))
     | inr d ↦ inr (world_of d.0, d.1, d.4, d.6, λ base entries began. outlasts_shown d.1 bytes base entries d.2 d.3 (d.7 base entries (stood_as d.0 bytes base entries d.5 began)))

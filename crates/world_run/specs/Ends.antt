@@ -15,7 +15,7 @@ use Rattle.world_journal.specs.Faults.{FailsAt}
 use Rattle.world_journal.specs.Journals.{IsJournal, IsQuiet, IsWholeJournal}
 use Rattle.run_lines.specs.Lines.{start_line}
 use Rattle.world_replay.specs.Listed.{listed}
-use Rattle.command_words.specs.Words.{AreRun, Asks, AsksAtLeast}
+use Rattle.command_words.specs.Words.{AreRunBy, Asks, AsksAtLeast}
 use Rattle.world_replay.specs.Serials.{IsExhausted}
 use Rattle.world_run.specs.Runs.{Step, Follow, last_of, output, recorded_of, resumed, step_lines}
 use Rattle.world_run.specs.Runs.{AppendsPart, ReadsWorld, ReadsFault, ReadsUploads, ReadsBad, HasOther}
@@ -45,8 +45,8 @@ CutsLast old new first steps =
     (earlier : List Step) × (last : Step) × (steps ≡ earlier ++ last ∷ [])
     × AppendsPart old new (output first earlier) (step_lines last)
 
--- Of the words of a call, and of what is outside before and after it:
-module _ (words : List (List ℕ)) (old new : Outside) where
+-- Of the most workers that a call takes, of its words, and of what is outside before and after it:
+module _ (most : ℕ) (words : List (List ℕ)) (old new : Outside) where
   abbrev pub AcceptsWorld : Type 0
   AcceptsWorld = (world : World) × ReadsWorld old.world new.world world
 
@@ -100,41 +100,42 @@ module _ (words : List (List ℕ)) (old new : Outside) where
 
   -- At least so many ticks were asked for.
   abbrev pub Asked : List Step → Type 0
-  Asked steps = AsksAtLeast words (length steps)
+  Asked steps = AsksAtLeast most words (length steps)
 
   -- A run ends with this status.
   abbrev pub Ends : Status → Type 0
   -- All was done: the journal has the file's world, the records that it had, and one for each tick, with what
   -- each player's module emits of what he sees; and their lines were printed.
   Ends statuses.Done =
-      Some_made (λ first stream entries steps. Asks words (length steps) × Leaves first stream entries steps)
+      Some_made (λ first stream entries steps. Asks most words (length steps)
+      × Leaves first stream entries steps)
   -- The words are not those of a run; nothing was read.
   Ends statuses.Usage =
-      (AreRun words → ⊥) × IsUntouched × (new.world ≡ old.world) × (new.uploads ≡ old.uploads)
+      (AreRunBy most words → ⊥) × IsUntouched × (new.world ≡ old.world) × (new.uploads ≡ old.uploads)
   -- The world file has this fault; the uploads were not read.
   Ends (statuses.World fault) =
-      AreRun words × ReadsFault old.world new.world fault × IsUntouched × (new.uploads ≡ old.uploads)
+      AreRunBy most words × ReadsFault old.world new.world fault × IsUntouched × (new.uploads ≡ old.uploads)
   -- The stream of uploads has its first bad entry there.
   Ends (statuses.Uploads at) =
-      AreRun words × AcceptsWorld × ReadsBad old.uploads new.uploads at × IsUntouched
+      AreRunBy most words × AcceptsWorld × ReadsBad old.uploads new.uploads at × IsUntouched
   -- A source failed: that of the world file, or that of the uploads behind an accepted world file.
   Ends statuses.ReadFault =
-      AreRun words
+      AreRunBy most words
       × ((Rose old.world_faults new.world_faults × (new.uploads ≡ old.uploads))
       ⊎ (Rose old.uploads_faults new.uploads_faults × AcceptsWorld))
       × IsUntouched
   -- The disk has bytes that are no journal: the frame behind the gate at the place is the first that fails.
   Ends (statuses.NotAJournal at) =
-      AreRun words × AcceptsWorld × AcceptsUploads × IfSome old.disk (FailsAt at) × IsUntouched
+      AreRunBy most words × AcceptsWorld × AcceptsUploads × IfSome old.disk (FailsAt at) × IsUntouched
   -- The journal on the disk begins with another world than the file's.
   Ends (statuses.OtherWorld at kept given) =
-      AreRun words × AcceptsUploads
+      AreRunBy most words × AcceptsUploads
       × ((first : World) × ReadsWorld old.world new.world first
       × IfSome old.disk (HasOther at kept given first))
       × IsUnprinted
   -- The disk failed: nothing was printed, or the lines of some ticks. What it holds then is told apart.
   Ends statuses.DiskFault =
-      AreRun words × AcceptsWorld × AcceptsUploads × Rose old.disk_faults new.disk_faults
+      AreRunBy most words × AcceptsWorld × AcceptsUploads × Rose old.disk_faults new.disk_faults
       × ((new.written ≡ old.written) ⊎ Some_made (λ first stream entries steps. Asked steps
       × Makes first stream entries steps
       × Appends old.written new.written (output (start_of first entries) steps)))
@@ -144,7 +145,7 @@ module _ (words : List (List ℕ)) (old new : Outside) where
       × Some_made (λ first stream entries steps. Asked steps × LeavesPart first stream entries steps)
   -- Before a further tick this room is the first whose serials are used up; all ticks before it were done.
   Ends (statuses.IdsExhausted index) =
-      Some_made (λ first stream entries steps. AsksAtLeast words (suc (length steps))
+      Some_made (λ first stream entries steps. AsksAtLeast most words (suc (length steps))
       × Leaves first stream entries steps
       × IsExhausted (last_of (resumed (listed first) entries) steps).world index)
   -- Memory was wanted: before anything was printed, or behind some ticks, which were done.
@@ -168,7 +169,7 @@ module _ (words : List (List ℕ)) (old new : Outside) where
 
   -- Words of a run, good inputs, and a disk that is empty or has a journal of the world, of which none fails.
   pub record IsGood : Type 0 where
-    pub run : AreRun words
+    pub run : AreRunBy most words
     pub world_bytes : List ℕ
     pub world_left : old.world ≡ Some world_bytes
     pub world : World

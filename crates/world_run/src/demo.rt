@@ -66,7 +66,16 @@ fn demonstrate(alloc: Global, seed: u64, rooms: u32, ticks: u64) -> Result<Vec<u
     let uploads = uploads_of(&stream);
     let mut lines = MemorySink::new(alloc, Vec::new(alloc));
     let mut disk = MemoryDisk::new(Vec::new(alloc), Vec::new(alloc), None);
-    match keep_journal(alloc, world, uploads, ticks, &mut lines, &mut disk) {
+    match keep_journal(
+        alloc,
+        &player_runs::InTurn,
+        &room_step::InTurn,
+        world,
+        uploads,
+        ticks,
+        &mut lines,
+        &mut disk,
+    ) {
         Status::Done => match text_of(alloc, lines.written(), disk.bytes().len()) {
             Ok(text) => Ok(text),
             Err(_) => Err(Status::Memory),

@@ -9,7 +9,7 @@ ghost use Rattle.world_form.specs.declared.fault.WorldFault.{WorldFault};
 ghost use Rattle.world_run.specs.inner.Held.{HaveTiles, MayStart};
 ghost use Rattle.world_run.specs.inner.Stages.{status_of_fault, IsOfWords, IsOfWorld, IsOfUploads};
 ghost use Rattle.world_run.specs.inner.Stages.{IsOfInputs, IsPastWorld};
-ghost use Rattle.command_words.specs.Words.{AreRun, Asks};
+ghost use Rattle.command_words.specs.Words.{AreRunBy, Asks};
 ghost use Rattle.world_run.specs.Runs.{ReadsWorld, ReadsFault, IsPastWords};
 
 use command_words::{Command, WordsFault, read_words};
@@ -34,14 +34,15 @@ pub(crate) struct Inputs {
     pub stream: Vec<u8>,
 }
 
-/// Reads all inputs, in their order.
+/// Reads all inputs, in their order. The words may ask for so many workers at most.
 pub(crate) fn read_inputs<W: Source, U: Source>(
     alloc: Global,
+    most: u32,
     words: &[String],
     world: &mut W,
     uploads: &mut U,
 ) -> Result<Inputs, Status>
-    ensures run { IfOk result (λ inputs. Asks (map string_bytes words.now) inputs.ticks) }
+    ensures run { IfOk result (λ inputs. Asks most (map string_bytes words.now) inputs.ticks) }
     ensures found { IfOk result
         (λ inputs. ReadsWorld (W.left world.old) (W.left world.new) (world_of inputs.world)) }
     ensures starts { IfOk result (λ inputs. MayStart inputs.world) }
@@ -50,8 +51,9 @@ pub(crate) fn read_inputs<W: Source, U: Source>(
         (λ inputs. GaveAll (U.left uploads.old) (U.left uploads.new) inputs.stream.items) }
     ensures within { IfOk result (λ inputs. length inputs.stream.items ≤ 2 ^ 28) }
     ensures only { IfErr result IsOfInputs }
-    ensures usage { IfErr result (λ status. status ≡ Status.Usage → AreRun (map string_bytes words.now) → ⊥) }
-    ensures words { IfErr result (λ status. IsPastWords status → AreRun (map string_bytes words.now)) }
+    ensures usage { IfErr result (λ status. status ≡ Status.Usage
+        → AreRunBy most (map string_bytes words.now) → ⊥) }
+    ensures words { IfErr result (λ status. IsPastWords status → AreRunBy most (map string_bytes words.now)) }
     ensures world_refused { IfErr result (λ status. (fault : WorldFault) → status ≡ Status.World fault
         → ReadsFault (W.left world.old) (W.left world.new) fault) }
     ensures world_accepted { IfErr result (λ status. IsPastWorld status
@@ -72,7 +74,7 @@ pub(crate) fn read_inputs<W: Source, U: Source>(
     ensures steady_else { IfErr result (λ status. status ≢ Status.ReadFault
         → (W.faults world.new ≡ W.faults world.old) × (U.faults uploads.new ≡ U.faults uploads.old)) }
     ensures complete { IfErr result (λ status. (bytes stream : List ℕ) → (found : GameWorld)
-        → AreRun (map string_bytes words.now)
+        → AreRunBy most (map string_bytes words.now)
         → W.left world.old ≡ Some bytes → WorldForm bytes found → U.left uploads.old ≡ Some stream
         → length stream ≤ 2 ^ 28
         → (Rose (W.faults world.old) (W.faults world.new) → ⊥)
@@ -81,7 +83,7 @@ pub(crate) fn read_inputs<W: Source, U: Source>(
     ensures world_later { W.faults world.old ≤ W.faults world.new }
     ensures uploads_later { U.faults uploads.old ≤ U.faults uploads.new }
 {
-    let ticks = asked_ticks(alloc, words)?;
+    let ticks = asked_ticks(alloc, most, words)?;
     let world = load_world(alloc, world)?;
     let stream = load_uploads(alloc, uploads)?;
     Ok(Inputs {
@@ -91,15 +93,16 @@ pub(crate) fn read_inputs<W: Source, U: Source>(
     })
 }
 
-// The number of ticks that the words ask for.
-fn asked_ticks(alloc: Global, words: &[String]) -> Result<u64, Status>
-    ensures run { IfOk result (Asks (map string_bytes words.now)) }
+// The number of ticks that the words ask for, by so many workers at most.
+fn asked_ticks(alloc: Global, most: u32, words: &[String]) -> Result<u64, Status>
+    ensures run { IfOk result (Asks most (map string_bytes words.now)) }
     ensures few { IfOk result (λ ticks. ticks ≤ 1000000) }
-    ensures usage { IfErr result (λ status. status ≡ Status.Usage → AreRun (map string_bytes words.now) → ⊥) }
+    ensures usage { IfErr result (λ status. status ≡ Status.Usage
+        → AreRunBy most (map string_bytes words.now) → ⊥) }
     ensures only { IfErr result IsOfWords }
 {
     match read_words(alloc, words) {
-        Ok(Command::Run { ticks, .. }) => Ok(ticks),
+        Ok(Command::Run { ticks, workers, .. }) if workers <= most => Ok(ticks),
         Ok(_) => Err(Status::Usage),
         Err(WordsFault::Usage) => Err(Status::Usage),
         Err(WordsFault::Memory) => Err(Status::Memory),

@@ -10,6 +10,6 @@ mod ticks;
 
 pub use demo::run_in_memory;
 pub use player_run::Refusal;
-pub use run::run_alone;
+pub use run::{run_alone, run_by};
 pub use run_status::Status;
 pub use std::alloc::AllocError as NoMemory;

@@ -14,7 +14,7 @@ ghost use Rattle.world_journal.specs.Faults.{FailsAt};
 ghost use Rattle.world_journal.specs.Journals.{IsJournal, IsQuiet};
 ghost use Rattle.world_replay.specs.Serials.{HasRunOut};
 ghost use Rattle.world_run.specs.inner.Held.{Step, Leaves, LeavesPart, Prints, last_of};
-ghost use Rattle.command_words.specs.Words.{AreRun, Asks, AsksAtLeast};
+ghost use Rattle.command_words.specs.Words.{AreRunBy, Asks, AsksAtLeast};
 ghost use Rattle.world_replay.specs.Listed.{listed};
 ghost use Rattle.world_replay.specs.Differing.{DifferAt};
 ghost use Rattle.world_run.specs.Runs.{ReadsWorld, ReadsFault, ReadsUploads, ReadsBad, IsKept};
@@ -26,6 +26,8 @@ ghost use Rattle.world_io.specs.Moments.{IsLeftNow, Rests};
 
 use crate::inputs::{Inputs, read_inputs};
 use crate::ticks::keep_journal;
+use player_runs::RunsPlayers;
+use room_step::StepsRooms;
 use run_status::Status;
 use std::alloc::Global;
 use upload_stream::Uploads;
@@ -47,7 +49,7 @@ pub fn run_alone<W: Source, U: Source, O: Sink, D: Disk>(
     disk: &mut D,
 ) -> Status
     requires { IsQuiet (D.seen disk.old) (D.moments disk.old) }
-    ensures { Runs (map string_bytes words.now)
+    ensures { Runs 1 (map string_bytes words.now)
         (record {
           world = W.left world.old;
           uploads = U.left uploads.old;
@@ -71,24 +73,84 @@ pub fn run_alone<W: Source, U: Source, O: Sink, D: Disk>(
           disk_faults = D.faults disk.new;
         }) result }
 {
-    run_stored(alloc, words, world, uploads, out, disk)
+    run_by(
+        alloc,
+        &player_runs::InTurn,
+        &room_step::InTurn,
+        1,
+        words,
+        world,
+        uploads,
+        out,
+        disk,
+    )
 }
 
-// The same, said of worlds as they are stored.
-fn run_stored<W: Source, U: Source, O: Sink, D: Disk>(
+/// The same, with the players run and the rooms stepped by others, in whatever order. The words may ask for
+/// so many workers at most.
+pub fn run_by<P: RunsPlayers, S: StepsRooms, W: Source, U: Source, O: Sink, D: Disk>(
     alloc: Global,
+    runner: &P,
+    stepper: &S,
+    most: u32,
     words: &[String],
     world: &mut W,
     uploads: &mut U,
     out: &mut O,
     disk: &mut D,
 ) -> Status
-    requires { IsQuiet (D.seen disk.old) (D.moments disk.old) }
+    requires runner { P.ready runner.now }
+    requires stepper { S.ready stepper.now }
+    requires quiet { IsQuiet (D.seen disk.old) (D.moments disk.old) }
+    ensures { Runs most (map string_bytes words.now)
+        (record {
+          world = W.left world.old;
+          uploads = U.left uploads.old;
+          written = O.written out.old;
+          disk = D.seen disk.old;
+          moments = D.moments disk.old;
+          world_faults = W.faults world.old;
+          uploads_faults = U.faults uploads.old;
+          sink_faults = O.faults out.old;
+          disk_faults = D.faults disk.old;
+        })
+        (record {
+          world = W.left world.new;
+          uploads = U.left uploads.new;
+          written = O.written out.new;
+          disk = D.seen disk.new;
+          moments = D.moments disk.new;
+          world_faults = W.faults world.new;
+          uploads_faults = U.faults uploads.new;
+          sink_faults = O.faults out.new;
+          disk_faults = D.faults disk.new;
+        }) result }
+{
+    run_stored(
+        alloc, runner, stepper, most, words, world, uploads, out, disk,
+    )
+}
+
+// The same, said of worlds as they are stored.
+fn run_stored<P: RunsPlayers, S: StepsRooms, W: Source, U: Source, O: Sink, D: Disk>(
+    alloc: Global,
+    runner: &P,
+    stepper: &S,
+    most: u32,
+    words: &[String],
+    world: &mut W,
+    uploads: &mut U,
+    out: &mut O,
+    disk: &mut D,
+) -> Status
+    requires runner { P.ready runner.now }
+    requires stepper { S.ready stepper.now }
+    requires quiet { IsQuiet (D.seen disk.old) (D.moments disk.old) }
     // All was done: the journal has the file's world, the records that it had, and one for each tick, with
     // what each player's module emits of what he sees, and the lines were printed.
     ensures done { result ≡ Status.Done → (first : Stored) × (stream : List UploadOfStream)
         × (steps : List Step)
-        × Asks (map string_bytes words.now) (length steps)
+        × Asks most (map string_bytes words.now) (length steps)
         × ReadsWorld (W.left world.old) (W.left world.new) (world_of first) × IsSound first
         × ReadsUploads (U.left uploads.old) (U.left uploads.new) stream
         × Leaves (D.seen disk.old) (D.seen disk.new) (O.written out.old)
@@ -96,8 +158,8 @@ fn run_stored<W: Source, U: Source, O: Sink, D: Disk>(
     ensures only { IsOfRun result }
 
     // Each refusal of an input comes exactly where the input has its fault.
-    ensures usage { result ≡ Status.Usage → AreRun (map string_bytes words.now) → ⊥ }
-    ensures words { IsPastWords result → AreRun (map string_bytes words.now) }
+    ensures usage { result ≡ Status.Usage → AreRunBy most (map string_bytes words.now) → ⊥ }
+    ensures words { IsPastWords result → AreRunBy most (map string_bytes words.now) }
     ensures world_refused { (fault : WorldFault) → result ≡ Status.World fault
         → ReadsFault (W.left world.old) (W.left world.new) fault }
     ensures world_accepted { IsPastWorld result → (found : GameWorld)
@@ -120,7 +182,7 @@ fn run_stored<W: Source, U: Source, O: Sink, D: Disk>(
     // it were done.
     ensures exhausted { (index : ℕ) → result ≡ Status.IdsExhausted index
         → (first : Stored) × (stream : List UploadOfStream) × (steps : List Step)
-        × AsksAtLeast (map string_bytes words.now) (suc (length steps))
+        × AsksAtLeast most (map string_bytes words.now) (suc (length steps))
         × ReadsWorld (W.left world.old) (W.left world.new) (world_of first) × IsSound first
         × ReadsUploads (U.left uploads.old) (U.left uploads.new) stream
         × (leaves : Leaves (D.seen disk.old) (D.seen disk.new) (O.written out.old)
@@ -139,7 +201,7 @@ fn run_stored<W: Source, U: Source, O: Sink, D: Disk>(
 
     // With good inputs and no fault all is done, or serials are used up, or memory is wanted.
     ensures complete { (bytes stream : List ℕ) → (found : GameWorld) → (list : List UploadOfStream)
-        → AreRun (map string_bytes words.now)
+        → AreRunBy most (map string_bytes words.now)
         → W.left world.old ≡ Some bytes → WorldForm bytes found
         → U.left uploads.old ≡ Some stream → length stream ≤ 2 ^ 28 → UploadList stream list
         → (disk_bytes : List ℕ) (entries : List TickRecord) → D.seen disk.old ≡ Some disk_bytes
@@ -156,21 +218,21 @@ fn run_stored<W: Source, U: Source, O: Sink, D: Disk>(
         × (O.written out.new ≡ O.written out.old) }
     ensures write_stopped { result ≡ Status.WriteFault → (first : Stored) × (stream : List UploadOfStream)
         × (steps : List Step)
-        × AsksAtLeast (map string_bytes words.now) (length steps)
+        × AsksAtLeast most (map string_bytes words.now) (length steps)
         × ReadsWorld (W.left world.old) (W.left world.new) (world_of first) × IsSound first
         × ReadsUploads (U.left uploads.old) (U.left uploads.new) stream
         × LeavesPart (D.seen disk.old) (D.seen disk.new) (O.written out.old)
         (O.written out.new) stream first steps }
     ensures disk_stopped { result ≡ Status.DiskFault → (O.written out.new ≡ O.written out.old)
         ⊎ ((first : Stored) × (stream : List UploadOfStream) × (steps : List Step)
-        × AsksAtLeast (map string_bytes words.now) (length steps)
+        × AsksAtLeast most (map string_bytes words.now) (length steps)
         × ReadsWorld (W.left world.old) (W.left world.new) (world_of first) × IsSound first
         × ReadsUploads (U.left uploads.old) (U.left uploads.new) stream
         × Prints (D.seen disk.old) (O.written out.old) (O.written out.new) stream first steps) }
     ensures memory_stopped { result ≡ Status.Memory
         → (IsKept (D.seen disk.old) (D.seen disk.new) × (O.written out.new ≡ O.written out.old))
         ⊎ ((first : Stored) × (stream : List UploadOfStream) × (steps : List Step)
-        × AsksAtLeast (map string_bytes words.now) (length steps)
+        × AsksAtLeast most (map string_bytes words.now) (length steps)
         × ReadsWorld (W.left world.old) (W.left world.new) (world_of first) × IsSound first
         × ReadsUploads (U.left uploads.old) (U.left uploads.new) stream
         × Leaves (D.seen disk.old) (D.seen disk.new) (O.written out.old)
@@ -181,7 +243,7 @@ fn run_stored<W: Source, U: Source, O: Sink, D: Disk>(
         → ((D.moments disk.new ≡ D.moments disk.old) × (D.seen disk.new ≡ D.seen disk.old)
         × (O.written out.new ≡ O.written out.old))
         ⊎ ((first : Stored) × (stream : List UploadOfStream) × (ticks : ℕ)
-        × Asks (map string_bytes words.now) ticks
+        × Asks most (map string_bytes words.now) ticks
         × ReadsWorld (W.left world.old) (W.left world.new) (world_of first) × IsSound first
         × ReadsUploads (U.left uploads.old) (U.left uploads.new) stream
         × ((base : Stored) (entries : List TickRecord) → StoodAs first bytes base entries
@@ -212,12 +274,12 @@ fn run_stored<W: Source, U: Source, O: Sink, D: Disk>(
         ticks,
         world,
         stream,
-    } = match read_inputs(alloc, words, world, uploads) {
+    } = match read_inputs(alloc, most, words, world, uploads) {
         Ok(inputs) => inputs,
         Err(status) => return status,
     };
     match Uploads::read(&stream) {
-        Ok(uploads) => keep_journal(alloc, world, uploads, ticks, out, disk),
+        Ok(uploads) => keep_journal(alloc, runner, stepper, world, uploads, ticks, out, disk),
         Err(bad) => Status::Uploads(bad.place),
     }
 }

@@ -40,7 +40,9 @@ use crate::opening::{Opening, open_journal};
 use hosted_tick::{Hosted, Ticked};
 use judged_uploads::JudgedUploads;
 use object_store::World;
+use player_runs::RunsPlayers;
 use recorded_tick::{Recorder, records_may_stand};
+use room_step::StepsRooms;
 use run_lines::{later_lines, print_uploads};
 use run_status::Status;
 use site_limit::ticks_keep_the_limit_of_sites;
@@ -58,14 +60,18 @@ const MOST_PIECE: usize = 65_536;
 const MOST_LINE: usize = 64;
 
 /// Opens the journal, prints the opening line, and then runs the ticks.
-pub(crate) fn keep_journal<O: Sink, D: Disk>(
+pub(crate) fn keep_journal<P: RunsPlayers, S: StepsRooms, O: Sink, D: Disk>(
     alloc: Global,
+    runner: &P,
+    stepper: &S,
     world: World,
     stream: Uploads<'_>,
     ticks: u64,
     out: &mut O,
     disk: &mut D,
 ) -> Status
+    requires runner { P.ready runner.now }
+    requires stepper { S.ready stepper.now }
     requires starts { MayStart world }
     requires ticks { ticks ≤ 1000000 }
     requires quiet { IsQuiet (D.seen disk.old) (D.moments disk.old) }
@@ -121,18 +127,22 @@ pub(crate) fn keep_journal<O: Sink, D: Disk>(
     let Ok(()) = write_all(out, &line) else {
         return Status::WriteFault;
     };
-    run_ticks(alloc, kept, stream, ticks, out, disk)
+    run_ticks(alloc, runner, stepper, kept, stream, ticks, out, disk)
 }
 
 // Runs so many ticks.
-fn run_ticks<O: Sink, D: Disk>(
+fn run_ticks<P: RunsPlayers, S: StepsRooms, O: Sink, D: Disk>(
     alloc: Global,
+    runner: &P,
+    stepper: &S,
     first: Kept,
     stream: Uploads<'_>,
     ticks: u64,
     out: &mut O,
     disk: &mut D,
 ) -> Status
+    requires runner { P.ready runner.now }
+    requires stepper { S.ready stepper.now }
     requires hosted { IsHosted first.hosted.world }
     requires few { HaveFewSites first.hosted.world }
     requires recorder { StandsAt first.recorder first.hosted.world }
@@ -169,7 +179,7 @@ fn run_ticks<O: Sink, D: Disk>(
     let mut kept = first;
     let mut left = stream;
     for _turn in 0..ticks {
-        match one_tick(alloc, kept, &mut left, out, disk) {
+        match one_tick(alloc, runner, stepper, kept, &mut left, out, disk) {
             Ok(next) => kept = next,
             Err(status) => return status,
         }
@@ -178,13 +188,17 @@ fn run_ticks<O: Sink, D: Disk>(
 }
 
 // Runs one tick: it is recorded, and then its lines are printed.
-fn one_tick<O: Sink, D: Disk>(
+fn one_tick<P: RunsPlayers, S: StepsRooms, O: Sink, D: Disk>(
     alloc: Global,
+    runner: &P,
+    stepper: &S,
     kept: Kept,
     stream: &mut Uploads<'_>,
     out: &mut O,
     disk: &mut D,
 ) -> Result<Kept, Status>
+    requires runner { P.ready runner.now }
+    requires stepper { S.ready stepper.now }
     requires hosted { IsHosted kept.hosted.world }
     requires few { HaveFewSites kept.hosted.world }
     requires recorder { StandsAt kept.recorder kept.hosted.world }
@@ -252,7 +266,7 @@ fn one_tick<O: Sink, D: Disk>(
         return Err(Status::IdsExhausted(index));
     }
     let uploads = stream.take_tick(hosted.world().tick());
-    let Ok(made) = make_tick(alloc, hosted, &mut recorder, uploads) else {
+    let Ok(made) = make_tick(alloc, runner, stepper, hosted, &mut recorder, uploads) else {
         return Err(Status::Memory);
     };
     let Made { hosted, told } = made;
@@ -292,12 +306,16 @@ fn room_for(alloc: Global, uploads: usize) -> Result<Vec<u8>, NoMemory>
 
 // Makes the tick after a world with its uploads. The recorder, which stood at the world before, is led to the
 // one after.
-fn make_tick<'a>(
+fn make_tick<'a, P: RunsPlayers, S: StepsRooms>(
     alloc: Global,
+    runner: &P,
+    stepper: &S,
     hosted: Hosted,
     recorder: &mut Recorder,
     uploads: Uploads<'a>,
 ) -> Result<Made<'a>, NoMemory>
+    requires runner { P.ready runner.now }
+    requires stepper { S.ready stepper.now }
     requires hosted { IsHosted hosted.world }
     requires few { HaveFewSites hosted.world }
     requires recorder { StandsAt recorder.old hosted.world }
@@ -325,7 +343,7 @@ fn make_tick<'a>(
 {
     records_may_stand();
     ticks_keep_the_limit_of_sites();
-    let done = hosted.tick(alloc, uploads)?;
+    let done = hosted.tick(alloc, runner, stepper, uploads)?;
     let lines = later_lines(alloc, &done.runs, done.hosted.world())?;
     let room = room_for(alloc, done.uploads.count())?;
     let Ticked {

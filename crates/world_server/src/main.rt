@@ -10,11 +10,12 @@ use server_calls::{refused_words, run_command};
 use std::env;
 use std::io::ErrorKind;
 use std::process::ExitCode;
+use std::thread::Threads;
 use world_io::{StreamSink, write_all};
 
 fn main(rt: HostRuntime) -> ExitCode {
     let status = match words_after_the_name(&rt) {
-        Ok(words) => answer(&rt, &words),
+        Ok(words) => answer(&rt, &rt, &words),
         Err(fault) => refused_words(fault),
     };
     if status != Status::Done {
@@ -41,11 +42,11 @@ fn words_after_the_name(rt: &HostRuntime) -> Result<Vec<String>, WordsFault> {
     }
 }
 
-// Prints the page that the words ask for, or runs the command that they say.
-fn answer(rt: &HostRuntime, words: &[String]) -> Status {
+// Prints the page that the words ask for, or runs the command that they say, which may start threads.
+fn answer<R: Threads + Sync>(rt: &HostRuntime, threads: &R, words: &[String]) -> Status {
     match page_of(words) {
         Some(page) => print(rt, page),
-        None => run_command(rt, words),
+        None => run_command(rt, threads, words),
     }
 }
 

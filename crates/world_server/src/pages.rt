@@ -7,7 +7,7 @@ const HELP: &str =
     tick, and keeps all that happens in a journal.\n\
     \n\
     Choices:\n\
-    \x20 run WORLD UPLOADS JOURNAL --ticks N  runs N ticks and prints the lines of each\n\
+    \x20 run WORLD UPLOADS JOURNAL --ticks N  runs N ticks and prints the lines of each; with --workers K by K threads\n\
     \x20 check MODULE                         says whether players may upload a module\n\
     \x20 gen SEED ROOMS PART                  prints a world that is made of a number, or its players' modules\n\
     \x20 demo SEED ROOMS TICKS                runs such a world in memory, and prints how its last tick ended\n\
@@ -23,16 +23,18 @@ const HELP: &str =
     begin with -. The exit status is 0 where all was done; else a line `fault STATUS CAUSE` goes to standard\n\
     error. docs/hosting.md explains each, and docs/players.md how to write a module.\n";
 
-const RUN_HELP: &str = "world_server run WORLD UPLOADS JOURNAL --ticks N\n\
+const RUN_HELP: &str = "world_server run WORLD UPLOADS JOURNAL --ticks N [--workers K]\n\
     \n\
     Runs N ticks on a world, and prints the lines of each. Each tick is in the journal before it is printed.\n\
     \n\
-    \x20 WORLD      the path of a world file, of at most 64 MiB\n\
-    \x20 UPLOADS    the path of a stream of modules that players upload, of at most 256 MiB; where nobody uploads,\n\
-    \x20            an empty file\n\
-    \x20 JOURNAL    the path of the journal: where none stands it is begun, and else the run goes on from its last\n\
-    \x20            tick; it has to begin with this world\n\
-    \x20 --ticks N  how many ticks, in digits: 0 to 1000000\n\
+    \x20 WORLD        the path of a world file, of at most 64 MiB\n\
+    \x20 UPLOADS      the path of a stream of modules that players upload, of at most 256 MiB; where nobody\n\
+    \x20              uploads, an empty file\n\
+    \x20 JOURNAL      the path of the journal: where none stands it is begun, and else the run goes on from its\n\
+    \x20              last tick; it has to begin with this world\n\
+    \x20 --ticks N    how many ticks, in digits: 0 to 1000000\n\
+    \x20 --workers K  how many threads run players and step rooms, in digits: 1 to 16; where it is left out, 1.\n\
+    \x20              The lines and the journal are the same with any number\n\
     \n\
     An example, in the top folder of the repository:\n\
     \x20 world_server run worlds/small.json worlds/no_uploads.bin small.journal --ticks 2\n\

@@ -1,6 +1,6 @@
 -- The rooms of a world that are stepped one after the other.
 use Rattle.std.specs.Prelude.{◌≡◌, ℕ, ◌+◌, ◌≤◌, ◌==◌, if◌then◌else◌, List, [], ◌∷◌, ◌++◌, length, map, suc}
-use Rattle.std.specs.Prelude.{Option, Some, None, slice_get, slice_index_or}
+use Rattle.std.specs.Prelude.{Option, Some, None, slice_get}
 use Rattle.std.specs.List.{AllByRecursion}
 use Rattle.intent_book.specs.declared.intent.Intent.{Intent}
 use Rattle.intent_book.specs.declared.player_run.PlayerRun.{PlayerRun}
@@ -15,6 +15,8 @@ use Rattle.exit_crossing.specs.Crossing.{most_arrivals, rested_room}
 use Rattle.exit_crossing.specs.inner.Leaving.{crossers_among}
 use Rattle.ruled_tick.specs.inner.Entered.{AreGains}
 use Rattle.room_step.specs.Stepping.{IsStepped}
+use Rattle.room_step.specs.Steps.{list_at}
+use Rattle.room_step.specs.declared.steppers.SteppedRoom.{SteppedRoom}
 use Rattle.room_step.specs.declared.step.StepDone.{StepDone}
 use Rattle.room_step.specs.declared.rooms.Underway.{Underway}
 
@@ -38,6 +40,16 @@ pub record IsAdded (accounts : List Account) (room : Room) (entries : List Inten
   pub gains : (gain : ℕ → ℕ) → AreGains gain accounts old.gains.items
       → AreGains (with_points done.player done.points gain) accounts new.gains.items
 
+-- A stepped room was added to the others.
+pub record IsPut (accounts : List Account) (room : SteppedRoom) (old new : Underway) : Type 0 where
+  pub world : new.world ≡ record old.world {
+    rooms = old.world.rooms
+        ++ record { name = room.name; terrain = room.terrain; table = room.done.room } ∷ [];
+  }
+  pub crossers : new.crossers.items ≡ old.crossers.items ++ room.done.crossers
+  pub gains : (gain : ℕ → ℕ) → AreGains gain accounts old.gains.items
+      → AreGains (with_points room.done.player room.done.points gain) accounts new.gains.items
+
 -- The room is as its tick by these entries leaves it, before its creeps come to rest.
 pub record IsLeft (entries : List Intent) (room left : Room) : Type 0 where
   pub name : left.name ≡ room.name
@@ -59,10 +71,6 @@ earned_from lists index [] player = 0
 earned_from lists index (room ∷ later) player =
     total_for (room_tick book (lists index) (part_stored room)).points player
     + earned_from lists (suc index) later player
-
--- the entries of the room of an index
-abbrev pub list_at : List (List Intent) → ℕ → List Intent
-list_at lists index = slice_index_or lists index []
 
 -- These rooms were stepped, each by its entries.
 pub record HasStepped (tick : ℕ) (accounts : List Account) (lists : List (List Intent)) (done : List Room)

@@ -6,7 +6,7 @@ use Rattle.hosted_tick.proofs.Idle.{nobody_runs}
 use Rattle.hosted_tick.proofs.hosted.run_players.Goals as goal
 
 pub returns-then-is_empty-clause-runs : goal.returns-then-is_empty-clause-runs
-returns-then-is_empty-clause-runs c =
+returns-then-is_empty-clause-runs g c =
     let world = world_of c.args.world.now in
     let kept = c.args.modules.now.entries in
     subst (AreRuns world (modules_of kept) c.args.world.now.accounts) (sym c.new.ensures.items)

@@ -1,5 +1,4 @@
 use Rattle.std.proofs.Common.{sym, subst}
-use Rattle.wasm_link.specs.Linking.{Link}
 use Rattle.player_run.specs.Admission.{Accepts}
 use Rattle.hosted_tick.proofs.restore.link.Goals as goal
 

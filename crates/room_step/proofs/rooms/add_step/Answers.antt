@@ -5,11 +5,7 @@ use Rattle.exit_crossing.specs.declared.leaving.Crosser.{Crosser}
 use Rattle.ruled_tick.proofs.Places.{written_back}
 use Rattle.ruled_tick.specs.inner.Entered.{AreGains}
 use Rattle.room_step.specs.inner.Rooms.{with_points}
-use Rattle.room_step.proofs.Added.{index_left}
 use Rattle.room_step.proofs.rooms.add_step.Goals as goal
-
-pub push_room-requires-clause-index : goal.push_room-requires-clause-index
-push_room-requires-clause-index c = index_left c.args.room c.args.intents.now c.in_ok-done.done c.in_ok-done.ensures.stepped ∙ c.requires.place
 
 pub returns : goal.returns
 returns c =
@@ -21,9 +17,7 @@ returns c =
     let whole : old.gains.len ≡ length old.gains.items = omega (arith, c.deref_mut.ensures.len, ap length read) in
     let back : (with_items old.gains beside).items ≡ beside = written_back old.gains.items beside old.gains.len (long ∙ ap length read) whole in
     on_ok_weaker c.push_room.result (λ is. record {
-      done = c.in_ok-done.done;
-      step = c.in_ok-done.ensures.stepped;
       world = is;
       crossers = c.in_ok-extend_from_slice.ensures.items ∙ ap (λ (list : List Crosser). old.crossers.items ++ list) c.as_slice.ensures;
-      gains = λ gain are. subst (AreGains (with_points c.in_ok-done.done.player c.in_ok-done.done.points gain) accounts) (sym back) (c.add_gain.ensures gain (subst (AreGains gain accounts) (sym read) are));
+      gains = λ gain are. subst (AreGains (with_points c.args.room.done.player c.args.room.done.points gain) accounts) (sym back) (c.add_gain.ensures gain (subst (AreGains gain accounts) (sym read) are));
     }) c.push_room.ensures.ok

@@ -14,15 +14,15 @@ use Rattle.room_step.proofs.Next.{next_is, scheduled}
 use Rattle.room_step.proofs.rooms.next_world.Goals as goal
 
 pub push_accounted-requires-clause-gains : goal.push_accounted-requires-clause-gains
-push_accounted-requires-clause-gains c =
+push_accounted-requires-clause-gains g c =
     let gain : ℕ → ℕ = gained book (world_of c.args.world) (intents_of c.args.runs.now) in
     (gain, read_gains gain c.in_ok-stepped.accounts.items c.deref.result.now c.in_ok-stepped.stepped.gains.items c.deref-2.result.now c.deref.ensures.value c.deref-2.ensures.value (c.in_ok-stepped.ensures.gains (intents_of c.args.runs.now) c.requires.split))
 
 pub push_accounted-requires-clause-none : goal.push_accounted-requires-clause-none
-push_accounted-requires-clause-none c = ap (λ (s : Stored). s.accounts) (c.in_ok-stepped.ensures.rooms (intents_of c.args.runs.now) c.requires.split).next
+push_accounted-requires-clause-none g c = ap (λ (s : Stored). s.accounts) (c.in_ok-stepped.ensures.rooms (intents_of c.args.runs.now) c.requires.split).next
 
 pub cross-requires-clause-crossers : goal.cross-requires-clause-crossers
-cross-requires-clause-crossers c =
+cross-requires-clause-crossers g c =
     let world = c.args.world in
     let runs = c.args.runs.now in
     let list : List Intent = intents_of runs in
@@ -37,7 +37,7 @@ cross-requires-clause-crossers c =
     subst (AreCrossers pushed.rooms) (sym c.deref-3.ensures.value) (pushed_crossers world (λ intents. intents ≡ list) c.requires.sound stepped.world crossers r (accounted gain runs) (accounted-player gain runs) pushed is)
 
 pub cross-requires-clause-ready : goal.cross-requires-clause-ready
-cross-requires-clause-ready c =
+cross-requires-clause-ready g c =
     let world = c.args.world in
     let runs = c.args.runs.now in
     let list : List Intent = intents_of runs in
@@ -52,7 +52,7 @@ cross-requires-clause-ready c =
     pushed_ready world (λ intents. intents ≡ list) c.requires.sound stepped.world crossers r (accounted gain runs) (accounted-player gain runs) pushed is
 
 pub returns-clause-next : goal.returns-clause-next
-returns-clause-next c =
+returns-clause-next g c =
     let world = c.args.world in
     let runs = c.args.runs.now in
     let list : List Intent = intents_of runs in
@@ -69,7 +69,7 @@ returns-clause-next c =
     next_is world c.requires.sound runs stepped.world crossers r pushed c.cross.new.world is crossing
 
 pub returns-clause-scheduled : goal.returns-clause-scheduled
-returns-clause-scheduled c =
+returns-clause-scheduled g c =
     let world = c.args.world in
     let runs = c.args.runs.now in
     let list : List Intent = intents_of runs in
@@ -86,7 +86,7 @@ returns-clause-scheduled c =
     scheduled world c.requires.sound runs stepped.world crossers r pushed c.cross.new.world is crossing
 
 pub returns-clause-sound : goal.returns-clause-sound
-returns-clause-sound c =
+returns-clause-sound g c =
     let world = c.args.world in
     let runs = c.args.runs.now in
     let list : List Intent = intents_of runs in
@@ -101,7 +101,7 @@ returns-clause-sound c =
     c.cross.ensures.sound (pushed-IsSound world (λ intents. intents ≡ list) c.requires.sound stepped.world crossers r (accounted gain runs) (accounted-player gain runs) pushed is)
 
 pub returns-clause-forgotten : goal.returns-clause-forgotten
-returns-clause-forgotten c =
+returns-clause-forgotten g c =
     let world = c.args.world in
     let runs = c.args.runs.now in
     let list : List Intent = intents_of runs in
@@ -116,7 +116,7 @@ returns-clause-forgotten c =
     c.cross.ensures.forgotten (pushed_forgotten world (λ intents. intents ≡ list) c.requires.sound stepped.world crossers r (accounted gain runs) (accounted-player gain runs) pushed is)
 
 pub returns-clause-accounts : goal.returns-clause-accounts
-returns-clause-accounts c =
+returns-clause-accounts g c =
     let world = c.args.world in
     let runs = c.args.runs.now in
     let list : List Intent = intents_of runs in
@@ -131,7 +131,7 @@ returns-clause-accounts c =
     c.cross.ensures.frames.accounts ∙ ap (λ (s : Stored). s.accounts) is
 
 pub returns-clause-rooms : goal.returns-clause-rooms
-returns-clause-rooms c =
+returns-clause-rooms g c =
     let world = c.args.world in
     let runs = c.args.runs.now in
     let list : List Intent = intents_of runs in

@@ -4,7 +4,7 @@ use Rattle.intent_book.specs.declared.intent.Intent.{Intent}
 use Rattle.object_store.specs.declared.world.Room.{Room}
 use Rattle.world_rules.specs.Sound.{serials_bound}
 use Rattle.room_step.proofs.Whole.{keeps_its_rules}
-use Rattle.room_jobs.specs.RoomJobs.{MayBeStepped}
+use Rattle.room_step.specs.Steps.{MayBeStepped}
 use Rattle.run_examples.proofs.tick_tests.stepped_by.Goals as goal
 
 pub steps_by_workers-requires-clause-rooms : goal.steps_by_workers-requires-clause-rooms
@@ -15,6 +15,7 @@ steps_by_workers-requires-clause-rooms g c κs within =
     let few : IsTrue c.are_few.result = cc in
     subst (λ (rooms : List Room). MayBeStepped rooms lists) (sym c.room_list-rooms.ensures.all) (record {
       many = many;
+      short = (let below = c.room_list-rooms.ensures.within in omega (arith, below, ap length c.room_list-rooms.ensures.all));
       places = c.requires.sound.places;
       each = λ k room at.
           let inside : k < length world.rooms = slice_get_within world.rooms k room at in

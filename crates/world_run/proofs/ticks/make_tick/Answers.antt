@@ -42,13 +42,13 @@ follows_without before uploads entry none is = record {
 }
 
 pub record-requires : goal.record-requires
-record-requires c =
+record-requires g c =
     let done = c.in_ok-done.done in
     let many = c.records_may_stand.ensures.as_many c.args.hosted done.hosted c.args.uploads done.uploads done.runs.items c.requires.hosted c.in_ok-done.ensures.hosted c.in_ok-done.ensures.next in
     (c.args.hosted.world, c.requires.recorder, subst (HaveAsMany c.args.hosted.world) (sym c.world-2.ensures) many)
 
 pub lead-requires : goal.lead-requires
-lead-requires c =
+lead-requires g c =
     let done = c.in_ok-done.done in
     let entry = c.in_ok-entry.entry in
     let whole = with_uploads done.uploads entry in
@@ -58,7 +58,7 @@ lead-requires c =
     (c.args.hosted.world, c.requires.recorder, follows_without _ done.uploads entry none may.follows)
 
 pub returns-clause-step : goal.returns-clause-step
-returns-clause-step c =
+returns-clause-step g c =
     let done = c.in_ok-done.done in
     let entry = c.in_ok-entry.entry in
     let whole = with_uploads done.uploads entry in
@@ -75,12 +75,12 @@ returns-clause-step c =
     (step, refl, refl, is, lines)
 
 pub returns-clause-few : goal.returns-clause-few
-returns-clause-few c =
+returns-clause-few g c =
     let done = c.in_ok-done.done in
     c.ticks_keep_the_limit_of_sites.ensures c.args.hosted done.hosted c.args.uploads done.uploads done.runs.items c.requires.hosted.sound c.in_ok-done.ensures.hosted.sound c.in_ok-done.ensures.next c.requires.few
 
 pub returns-clause-follows : goal.returns-clause-follows
-returns-clause-follows c =
+returns-clause-follows g c =
     let done = c.in_ok-done.done in
     let entry = c.in_ok-entry.entry in
     let whole = with_uploads done.uploads entry in
@@ -88,7 +88,7 @@ returns-clause-follows c =
     (recorded c.args.hosted.world done.hosted.world c.world-2.result.now done.uploads done.runs.items entry c.world-2.ensures (without c.args.hosted.world c.world-2.result.now c.new.result.items done.runs.items entry c.new.ensures.items (c.in_ok-entry.ensures c.args.hosted.world c.requires.recorder)))
 
 pub returns-clause-leads : goal.returns-clause-leads
-returns-clause-leads c =
+returns-clause-leads g c =
     let done = c.in_ok-done.done in
     let entry = c.in_ok-entry.entry in
     let whole = with_uploads done.uploads entry in
@@ -96,7 +96,7 @@ returns-clause-leads c =
     (recorded c.args.hosted.world done.hosted.world c.world-2.result.now done.uploads done.runs.items entry c.world-2.ensures (without c.args.hosted.world c.world-2.result.now c.new.result.items done.runs.items entry c.new.ensures.items (c.in_ok-entry.ensures c.args.hosted.world c.requires.recorder)))
 
 pub returns-clause-recorder : goal.returns-clause-recorder
-returns-clause-recorder c =
+returns-clause-recorder g c =
     let done = c.in_ok-done.done in
     let entry = c.in_ok-entry.entry in
     let whole = with_uploads done.uploads entry in
@@ -105,10 +105,10 @@ returns-clause-recorder c =
     (recorded c.args.hosted.world done.hosted.world c.world-2.result.now done.uploads done.runs.items entry c.world-2.ensures (without c.args.hosted.world c.world-2.result.now c.new.result.items done.runs.items entry c.new.ensures.items (c.in_ok-entry.ensures c.args.hosted.world c.requires.recorder)))
 
 pub returns-clause-none : goal.returns-clause-none
-returns-clause-none c = (c.in_ok-entry.ensures c.args.hosted.world c.requires.recorder).uploads_are ∙ c.new.ensures.items
+returns-clause-none g c = (c.in_ok-entry.ensures c.args.hosted.world c.requires.recorder).uploads_are ∙ c.new.ensures.items
 
 pub returns-clause-modules : goal.returns-clause-modules
-returns-clause-modules c = λ entries start.
+returns-clause-modules g c = λ entries start.
     let done = c.in_ok-done.done in
     let whole = tick_as_read (with_uploads done.uploads c.in_ok-entry.entry) in
     judged_modules (world_of c.args.hosted.world) (state_of c.args.hosted).modules c.args.uploads (state_of done.hosted).modules done.uploads c.in_ok-done.ensures.next.judged

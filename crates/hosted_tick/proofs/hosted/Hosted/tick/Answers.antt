@@ -11,17 +11,17 @@ use Rattle.hosted_tick.proofs.After.{hosted_after, next_of}
 use Rattle.hosted_tick.proofs.hosted.Hosted.tick.Goals as goal
 
 pub next_world-requires-clause-few : goal.next_world-requires-clause-few
-next_world-requires-clause-few c = subst (λ (r : List PlayerRun). length (intents_of r) ≤ 2 ^ 18) (sym c.deref-2.ensures.value) c.in_ok-runs.ensures.few
+next_world-requires-clause-few g c = subst (λ (r : List PlayerRun). length (intents_of r) ≤ 2 ^ 18) (sym c.deref-2.ensures.value) c.in_ok-runs.ensures.few
 
 pub next_world-requires-clause-split : goal.next_world-requires-clause-split
-next_world-requires-clause-split c =
+next_world-requires-clause-split g c =
     let world = world_of c.self.inside.world in
     let wanted = c.in_ok-runs.field-0 in
     subst (λ (lists : List (List Intent)). AreSplit world (intents_of c.deref-2.result.now) lists) (sym c.deref.ensures.value)
     (subst (λ (r : List PlayerRun). AreSplit world (intents_of r) wanted.lists.items) (sym c.deref-2.ensures.value) c.in_ok-runs.ensures.split)
 
 pub returns-clause-next : goal.returns-clause-next
-returns-clause-next c =
+returns-clause-next g c =
     let world = c.self.inside.world in
     let runs = c.in_ok-runs.field-0.runs.items in
     next_of c.args.self world c.self.inside.modules.entries c.judge_all.new.modules.entries c.args.uploads c.in_ok-judged.judged runs c.in_ok-after.after
@@ -29,7 +29,7 @@ returns-clause-next c =
     (c.in_ok-after.ensures.next ∙ ap (λ (r : List PlayerRun). next_world (world_of world) r) c.deref-2.ensures.value)
 
 pub returns-clause-hosted : goal.returns-clause-hosted
-returns-clause-hosted c =
+returns-clause-hosted g c =
     let world = c.self.inside.world in
     let runs = c.deref-2.result.now in
     let hosted = subst (λ (h : Held). IsHosted h.world) (sym c.self.view_is) c.requires.hosted in

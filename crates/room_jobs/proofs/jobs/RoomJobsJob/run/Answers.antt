@@ -1,12 +1,12 @@
-use Rattle.std.proofs.Common.{◌≡◌, ℕ, ◌<◌, ◌≤◌, List, length, get_or, Some, slice_get, sym, ap, subst, ◌∙◌, arith, rules}
+use Rattle.std.proofs.Common.{◌≡◌, List, length, get_or, Some, slice_get, sym, ap, subst, ◌∙◌, arith}
 use Rattle.std.proofs.lemmas.Result.{IfOk-weaker}
 use Rattle.std.proofs.lemmas.Option.{slice_get-get_or}
 use Rattle.intent_book.specs.declared.intent.Intent.{Intent}
 use Rattle.object_store.specs.declared.world.Room.{Room}
-use Rattle.room_step.specs.inner.Rooms.{list_at}
+use Rattle.room_step.specs.Steps.{list_at}
 use Rattle.room_step.specs.Stepping.{IsStepped}
 use Rattle.room_step.proofs.Whole.{read_list}
-use Rattle.room_jobs.specs.RoomJobs.{IsStepAt}
+use Rattle.room_jobs.specs.RoomJobs.{IsStepDone}
 use Rattle.room_jobs.proofs.jobs.RoomJobsJob.run.Goals as goal
 
 pub step_room-requires-clause-rules : goal.step_room-requires-clause-rules
@@ -37,7 +37,7 @@ returns c =
     let at : slice_get jobs.rooms.now c.args.k ≡ Some room = slice_get-get_or jobs.rooms.now c.args.k c.index-self-k.result (omega (arith, c.requires, jobs.counted)) in
     let own : c.as_slice.result.now ≡ list_at jobs.lists.now c.args.k =
     c.as_slice.ensures ∙ read_list jobs.lists.now c.args.k c.index-self-k-2.result (omega (arith, c.requires, jobs.counted, jobs.may.many)) in
-    IfOk-weaker c.step_room.result (IsStepped room.terrain c.as_slice.result.now room.table) (IsStepAt jobs.rooms.now jobs.lists.now c.args.k) (λ done stepped other there.
+    IfOk-weaker c.step_room.result (IsStepped room.terrain c.as_slice.result.now room.table) (IsStepDone jobs.rooms.now jobs.lists.now c.args.k) (λ done stepped other there.
     let twice : Some other ≡ Some room = sym there ∙ at in
     let same : other ≡ room = cc in
     subst (λ (r : Room). IsStepped r.terrain (list_at jobs.lists.now c.args.k) r.table done) (sym same)

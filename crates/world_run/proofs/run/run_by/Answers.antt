@@ -1,13 +1,13 @@
 -- What is known of the run by stored worlds is all that is said of it.
 use Rattle.world_run.proofs.Ended.{stored_ends}
 use Rattle.world_run.proofs.Outliving.{outlives_shown}
-use Rattle.world_run.proofs.run.run_alone.Goals as goal
+use Rattle.world_run.proofs.run.run_by.Goals as goal
 
 pub returns : goal.returns
 returns g c =
     let e = c.run_stored.ensures in
     record {
-      ends = stored_ends _ _ _ c.run_stored.result (record {
+      ends = stored_ends _ _ _ _ c.run_stored.result (record {
         done = e.done;
         only = e.only;
         usage = e.usage;
@@ -30,7 +30,7 @@ returns g c =
         unread = e.unread;
         uploads_unread = e.uploads_unread;
       });
-      outlives = outlives_shown _ _ _ e.outlives;
+      outlives = outlives_shown _ _ _ _ e.outlives;
       read_too = e.read_too;
       rests = e.rests;
       whole = λ good. e.complete good.world_bytes good.stream_bytes good.world good.stream good.run good.world_left good.form good.stream_left good.short good.list good.disk_bytes good.entries good.told good.stood good.world_holds good.uploads_hold good.sink_holds good.disk_holds;
