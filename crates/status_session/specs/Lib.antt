@@ -1,0 +1,6 @@
+pub mod Words
+pub mod Asked
+pub mod Replies
+pub mod Session
+pub mod Served
+pub mod inner
