@@ -22,6 +22,17 @@ fn line_of(alloc: Global, command: &Command) -> Result<String, AllocError> {
             ticks,
             workers,
         } => format!(in alloc; "run {world} {uploads} {journal} {ticks} by {workers}"),
+        Command::Serve {
+            world,
+            journal,
+            ticks,
+            links,
+            port,
+            workers,
+            pace,
+        } => format!(in alloc;
+            "serve {world} {journal} {ticks} {links} {port} by {workers} at {pace}"
+        ),
         Command::Check { module } => format!(in alloc; "check {module}"),
         Command::Replay { journal } => format!(in alloc; "replay {journal}"),
         Command::Show { journal, tick } => format!(in alloc; "show {journal} {tick}"),
@@ -69,7 +80,7 @@ static COMMANDS: [(&[&str], &str); 12] = [
     (&["check", "m"], "check m"),
     (&["check", "--", "--help"], "check --help"),
     (&["check", "--help"], "usage"),
-    (&["serve", "m"], "usage"),
+    (&["watch", "m"], "usage"),
     (&[], "usage"),
 ];
 
@@ -153,6 +164,177 @@ static WORKERS: [(&[&str], &str); 15] = [
 #[test]
 fn words_say_how_many_workers(rt: HostRuntime) -> Result<(), Fail> {
     for row in &WORKERS {
+        let (words, line) = *row;
+        assert!(rt; is_said(rt.alloc(), words, line)?, "{line}");
+    }
+    Ok(())
+}
+
+static SERVING: [(&[&str], &str); 21] = [
+    (
+        &[
+            "serve",
+            "w",
+            "j",
+            "--ticks",
+            "3",
+            "--links",
+            "2",
+            "--port",
+            "8080",
+            "--workers",
+            "4",
+            "--pace",
+            "250",
+        ],
+        "serve w j 3 2 8080 by 4 at 250",
+    ),
+    (
+        &[
+            "serve", "w", "j", "--ticks", "3", "--links", "2", "--port", "8080",
+        ],
+        "serve w j 3 2 8080 by 1 at 0",
+    ),
+    (
+        &[
+            "serve",
+            "w",
+            "j",
+            "--ticks",
+            "3",
+            "--links",
+            "2",
+            "--port",
+            "8080",
+            "--workers",
+            "16",
+        ],
+        "serve w j 3 2 8080 by 16 at 0",
+    ),
+    (
+        &[
+            "serve", "w", "j", "--ticks", "3", "--links", "2", "--port", "8080", "--pace", "60000",
+        ],
+        "serve w j 3 2 8080 by 1 at 60000",
+    ),
+    (
+        &[
+            "serve",
+            "--port=65535",
+            "w",
+            "--pace=0",
+            "--links=1000000",
+            "j",
+            "--ticks=1000000",
+        ],
+        "serve w j 1000000 1000000 65535 by 1 at 0",
+    ),
+    (
+        &[
+            "serve", "w", "--ticks", "0", "--links", "0", "--port", "0001", "--", "-j",
+        ],
+        "serve w -j 0 0 1 by 1 at 0",
+    ),
+    (
+        &[
+            "serve", "w", "j", "--ticks", "3", "--links", "2", "--port", "0",
+        ],
+        "usage",
+    ),
+    (
+        &[
+            "serve", "w", "j", "--ticks", "3", "--links", "2", "--port", "65536",
+        ],
+        "usage",
+    ),
+    (
+        &[
+            "serve",
+            "w",
+            "j",
+            "--ticks",
+            "3",
+            "--links",
+            "2",
+            "--port=+1",
+        ],
+        "usage",
+    ),
+    (
+        &[
+            "serve", "w", "j", "--ticks", "3", "--links", "2", "--port", "8080", "--pace", "60001",
+        ],
+        "usage",
+    ),
+    (
+        &[
+            "serve", "w", "j", "--ticks", "3", "--links", "1000001", "--port", "8080",
+        ],
+        "usage",
+    ),
+    (
+        &[
+            "serve",
+            "w",
+            "j",
+            "--ticks",
+            "3",
+            "--links",
+            "2",
+            "--port",
+            "8080",
+            "--workers",
+            "17",
+        ],
+        "usage",
+    ),
+    (
+        &[
+            "serve", "w", "j", "--ticks", "1000001", "--links", "2", "--port", "8080",
+        ],
+        "usage",
+    ),
+    (
+        &["serve", "w", "j", "--ticks", "3", "--links", "2"],
+        "usage",
+    ),
+    (
+        &["serve", "w", "j", "--ticks", "3", "--port", "8080"],
+        "usage",
+    ),
+    (
+        &["serve", "w", "j", "--links", "2", "--port", "8080"],
+        "usage",
+    ),
+    (
+        &[
+            "serve", "w", "j", "--ticks", "3", "--links", "2", "--port", "8080", "--port", "8080",
+        ],
+        "usage",
+    ),
+    (
+        &[
+            "serve", "w", "j", "--ticks", "3", "--links", "2", "--port", "8080", "--pace", "1",
+            "--pace", "1",
+        ],
+        "usage",
+    ),
+    (
+        &[
+            "serve", "w", "j", "k", "--ticks", "3", "--links", "2", "--port", "8080",
+        ],
+        "usage",
+    ),
+    (&["serve", "m"], "usage"),
+    (
+        &["run", "w", "u", "j", "--ticks", "3", "--port", "8080"],
+        "usage",
+    ),
+];
+
+#[test]
+fn words_say_what_is_served(rt: HostRuntime) -> Result<(), Fail> {
+    for row in &SERVING {
         let (words, line) = *row;
         assert!(rt; is_said(rt.alloc(), words, line)?, "{line}");
     }

@@ -2,7 +2,7 @@
 use Rattle.std.proofs.Common.{◌≡◌, ◌≢◌, ◌∙◌, ◌+◌, ◌*◌, ◌==◌, ℕ, List, [], ◌∷◌, ap, refl, sym, subst, codes, if◌then◌else◌}
 use Rattle.std.specs.Prelude.{slice_index}
 use Rattle.clap.specs.Walk.{Text}
-use Rattle.command_words.specs.Commands.{AreNone, AreOf, Kind, a_check, a_demo, a_gen, a_replay, a_run, a_show, choice_of}
+use Rattle.command_words.specs.Commands.{AreNone, AreOf, Kind, a_check, a_demo, a_gen, a_replay, a_run, a_serve, a_show, choice_of}
 
 abbrev word_of : Kind → Text
 word_of kind = (choice_of kind).word
@@ -16,7 +16,7 @@ initials (word ∷ rest) = 256 * slice_index word 0 + slice_index word 1
 abbrev kind_at : ℕ → Kind
 kind_at n =
     if n == 25448 then a_check else (if n == 29285 then a_replay else (if n == 29544 then a_show else
-    (if n == 26469 then a_gen else (if n == 25701 then a_demo else a_run))))
+    (if n == 26469 then a_gen else (if n == 25701 then a_demo else (if n == 29541 then a_serve else a_run)))))
 
 is_at : (kind : Kind) (rest : List Text) → kind_at (initials (word_of kind ∷ rest)) ≡ kind
 is_at a_run rest = refl
@@ -25,6 +25,7 @@ is_at a_replay rest = refl
 is_at a_show rest = refl
 is_at a_gen rest = refl
 is_at a_demo rest = refl
+is_at a_serve rest = refl
 
 -- Words of a choice begin with its word.
 pub begins : (kind : Kind) (words : List Text) → AreOf kind words
@@ -35,6 +36,7 @@ begins a_replay words are = (are.1.taken.rest, are.1.taken.chosen)
 begins a_show words are = (are.2.taken.rest, are.2.taken.chosen)
 begins a_gen words are = (are.3.taken.rest, are.3.taken.chosen)
 begins a_demo words are = (are.3.taken.rest, are.3.taken.chosen)
+begins a_serve words are = (are.7.taken.rest, are.7.taken.chosen)
 
 one_choice : (one other : Kind) (words first second : List Text) → words ≡ word_of one ∷ first
     → words ≡ word_of other ∷ second → other ≡ one
@@ -63,8 +65,9 @@ pub unchosen : (words : List Text) → ((rest : List Text) → words ≡ codes "
     → ((rest : List Text) → words ≡ codes "replay" ∷ rest → ⊥)
     → ((rest : List Text) → words ≡ codes "show" ∷ rest → ⊥)
     → ((rest : List Text) → words ≡ codes "gen" ∷ rest → ⊥)
-    → ((rest : List Text) → words ≡ codes "demo" ∷ rest → ⊥) → AreNone words
-unchosen words no_run no_check no_replay no_show no_gen no_demo = none
+    → ((rest : List Text) → words ≡ codes "demo" ∷ rest → ⊥)
+    → ((rest : List Text) → words ≡ codes "serve" ∷ rest → ⊥) → AreNone words
+unchosen words no_run no_check no_replay no_show no_gen no_demo no_serve = none
   where
     none : AreNone words
     none a_run are = let b = begins a_run words are in no_run b.0 b.1
@@ -73,3 +76,4 @@ unchosen words no_run no_check no_replay no_show no_gen no_demo = none
     none a_show are = let b = begins a_show words are in no_show b.0 b.1
     none a_gen are = let b = begins a_gen words are in no_gen b.0 b.1
     none a_demo are = let b = begins a_demo words are in no_demo b.0 b.1
+    none a_serve are = let b = begins a_serve words are in no_serve b.0 b.1

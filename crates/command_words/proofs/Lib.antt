@@ -6,5 +6,6 @@ pub mod Parsed
 pub mod Plain
 pub mod Shown
 pub mod ShownRun
+pub mod ShownServe
 pub mod ShownTools
 pub mod Tools

@@ -11,8 +11,8 @@ use Rattle.clap.specs.declared.error.Error.{Error}
 use Rattle.clap.specs.declared.error.kind.ErrorKind.TheVariants.{OutOfMemory}
 use Rattle.clap.specs.declared.parser.matches.ArgMatches.{ArgMatches}
 use Rattle.command_words.specs.Numbers.{IsNumber}
-use Rattle.command_words.specs.Choices.{Choice, command_of, run, check, replay, show, gen, demo}
-use Rattle.command_words.specs.Words.{AreRooms, AreWorkers, GivesNumber, IsRun, IsCheck, IsReplay, IsShow, IsGen, IsDemo, faults_in, part_word, rows_in}
+use Rattle.command_words.specs.Choices.{Choice, command_of, run, check, replay, show, gen, demo, serve}
+use Rattle.command_words.specs.Words.{AreRooms, AreWorkers, GivesNumber, IsPace, IsRun, IsCheck, IsReplay, IsShow, IsGen, IsDemo, IsServe, faults_in, part_word, rows_in}
 use Rattle.command_words.specs.declared.command.GenPart.{GenPart}
 
 first_holds : (x y : Bool) → (x && y) ≡ true → x ≡ true
@@ -85,6 +85,11 @@ pub same_workers : (rows other : List Row) (name : Text) (workers : ℕ) → row
     → AreWorkers (first_of name other) workers → AreWorkers (first_of name rows) workers
 same_workers rows other name workers same are =
     subst (λ (r : List Row). AreWorkers (first_of name r) workers) (sym same) are
+
+pub same_pace : (rows other : List Row) (name : Text) (pace : ℕ) → rows ≡ other
+    → IsPace (first_of name other) pace → IsPace (first_of name rows) pace
+same_pace rows other name pace same is =
+    subst (λ (r : List Row). IsPace (first_of name r) pace) (sym same) is
 
 pub says_run : (words rest : List Text) (rows : List Row) (world uploads journal number : Text) (ticks workers : ℕ)
     → words ≡ codes "run" ∷ rest → faults_in run words ≡ [] → rows ≡ rows_in run words
@@ -160,4 +165,27 @@ says_demo words rest rows one two three seed rooms ticks chosen none found s one
       rooms_limits = few;
       ticks_is = number_given demo words rows (codes "TICKS") three ticks found t three_spells;
       limit = most;
+    }
+
+pub says_serve : (words rest : List Text) (rows : List Row) (world journal one two three : Text) (ticks links port workers pace : ℕ)
+    → words ≡ codes "serve" ∷ rest → faults_in serve words ≡ [] → rows ≡ rows_in serve words
+    → first_of (codes "WORLD") rows ≡ Some world → first_of (codes "JOURNAL") rows ≡ Some journal
+    → first_of (codes "ticks") rows ≡ Some one → IsNumber one ticks → ticks ≤ 1000000
+    → first_of (codes "links") rows ≡ Some two → IsNumber two links → links ≤ 1000000
+    → first_of (codes "port") rows ≡ Some three → IsNumber three port → (1 ≤ port) × (port ≤ 65535)
+    → AreWorkers (first_of (codes "workers") rows) workers → IsPace (first_of (codes "pace") rows) pace
+    → IsServe words world journal ticks links port workers pace
+says_serve words rest rows world journal one two three ticks links port workers pace chosen none found w j t
+    one_spells most l two_spells many p three_spells limits by behind = record {
+      taken = record { rest = rest; chosen = chosen; faultless = none };
+      world_is = same_value (rows_in serve words) rows (codes "WORLD") world (sym found) w;
+      journal_is = same_value (rows_in serve words) rows (codes "JOURNAL") journal (sym found) j;
+      ticks_are = number_given serve words rows (codes "ticks") one ticks found t one_spells;
+      ticks_limit = most;
+      links_are = number_given serve words rows (codes "links") two links found l two_spells;
+      links_limit = many;
+      port_is = number_given serve words rows (codes "port") three port found p three_spells;
+      port_limits = limits;
+      workers_are = same_workers (rows_in serve words) rows (codes "workers") workers (sym found) by;
+      pace_is = same_pace (rows_in serve words) rows (codes "pace") pace (sym found) behind;
     }

@@ -82,3 +82,13 @@ demo = record {
   options = [];
   optional = [];
 }
+
+-- `serve WORLD JOURNAL --ticks N --links M --port P`, and `--workers K` and `--pace MS`, which may be left
+-- out
+abbrev pub serve : Choice
+serve = record {
+  word = codes "serve";
+  positionals = codes "WORLD" ∷ codes "JOURNAL" ∷ [];
+  options = codes "ticks" ∷ codes "links" ∷ codes "port" ∷ [];
+  optional = codes "workers" ∷ codes "pace" ∷ [];
+}

@@ -1,8 +1,9 @@
 -- Words in the order in which the choices are shown.
-use Rattle.std.specs.Prelude.{◌≡◌, ◌≢◌, ℕ, ◌≤◌, ◌<◌, ◌^◌, ◌⊎◌, List, [], ◌∷◌, codes}
+use Rattle.std.specs.Prelude.{◌≡◌, ◌≢◌, ℕ, ◌≤◌, ◌<◌, ◌^◌, ◌⊎◌, List, [], ◌∷◌, ◌++◌, codes}
 use Rattle.clap.specs.Walk.{Text}
 use Rattle.command_words.specs.Numbers.{IsNumber}
-use Rattle.command_words.specs.Words.{AreRooms, IsRun, IsCheck, IsDemo, IsGen, IsReplay, IsShow, part_word}
+use Rattle.command_words.specs.Words.{AreRooms, IsRun, IsCheck, IsDemo, IsGen, IsReplay, IsServe, IsShow}
+use Rattle.command_words.specs.Words.{part_word}
 use Rattle.command_words.specs.declared.command.GenPart.{GenPart}
 
 -- The word doesn't begin with `-`.
@@ -70,6 +71,34 @@ pub record ShowsDemo (words : List Text) (seed rooms ticks : ℕ) : Type 0 where
   pub ticks_spells : IsNumber ticks_text ticks
   pub limit : ticks ≤ 1000000
 
+-- The words are `--pace MS`, or there are none, which says no pause.
+abbrev pub ShowsPace : List Text → ℕ → Type 0
+ShowsPace words pace =
+    ((words ≡ []) × (pace ≡ 0))
+    ⊎ ((number : Text) × (words ≡ codes "--pace" ∷ number ∷ []) × IsNumber number pace × (pace ≤ 60000))
+
+-- The words are `serve WORLD JOURNAL --ticks N --links M --port P`, one after the other, with `--workers K`
+-- or without, and then with `--pace MS` or without.
+pub record ShowsServe (words : List Text) (world journal : Text) (ticks links port workers pace : ℕ)
+    : Type 0 where
+  pub ticks_text : Text
+  pub links_text : Text
+  pub port_text : Text
+  pub by : List Text
+  pub behind : List Text
+  pub order : words ≡ codes "serve" ∷ world ∷ journal ∷ codes "--ticks" ∷ ticks_text ∷ codes "--links"
+      ∷ links_text ∷ codes "--port" ∷ port_text ∷ (by ++ behind)
+  pub by_workers : ShowsWorkers by workers
+  pub with_pace : ShowsPace behind pace
+  pub world_plain : IsPlain world
+  pub journal_plain : IsPlain journal
+  pub ticks_spells : IsNumber ticks_text ticks
+  pub ticks_limit : ticks ≤ 1000000
+  pub links_spells : IsNumber links_text links
+  pub links_limit : links ≤ 1000000
+  pub port_spells : IsNumber port_text port
+  pub port_limits : (1 ≤ port) × (port ≤ 65535)
+
 -- Words as they are shown are those of the command.
 pub record TakesShown (words : List Text) : Type 0 where
   pub run_taken : (world uploads journal : Text) (ticks workers : ℕ)
@@ -80,3 +109,6 @@ pub record TakesShown (words : List Text) : Type 0 where
   pub gen_taken : (seed rooms : ℕ) (part : GenPart) → ShowsGen words seed rooms part
       → IsGen words seed rooms part
   pub demo_taken : (seed rooms ticks : ℕ) → ShowsDemo words seed rooms ticks → IsDemo words seed rooms ticks
+  pub serve_taken : (world journal : Text) (ticks links port workers pace : ℕ)
+      → ShowsServe words world journal ticks links port workers pace
+      → IsServe words world journal ticks links port workers pace

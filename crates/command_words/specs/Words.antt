@@ -5,7 +5,7 @@ use Rattle.clap.specs.Simple.{matches_of}
 use Rattle.clap.specs.Faults.{fault_of}
 use Rattle.clap.specs.Kinds.{Kinds}
 use Rattle.command_words.specs.Numbers.{IsNumber}
-use Rattle.command_words.specs.Choices.{Choice, command_of, run, check, replay, show, gen, demo}
+use Rattle.command_words.specs.Choices.{Choice, command_of, run, check, replay, show, gen, demo, serve}
 use Rattle.command_words.specs.declared.command.GenPart.{GenPart}
 use Rattle.command_words.specs.declared.command.GenPart.TheVariants.{World, Uploads}
 
@@ -75,6 +75,46 @@ AreRunBy most words = (ticks : ℕ) × Asks most words ticks
 -- The words are those of a run of so many ticks or more, by at most so many workers.
 abbrev pub AsksAtLeast : ℕ → List Text → ℕ → Type 0
 AsksAtLeast most words done = (ticks : ℕ) × (done ≤ ticks) × Asks most words ticks
+
+-- ---- `serve WORLD JOURNAL --ticks N --links M --port P --workers K --pace MS`
+
+-- The value of an option says a pause of so many milliseconds, at most 60,000; where the option is left out,
+-- there is none.
+abbrev pub IsPace : Option Text → ℕ → Type 0
+IsPace None pace = pace ≡ 0
+IsPace (Some text) pace = IsNumber text pace × (pace ≤ 60000)
+
+-- The words are those of serving at most 1,000,000 ticks and at most 1,000,000 links at a port from 1 to
+-- 65,535, with these paths, by so many workers, with this pause before each tick.
+pub record IsServe (words : List Text) (world journal : Text) (ticks links port workers pace : ℕ)
+    : Type 0 where
+  pub taken : IsTaken serve words
+  pub world_is : Gives serve words (codes "WORLD") world
+  pub journal_is : Gives serve words (codes "JOURNAL") journal
+  pub ticks_are : GivesNumber serve words (codes "ticks") ticks
+  pub ticks_limit : ticks ≤ 1000000
+  pub links_are : GivesNumber serve words (codes "links") links
+  pub links_limit : links ≤ 1000000
+  pub port_is : GivesNumber serve words (codes "port") port
+  pub port_limits : (1 ≤ port) × (port ≤ 65535)
+  pub workers_are : AreWorkers (value_of serve words (codes "workers")) workers
+  pub pace_is : IsPace (value_of serve words (codes "pace")) pace
+
+-- The words are those of serving.
+abbrev pub AreServe : List Text → Type 0
+AreServe words =
+    (world : Text) × (journal : Text) × (ticks : ℕ) × (links : ℕ) × (port : ℕ) × (workers : ℕ) × (pace : ℕ)
+    × IsServe words world journal ticks links port workers pace
+
+-- The words are those of serving so many ticks.
+abbrev pub AsksToServe : List Text → ℕ → Type 0
+AsksToServe words ticks =
+    (world : Text) × (journal : Text) × (links : ℕ) × (port : ℕ) × (workers : ℕ) × (pace : ℕ)
+    × IsServe words world journal ticks links port workers pace
+
+-- The words are those of serving so many ticks or more.
+abbrev pub AsksToServeAtLeast : List Text → ℕ → Type 0
+AsksToServeAtLeast words done = (ticks : ℕ) × (done ≤ ticks) × AsksToServe words ticks
 
 -- ---- `check MODULE`
 

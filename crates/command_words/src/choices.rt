@@ -3,6 +3,7 @@ ghost use Rattle.std.specs.Prelude.{◌≡◌};
 ghost use Rattle.command_words.specs.Choices.{run as run_of_words, check as check_of_words};
 ghost use Rattle.command_words.specs.Choices.{replay as replay_of_words, show as show_of_words};
 ghost use Rattle.command_words.specs.Choices.{gen as gen_of_words, demo as demo_of_words};
+ghost use Rattle.command_words.specs.Choices.{serve as serve_of_words};
 
 use crate::simple::Choice;
 
@@ -75,5 +76,18 @@ pub(crate) fn demo<'a>() -> Choice<'a>
         positionals: &["SEED", "ROOMS", "TICKS"],
         options: &[],
         optional: &[],
+    }
+}
+
+/// `serve WORLD JOURNAL --ticks N --links M --port P`, and `--workers K` and `--pace MS`, which may be left
+/// out
+pub(crate) fn serve<'a>() -> Choice<'a>
+    ensures { result ≡ serve_of_words }
+{
+    Choice {
+        word: "serve",
+        positionals: &["WORLD", "JOURNAL"],
+        options: &["ticks", "links", "port"],
+        optional: &["workers", "pace"],
     }
 }

@@ -16,6 +16,18 @@ pub enum Command {
         ticks: u64,
         workers: u32,
     },
+    /// Serves this many ticks of a world file and this many links of players at a port of this machine, 1 to
+    /// 65,535, by so many workers, 1 to 16, with a pause of so many milliseconds before each tick, at most
+    /// 60,000, and keeps a journal at a path.
+    Serve {
+        world: String,
+        journal: String,
+        ticks: u64,
+        links: u32,
+        port: u16,
+        workers: u32,
+        pace: u32,
+    },
     /// Says whether the file at a path is a module that is taken.
     Check {
         module: String,

@@ -5,22 +5,31 @@ ghost use Rattle.clap.specs.Matches.{found_of};
 ghost use Rattle.clap.specs.Walk.{rows_of, first_of};
 ghost use Rattle.command_words.specs.Numbers.{IsNumber};
 ghost use Rattle.command_words.specs.Commands.{Words, IsAlone, AreNone};
-ghost use Rattle.command_words.specs.Words.{AreRooms, AreWorkers, part_word};
+ghost use Rattle.command_words.specs.Words.{AreRooms, AreWorkers, IsPace, part_word};
 ghost use Rattle.command_words.specs.Shown.{TakesShown};
 ghost use Rattle.command_words.specs.declared.command.GenPart.{GenPart as Part};
 
-use crate::choices::{check, demo, gen_, replay, run, show};
+use crate::choices::{check, demo, gen_, replay, run, serve, show};
 use crate::command::{Command, GenPart, WordsFault};
 use crate::number::number_of;
 use crate::simple::matches;
 use clap::ArgMatches;
 use std::alloc::Global;
 
-/// The most ticks of a run.
+/// The most ticks of a run or of serving.
 const MOST_TICKS: u64 = 1_000_000;
 
-/// The most workers of a run.
+/// The most links of serving.
+const MOST_LINKS: u64 = 1_000_000;
+
+/// The highest port.
+const MOST_PORT: u64 = 65_535;
+
+/// The most workers of a run or of serving.
 const MOST_WORKERS: u64 = 16;
+
+/// The longest pause before a tick, in milliseconds.
+const MOST_PACE: u64 = 60_000;
 
 /// The most rooms of a generated world.
 const MOST_ROOMS: u64 = 400;
@@ -28,8 +37,8 @@ const MOST_ROOMS: u64 = 400;
 /// The command that words after the program's name say.
 ///
 /// The first word chooses. The rest is read by one command of `clap` for each choice, whose positionals
-/// and options take one value each and have to be given, but for `--workers`. `--help` and `--version` are
-/// faults.
+/// and options take one value each and have to be given, but for `--workers` and `--pace`. `--help` and
+/// `--version` are faults.
 #[tactic(auto, using(crate::proofs::Shown::takes_shown, crate::proofs::Apart::unchosen))]
 pub fn read_words(alloc: Global, words: &[String]) -> Result<Command, WordsFault>
     ensures ok { IfOk result (Words (map string_bytes words.now)) }
@@ -51,6 +60,8 @@ pub fn read_words(alloc: Global, words: &[String]) -> Result<Command, WordsFault
         read_gen(alloc, words)
     } else if is_chosen(words, "demo") {
         read_demo(alloc, words)
+    } else if is_chosen(words, "serve") {
+        read_serve(alloc, words)
     } else {
         Err(WordsFault::Usage)
     }
@@ -156,6 +167,32 @@ fn read_demo(alloc: Global, words: &[String]) -> Result<Command, WordsFault>
     Ok(Command::Demo { seed, rooms, ticks })
 }
 
+// The words of serving.
+fn read_serve(alloc: Global, words: &[String]) -> Result<Command, WordsFault>
+    requires { (rest : List (List ℕ)) × (map string_bytes words.now ≡ codes "serve" ∷ rest) }
+    ensures ok { IfOk result (Words (map string_bytes words.now)) }
+    ensures alone { IfOk result (IsAlone (map string_bytes words.now)) }
+    ensures usage { IfErr result (λ e. e ≡ WordsFault.Usage → AreNone (map string_bytes words.now)) }
+{
+    let matches = matches(alloc, &serve(), words)?;
+    let world = value(alloc, &matches, "WORLD")?;
+    let journal = value(alloc, &matches, "JOURNAL")?;
+    let ticks = number(&matches, "ticks", MOST_TICKS)?;
+    let links = number(&matches, "links", MOST_LINKS)?;
+    let port = port(&matches)?;
+    let workers = workers(&matches)?;
+    let pace = pace(&matches)?;
+    Ok(Command::Serve {
+        world,
+        journal,
+        ticks,
+        links: links as u32,
+        port,
+        workers,
+        pace,
+    })
+}
+
 // The value of an argument.
 fn value(alloc: Global, matches: &ArgMatches, name: &str) -> Result<String, WordsFault>
     ensures ok { IfOk result (λ text.
@@ -192,7 +229,38 @@ fn text_of<'a>(matches: &ArgMatches<'a>, name: &str) -> Option<&'a str>
     matches.get_str(name)
 }
 
-// The number of workers of a run: one, where none is said.
+// The port of serving.
+fn port(matches: &ArgMatches) -> Result<u16, WordsFault>
+    ensures ok { IfOk result (λ n. (text : List ℕ)
+        × (first_of (codes "port") (rows_of (found_of matches.now)) ≡ Some text) × IsNumber text n
+        × (1 ≤ n) × (n ≤ 65535)) }
+    ensures usage { IfErr result (λ e. e ≡ WordsFault.Usage → (text : List ℕ) → (n : ℕ)
+        → first_of (codes "port") (rows_of (found_of matches.now)) ≡ Some text → IsNumber text n
+        → 1 ≤ n → n ≤ 65535 → ⊥) }
+{
+    let port = number(matches, "port", MOST_PORT)?;
+    if port == 0 {
+        return Err(WordsFault::Usage);
+    }
+    Ok(port as u16)
+}
+
+// The pause before each tick of serving, in milliseconds: none, where none is said.
+fn pace(matches: &ArgMatches) -> Result<u32, WordsFault>
+    ensures ok { IfOk result (IsPace (first_of (codes "pace") (rows_of (found_of matches.now)))) }
+    ensures usage { IfErr result (λ e. e ≡ WordsFault.Usage → (n : ℕ)
+        → IsPace (first_of (codes "pace") (rows_of (found_of matches.now))) n → ⊥) }
+{
+    let Some(text) = text_of(matches, "pace") else {
+        return Ok(0);
+    };
+    match number_of(text, MOST_PACE) {
+        Some(pace) => Ok(pace as u32),
+        None => Err(WordsFault::Usage),
+    }
+}
+
+// The number of workers of a run or of serving: one, where none is said.
 fn workers(matches: &ArgMatches) -> Result<u32, WordsFault>
     ensures ok { IfOk result (AreWorkers (first_of (codes "workers") (rows_of (found_of matches.now)))) }
     ensures usage { IfErr result (λ e. e ≡ WordsFault.Usage → (n : ℕ)

@@ -62,6 +62,7 @@ pub fn run_command<R: Threads + Sync>(rt: &HostRuntime, threads: &R, words: &[St
         }
         Ok(Command::Show { journal, tick: _ }) => read_journal(rt, words, journal.as_str()),
         Ok(Command::Replay { journal }) => read_journal(rt, words, journal.as_str()),
+        Ok(Command::Serve { .. }) => Status::Usage,
         Err(fault) => refused_words(fault),
     }
 }

@@ -150,6 +150,7 @@ pub fn tool_main<S: Source, O: Sink, D: Disk>(
         Ok(Command::Gen { seed, rooms, part }) => make_part(alloc, seed, rooms, part, out),
         Ok(Command::Demo { seed, rooms, ticks }) => run_in_memory(alloc, seed, rooms, ticks, out),
         Ok(Command::Run { .. }) => Status::Usage,
+        Ok(Command::Serve { .. }) => Status::Usage,
         Err(WordsFault::Usage) => Status::Usage,
         Err(WordsFault::Memory) => Status::Memory,
     }

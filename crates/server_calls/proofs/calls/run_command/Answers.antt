@@ -14,8 +14,8 @@ is_usage faults.Usage status wanted is = refl
 is_usage faults.Memory status wanted is =
     let bad : statuses.Memory ≡ statuses.Usage = sym (wanted refl) ∙ is in cc
 
-pub returns-in-Err-clause-usage : goal.returns-in-Err-clause-usage
-returns-in-Err-clause-usage g c = λ is.
+pub returns-clause-usage : goal.returns-clause-usage
+returns-clause-usage g c = λ is.
     let none = c.in-Err.ensures.usage
     (is_usage c.in-Err.fault c.refused_words.result c.refused_words.ensures.memory is) in
     (none a_run, none_of_tool _ none)
