@@ -5,5 +5,5 @@ mod lines;
 mod pieces;
 mod uploads;
 
-pub use lines::{NoMemory, later_lines, start_line};
+pub use lines::{NoMemory, later_lines, object_count, start_line, total_energy};
 pub use uploads::print_uploads;

@@ -91,8 +91,9 @@ fn add_tick(world: &World, intents: u128, lines: &mut String) -> Result<(), NoMe
     )
 }
 
+/// The number of objects of a world.
 #[tactic(auto, using(crate::proofs::LinesSums::counts))]
-fn object_count(world: &World) -> u64
+pub fn object_count(world: &World) -> u64
     ensures { result ≡ object_count_of world.now }
 {
     let mut count: u64 = 0;
@@ -102,9 +103,9 @@ fn object_count(world: &World) -> u64
     count
 }
 
-// The energy of all objects of a world, below 2^128.
+/// The energy of all objects of a world, below 2^128.
 #[tactic(auto, using(crate::proofs::LinesSums::counts))]
-fn total_energy(world: &World) -> u128
+pub fn total_energy(world: &World) -> u128
     ensures { result ≡ total_energy_of world.now }
 {
     let mut total: u128 = 0;

@@ -36,7 +36,7 @@ mapped_same : {A B : Type 0} (f : A → B) (g : A → A) → ((x : A) → f (g x
 mapped_same f g same [] = refl
 mapped_same f g same (x ∷ xs) = let rest = mapped_same f g same xs in λ i. same x i ∷ rest i
 
-many_rooms : (rooms : List Room) → length (map bare_room rooms) ≡ length rooms
+pub many_rooms : (rooms : List Room) → length (map bare_room rooms) ≡ length rooms
 many_rooms [] = refl
 many_rooms (room ∷ rooms) = ap suc (many_rooms rooms)
 
@@ -45,10 +45,10 @@ listing_same stored =
     let rooms = mapped_same worlds.listed_room bare_room (λ room. refl) stored.rooms in
     λ i. record { rules = 1; tick = stored.tick; rooms = rooms i; accounts = stored.accounts }
 
-count_same : (stored : Stored) → object_count (bare stored) ≡ object_count stored
+pub count_same : (stored : Stored) → object_count (bare stored) ≡ object_count stored
 count_same stored = ap (λ (listing : Listing). length (worlds.placed listing)) (listing_same stored)
 
-energy_same : (stored : Stored) → total_energy (bare stored) ≡ total_energy stored
+pub energy_same : (stored : Stored) → total_energy (bare stored) ≡ total_energy stored
 energy_same stored = ap (λ (listing : Listing). Rattle.std.specs.List.sum_by (λ entry. entry.1.object.energy) (worlds.placed listing)) (listing_same stored)
 
 start_same : (stored : Stored) → start_line (bare stored) ≡ start_line stored
@@ -71,7 +71,7 @@ line_same stored n =
 abbrev pub shown : held.Step → Step
 shown step = record { uploads = step.uploads; runs = step.runs; after = state_of step.after; recorded = step.recorded }
 
-abbrev AreSound : List held.Step → Type 0
+abbrev pub AreSound : List held.Step → Type 0
 AreSound steps = AllByRecursion (λ step. IsSound step.after.world) steps
 
 start_shown : (first : Stored) → IsSound first → start_line (listed (world_of first)) ≡ start_line first
@@ -101,7 +101,7 @@ hosted_first : (stream : List Upload) (before : Held) (steps : List held.Step) �
 hosted_first stream before [] f = f
 hosted_first stream before (step ∷ later) f = f.0
 
-sound_steps : (stream : List Upload) (before : Held) (steps : List held.Step) → held.Follow stream before steps → AreSound steps
+pub sound_steps : (stream : List Upload) (before : Held) (steps : List held.Step) → held.Follow stream before steps → AreSound steps
 sound_steps stream before [] f = tt
 sound_steps stream before (step ∷ later) f = ((hosted_first stream step.after later f.3).sound, sound_steps stream step.after later f.3)
 

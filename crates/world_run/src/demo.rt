@@ -108,7 +108,7 @@ fn made_again(alloc: Global, seed: u64, rooms: u32) -> Result<World, NoMemory>
     let world = generate(alloc, seed, rooms)?;
     let text = write_world(alloc, &world)?;
     match load_world(alloc, &mut SteadySource::new(text)) {
-        Ok(world) => Ok(world),
+        Ok(file) => Ok(file.world),
         Err(_) => Err(NoMemory),
     }
 }

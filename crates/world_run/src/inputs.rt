@@ -17,7 +17,7 @@ use object_store::World;
 use run_status::Status;
 use std::alloc::Global;
 use world_io::{ReadStop, Source, read_all};
-use world_text::{WorldFault, read_world};
+use world_text::{WorldFault, WorldFile, read_world};
 
 /// The most bytes of a world file, 64 MiB.
 const MOST_WORLD_BYTES: u64 = 0x400_0000;
@@ -84,11 +84,11 @@ pub(crate) fn read_inputs<W: Source, U: Source>(
     ensures uploads_later { U.faults uploads.old ≤ U.faults uploads.new }
 {
     let ticks = asked_ticks(alloc, most, words)?;
-    let world = load_world(alloc, world)?;
+    let file = load_world(alloc, world)?;
     let stream = load_uploads(alloc, uploads)?;
     Ok(Inputs {
         ticks,
-        world,
+        world: file.world,
         stream,
     })
 }
@@ -109,12 +109,12 @@ fn asked_ticks(alloc: Global, most: u32, words: &[String]) -> Result<u64, Status
     }
 }
 
-/// The world of a file.
+/// Reads a world file, of at most 64 MiB: its world, and the tokens of its players.
 #[tactic(auto, using(crate::proofs::WorldFaults::of_faults))]
-pub(crate) fn load_world<W: Source>(alloc: Global, source: &mut W) -> Result<World, Status>
+pub fn load_world<W: Source>(alloc: Global, source: &mut W) -> Result<WorldFile, Status>
     ensures found { IfOk result
-        (λ world. ReadsWorld (W.left source.old) (W.left source.new) (world_of world)) }
-    ensures starts { IfOk result MayStart }
+        (λ file. ReadsWorld (W.left source.old) (W.left source.new) (world_of file.world)) }
+    ensures starts { IfOk result (λ file. MayStart file.world) }
     ensures only { IfErr result IsOfWorld }
     ensures refused { IfErr result (λ status. (fault : WorldFault) → status ≡ Status.World fault
         → ReadsFault (W.left source.old) (W.left source.new) fault) }
@@ -137,7 +137,7 @@ pub(crate) fn load_world<W: Source>(alloc: Global, source: &mut W) -> Result<Wor
     match read_world(alloc, &bytes) {
         Ok(file) => {
             have_tiles(&file.world);
-            Ok(file.world)
+            Ok(file)
         }
         Err(fault) => Err(refused_world(fault)),
     }

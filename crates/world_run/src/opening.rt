@@ -30,7 +30,9 @@ use run_status::Status;
 use std::alloc::{AllocError as NoMemory, Global};
 use tick_journal::{bases_are_one, write_base};
 use world_io::Disk;
-use world_journal::{AppendFault, Journal, RecoverFault, Recovered, bytes_stand_for_one_journal};
+use world_journal::{
+    AppendFault, Journal, RecoverFault, Recovered, UploadCounts, bytes_stand_for_one_journal,
+};
 use world_replay::{byte_at, first_difference};
 
 /// A journal that is open, and the line that is printed for it.
@@ -166,7 +168,7 @@ fn go_on(alloc: Global, world: &World, found: Recovered) -> Result<Opening, Stat
     Ok(opening)
 }
 
-// The last world of a journal, with its modules.
+// The last world of a journal, with its modules, and the line that is printed for it.
 fn restore(alloc: Global, found: Recovered) -> Result<Opening, NoMemory>
     requires { (entries : List TickRecord) × HasRecovered entries found }
     ensures at_end { IfOk result (λ opening. (entries : List TickRecord) → HasRecovered entries found
@@ -177,6 +179,28 @@ fn restore(alloc: Global, found: Recovered) -> Result<Opening, NoMemory>
     ensures line { IfOk result
         (λ opening. opening.line.items ≡ start_line_of opening.kept.hosted.world) }
 {
+    let Resumed { kept, uploads: _ } = resume(alloc, found)?;
+    let line = start_line(alloc, kept.hosted.world())?;
+    Ok(Opening { kept, line })
+}
+
+/// The world that a journal goes on with, and how many uploads each player has in it.
+#[derive(Drop)]
+pub struct Resumed {
+    pub kept: Kept,
+    pub uploads: UploadCounts,
+}
+
+/// The last world of a journal, with its modules, each decoded, validated and linked again.
+pub fn resume(alloc: Global, found: Recovered) -> Result<Resumed, NoMemory>
+    requires { (entries : List TickRecord) × HasRecovered entries found }
+    ensures at_end { IfOk result (λ resumed. (entries : List TickRecord) → HasRecovered entries found
+        → IsAt found.base entries resumed.kept.hosted) }
+    ensures recorder { IfOk result (λ resumed. StandsAt resumed.kept.recorder resumed.kept.hosted.world) }
+    ensures journal { IfOk result (λ resumed. resumed.kept.journal ≡ found.journal) }
+    ensures tick { IfOk result (λ resumed. resumed.kept.hosted.world.tick < 2 ^ 63) }
+    ensures uploads { IfOk result (λ resumed. resumed.uploads ≡ found.uploads) }
+{
     courses_can_be_hosted();
     courses_have_accepted_modules();
     let Recovered {
@@ -184,23 +208,23 @@ fn restore(alloc: Global, found: Recovered) -> Result<Opening, NoMemory>
         base: _,
         world,
         modules,
-        uploads: _,
+        uploads,
     } = found;
-    let line = start_line(alloc, &world)?;
     let recorder = Recorder::of(alloc, &world)?;
     let hosted = Hosted::restored(alloc, world, modules)?;
-    Ok(Opening {
+    Ok(Resumed {
         kept: Kept {
             hosted,
             recorder,
             journal,
         },
-        line,
+        uploads,
     })
 }
 
-// Whether a journal that begins with the one world begins with the other.
-fn same_base(alloc: Global, base: &World, world: &World) -> Result<(), Status>
+/// Whether a journal that begins with the one world begins with the other. Where it doesn't, the answer is
+/// `OtherWorld` with the first place at which the two contents differ.
+pub fn same_base(alloc: Global, base: &World, world: &World) -> Result<(), Status>
     requires form { HasBaseForm base.now }
     requires begins { MayBegin world.now }
     ensures same { OnOk result (base.now ≡ world_as_read world.now) }

@@ -31,11 +31,11 @@ ghost use Rattle.world_replay.specs.Serials.{HasRunOut};
 ghost use Rattle.world_replay.specs.Differing.{DifferAt};
 ghost use Rattle.world_run.specs.inner.Held.{Step, step_lines, IsKeptAt, IsStep, Leaves};
 ghost use Rattle.world_run.specs.inner.Held.{LeavesPart, MayStart, Prints, last_of};
-ghost use Rattle.world_run.specs.inner.Stages.{Continues, IsOfRecord, IsOfTick, IsOfTicks, IsOfJournal};
+ghost use Rattle.world_run.specs.inner.Stages.{Continues, IsOfMaking, IsOfTick, IsOfTicks, IsOfJournal};
 ghost use Rattle.world_run.specs.inner.Stages.{Grows, GrowsPart};
-ghost use Rattle.world_run.specs.inner.Crashes.{IsCut, Lasts, Outlasts, Records, StoodAs};
+ghost use Rattle.world_run.specs.inner.Crashes.{Adds, IsCut, Lasts, Loses, Outlasts, Records, StoodAs};
 
-use crate::kept::Kept;
+use crate::kept::{Kept, KeptTick};
 use crate::opening::{Opening, open_journal};
 use hosted_tick::{Hosted, Ticked};
 use judged_uploads::JudgedUploads;
@@ -257,6 +257,66 @@ fn one_tick<P: RunsPlayers, S: StepsRooms, O: Sink, D: Disk>(
     ensures out_later { O.faults out.old ≤ O.faults out.new }
     ensures disk_later { D.faults disk.old ≤ D.faults disk.new }
 {
+    let uploads = stream.take_tick(kept.hosted.world().tick());
+    let done = match record_tick(alloc, runner, stepper, kept, uploads, disk) {
+        Ok(done) => done,
+        Err(status) => return Err(status),
+    };
+    let KeptTick {
+        kept: next,
+        uploads,
+        lines,
+        room,
+    } = done;
+    match print_lines(out, &uploads, room, &lines) {
+        Ok(()) => Ok(next),
+        Err(_) => Err(Status::WriteFault),
+    }
+}
+
+/// Makes the tick after a world that is kept, with these uploads, and records it in the world's journal.
+///
+/// The answer is a status that is not `Done`: `IdsExhausted` where a room has used up its serials,
+/// `DiskFault`, or `Memory`.
+pub fn record_tick<'a, P: RunsPlayers, S: StepsRooms, D: Disk>(
+    alloc: Global,
+    runner: &P,
+    stepper: &S,
+    kept: Kept,
+    uploads: Uploads<'a>,
+    disk: &mut D,
+) -> Result<KeptTick<'a>, Status>
+    requires runner { P.ready runner.now }
+    requires stepper { S.ready stepper.now }
+    requires hosted { IsHosted kept.hosted.world }
+    requires few { HaveFewSites kept.hosted.world }
+    requires recorder { StandsAt kept.recorder kept.hosted.world }
+    requires tick { kept.hosted.world.tick < 2 ^ 64 - 1 }
+    requires is_open { kept.journal.log.is_closed ≡ false }
+    requires log { IsLog kept.journal.log.gate (D.seen disk.old) (D.moments disk.old) }
+    ensures added { IfOk result (λ done. Adds uploads.entry kept (D.seen disk.old) (D.moments disk.old)
+        done.kept done.uploads done.lines.items (D.seen disk.new) (D.moments disk.new)) }
+    ensures hosted { IfOk result (λ done. IsHosted done.kept.hosted.world) }
+    ensures few { IfOk result (λ done. HaveFewSites done.kept.hosted.world) }
+    ensures recorder { IfOk result (λ done. StandsAt done.kept.recorder done.kept.hosted.world) }
+    ensures is_open { IfOk result (λ done. done.kept.journal.log.is_closed ≡ false) }
+    ensures log { IfOk result
+        (λ done. IsLog done.kept.journal.log.gate (D.seen disk.new) (D.moments disk.new)) }
+    ensures room { IfOk result (λ done. done.room.items ≡ []) }
+    ensures lost { IfErr result (λ status. (D.moments disk.new ≡ D.moments disk.old)
+        ⊎ Loses uploads.entry kept (D.seen disk.old) (D.moments disk.old) (D.moments disk.new)) }
+    ensures only { IfErr result IsOfMaking }
+    ensures exhausted { IfErr result (λ status. (index : ℕ) → status ≡ Status.IdsExhausted index
+        → HasRunOut kept.hosted.world index) }
+    ensures same { IfErr result (λ status. status ≢ Status.DiskFault
+        → (D.seen disk.new ≡ D.seen disk.old) × (D.moments disk.new ≡ D.moments disk.old)) }
+    ensures disk_fault { IfErr result (λ status. status ≡ Status.DiskFault
+        → Rose (D.faults disk.old) (D.faults disk.new)) }
+    ensures steady { OnOk result (D.faults disk.new ≡ D.faults disk.old) }
+    ensures steady_else { IfErr result (λ status. status ≢ Status.DiskFault
+        → D.faults disk.new ≡ D.faults disk.old) }
+    ensures later { D.faults disk.old ≤ D.faults disk.new }
+{
     let Kept {
         hosted,
         mut recorder,
@@ -265,16 +325,26 @@ fn one_tick<P: RunsPlayers, S: StepsRooms, O: Sink, D: Disk>(
     if let Some(index) = exhausted_room(hosted.world()) {
         return Err(Status::IdsExhausted(index));
     }
-    let uploads = stream.take_tick(hosted.world().tick());
     let Ok(made) = make_tick(alloc, runner, stepper, hosted, &mut recorder, uploads) else {
         return Err(Status::Memory);
     };
     let Made { hosted, told } = made;
-    match record(alloc, &mut journal, told, out, disk) {
-        Ok(()) => Ok(Kept {
-            hosted,
-            recorder,
-            journal,
+    let Told {
+        uploads,
+        entry,
+        lines,
+        room,
+    } = told;
+    match append(alloc, &mut journal, &uploads, &entry, disk) {
+        Ok(()) => Ok(KeptTick {
+            kept: Kept {
+                hosted,
+                recorder,
+                journal,
+            },
+            uploads,
+            lines,
+            room,
         }),
         Err(status) => Err(status),
     }
@@ -325,7 +395,8 @@ fn make_tick<'a, P: RunsPlayers, S: StepsRooms>(
         × (step.recorded ≡ tick_as_read (with_uploads made.told.uploads made.told.entry))
         × ((stream : List Upload) → uploads.entry ≡ uploads_at hosted.world.tick stream
         → IsStep stream hosted step)
-        × (step_lines step ≡ flat_map upload_line made.told.uploads ++ made.told.lines.items)) }
+        × (step_lines step ≡ flat_map upload_line made.told.uploads ++ made.told.lines.items)
+        × (step.uploads ≡ made.told.uploads)) }
     ensures hosted { IfOk result (λ made. IsHosted made.hosted.world) }
     ensures few { IfOk result (λ made. HaveFewSites made.hosted.world) }
     ensures recorder { IfOk result (λ made. StandsAt recorder.new made.hosted.world) }
@@ -382,84 +453,42 @@ fn print_lines<O: Sink>(
     write_all(out, lines)
 }
 
-// Records a tick, and then prints its lines.
-fn record<O: Sink, D: Disk>(
+// Records a tick in its journal.
+fn append<D: Disk>(
     alloc: Global,
     journal: &mut Journal,
-    told: Told<'_>,
-    out: &mut O,
+    uploads: &JudgedUploads<'_>,
+    entry: &TickRecord,
     disk: &mut D,
 ) -> Result<(), Status>
-    requires none { told.entry.uploads ≡ [] }
-    requires room { told.room.items ≡ [] }
+    requires none { entry.now.uploads ≡ [] }
     requires is_open { journal.old.log.is_closed ≡ false }
     requires log { IsLog journal.old.log.gate (D.seen disk.old) (D.moments disk.old) }
     ensures recorded { OnOk result ((base : Stored) (entries : List Recorded)
         → HasJournal base entries journal.old.log.gate (D.seen disk.old) (D.moments disk.old)
-        → MayFollow (world_after base entries) (with_uploads told.entry.uploads told.entry.entry)
-        → HasJournal base (entries ++ tick_as_read (with_uploads told.entry.uploads told.entry.entry) ∷ [])
+        → MayFollow (world_after base entries) (with_uploads uploads.now entry.now)
+        → HasJournal base (entries ++ tick_as_read (with_uploads uploads.now entry.now) ∷ [])
         journal.new.log.gate (D.seen disk.new) (D.moments disk.new)) }
     ensures each_moment { (base : Stored) (entries : List Recorded)
         → HasJournal base entries journal.old.log.gate (D.seen disk.old) (D.moments disk.old)
-        → MayFollow (world_after base entries) (with_uploads told.entry.uploads told.entry.entry)
-        → LeavesSince (IsBeforeOrAfter base entries
-        (tick_as_read (with_uploads told.entry.uploads told.entry.entry)))
+        → MayFollow (world_after base entries) (with_uploads uploads.now entry.now)
+        → LeavesSince (IsBeforeOrAfter base entries (tick_as_read (with_uploads uploads.now entry.now)))
         (D.moments disk.old) (D.moments disk.new) }
-    ensures stopped { IfErr result (λ status. (O.written out.new ≡ O.written out.old)
-        ⊎ (AppendsPrefix (O.written out.old) (O.written out.new)
-        (flat_map upload_line told.entry.uploads ++ told.entry.lines.items)
-        × ((base : Stored) (entries : List Recorded)
-        → HasJournal base entries journal.old.log.gate (D.seen disk.old) (D.moments disk.old)
-        → MayFollow (world_after base entries) (with_uploads told.entry.uploads told.entry.entry)
-        → HasJournal base (entries ++ tick_as_read (with_uploads told.entry.uploads told.entry.entry) ∷ [])
-        journal.new.log.gate (D.seen disk.new) (D.moments disk.new)))) }
     ensures log { OnOk result (IsLog journal.new.log.gate (D.seen disk.new) (D.moments disk.new)) }
     ensures is_open { OnOk result (journal.new.log.is_closed ≡ false) }
     ensures alike { TellsAlike (D.seen disk.old) (D.seen disk.new) }
-    ensures lines { OnOk result (Appends (O.written out.old) (O.written out.new)
-        (flat_map upload_line told.entry.uploads ++ told.entry.lines.items)) }
-    ensures rests { IfErr result (λ status. status ≢ Status.DiskFault
-        → IsQuiet (D.seen disk.new) (D.moments disk.new)) }
-    ensures only { IfErr result (λ status. (status ≡ Status.Memory) ⊎ IsOfRecord status) }
+    ensures only { IfErr result (λ status. (status ≡ Status.Memory) ⊎ (status ≡ Status.DiskFault)) }
     ensures memory { IfErr result (λ status. status ≡ Status.Memory
-        → (D.seen disk.new ≡ D.seen disk.old) × (O.written out.new ≡ O.written out.old)) }
-    ensures disk_stopped { IfErr result (λ status. status ≡ Status.DiskFault
-        → O.written out.new ≡ O.written out.old) }
+        → (D.seen disk.new ≡ D.seen disk.old) × (D.moments disk.new ≡ D.moments disk.old)
+        × (D.faults disk.new ≡ D.faults disk.old)) }
     ensures disk_fault { IfErr result (λ status. status ≡ Status.DiskFault
         → Rose (D.faults disk.old) (D.faults disk.new)) }
-    ensures recorded_too { IfErr result (λ status. status ≡ Status.WriteFault
-        → (base : Stored) (entries : List Recorded)
-        → HasJournal base entries journal.old.log.gate (D.seen disk.old) (D.moments disk.old)
-        → MayFollow (world_after base entries) (with_uploads told.entry.uploads told.entry.entry)
-        → HasJournal base (entries ++ tick_as_read (with_uploads told.entry.uploads told.entry.entry) ∷ [])
-        journal.new.log.gate (D.seen disk.new) (D.moments disk.new)) }
-    ensures lines_cut { IfErr result (λ status. status ≡ Status.WriteFault
-        → AppendsPrefix (O.written out.old) (O.written out.new)
-        (flat_map upload_line told.entry.uploads ++ told.entry.lines.items)) }
-    ensures write_fault { IfErr result (λ status. status ≡ Status.WriteFault
-        → Rose (O.faults out.old) (O.faults out.new)) }
-    ensures steady { OnOk result ((O.faults out.new ≡ O.faults out.old)
-        × (D.faults disk.new ≡ D.faults disk.old)) }
-    ensures write_steady { IfErr result (λ status. status ≢ Status.WriteFault
-        → O.faults out.new ≡ O.faults out.old) }
-    ensures disk_steady { IfErr result (λ status. status ≢ Status.DiskFault
-        → D.faults disk.new ≡ D.faults disk.old) }
-    ensures out_later { O.faults out.old ≤ O.faults out.new }
-    ensures disk_later { D.faults disk.old ≤ D.faults disk.new }
+    ensures steady { OnOk result (D.faults disk.new ≡ D.faults disk.old) }
+    ensures later { D.faults disk.old ≤ D.faults disk.new }
 {
-    let Told {
-        uploads,
-        entry,
-        lines,
-        room,
-    } = told;
-    match journal.append_judged(alloc, disk, &uploads, &entry) {
-        Ok(()) => {}
-        Err(AppendFault::Memory) => return Err(Status::Memory),
-        Err(_) => return Err(Status::DiskFault),
-    }
-    match print_lines(out, &uploads, room, &lines) {
+    match journal.append_judged(alloc, disk, uploads, entry) {
         Ok(()) => Ok(()),
-        Err(_) => Err(Status::WriteFault),
+        Err(AppendFault::Memory) => Err(Status::Memory),
+        Err(_) => Err(Status::DiskFault),
     }
 }

@@ -6,7 +6,9 @@ use Rattle.object_store.specs.Stored.{Stored}
 use Rattle.hosted_tick.specs.Hosting.{Held, IsHosted}
 use Rattle.tick_journal.specs.BaseForms.{world_as_read}
 use Rattle.tick_journal.specs.declared.tick_record.TickRecord.{TickRecord}
-use Rattle.upload_stream.specs.Streams.{Upload}
+use Rattle.run_lines.specs.Lines.{upload_line}
+use Rattle.upload_stream.specs.Streams.{Upload, uploads_at}
+use Rattle.tick_journal.specs.declared.entries.UploadEntry.{UploadEntry}
 use Rattle.world_io.specs.Moments.{LeavesNow, LeavesSince, Moment}
 use Rattle.world_io.specs.Told.{AppendsPrefix}
 use Rattle.world_journal.specs.Journals.{HasJournal, IsBeforeOrAfter, IsJournal}
@@ -35,6 +37,36 @@ HasRecorded kept seen moments later entry = (base : Stored) (entries : List Tick
     → IsKeptAt base entries kept seen moments
     → HasJournal base entries kept.journal.log.gate seen moments
     → LeavesNow (IsJournal base (entries ++ entry ∷ [])) later
+
+-- A tick was made with these uploads, of which these are the results, and recorded: the world stands a tick
+-- further at the end of its journal. At each moment a crash leaves the journal before it or after it.
+pub record Adds (uploads : List Upload) (kept : Kept) (seen : Option (List ℕ)) (moments : List Moment)
+    (next : Kept) (judged : List UploadEntry) (lines : List ℕ) (after_seen : Option (List ℕ))
+    (later : List Moment) : Type 0 where
+  pub step : Step
+  pub after : step.after ≡ next.hosted
+  pub is : (stream : List Upload) → uploads ≡ uploads_at kept.hosted.world.tick stream
+      → IsStep stream kept.hosted step
+  pub serials : HaveSerials kept.hosted.world.rooms
+  pub results : step.uploads ≡ judged
+  pub said : step_lines step ≡ flat_map upload_line judged ++ lines
+  pub keeps : (base : Stored) (entries : List TickRecord) → IsKeptAt base entries kept seen moments
+      → IsKeptAt base (entries ++ step.recorded ∷ []) next after_seen later
+  pub each : Records kept seen moments later step.recorded
+  pub has : (base : Stored) (entries : List TickRecord) → IsKeptAt base entries kept seen moments
+      → HasJournal base entries kept.journal.log.gate seen moments
+      → HasJournal base (entries ++ step.recorded ∷ []) next.journal.log.gate after_seen later
+
+-- A tick was made with these uploads, and its recording failed. At each moment a crash leaves the journal
+-- before it or after it.
+pub record Loses (uploads : List Upload) (kept : Kept) (seen : Option (List ℕ)) (moments later : List Moment)
+    : Type 0 where
+  pub step : Step
+  pub is : (stream : List Upload) → uploads ≡ uploads_at kept.hosted.world.tick stream
+      → IsStep stream kept.hosted step
+  pub serials : HaveSerials kept.hosted.world.rooms
+  pub hosted : IsHosted step.after.world
+  pub each : Records kept seen moments later step.recorded
 
 -- A tick was made and not done: no byte of it was printed, or it is recorded and a part of its lines was.
 pub record IsCut (sink_old sink_new : Option (List ℕ)) (stream : List Upload) (kept : Kept)

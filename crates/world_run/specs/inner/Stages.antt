@@ -92,11 +92,12 @@ IsOfInputs statuses.ReadFault = Unit {0}
 IsOfInputs statuses.Memory = Unit {0}
 IsOfInputs status = ⊥
 
--- The recording of a world can end a run so.
-abbrev pub IsOfRecord : Status → Type 0
-IsOfRecord statuses.DiskFault = Unit {0}
-IsOfRecord statuses.WriteFault = Unit {0}
-IsOfRecord status = ⊥
+-- The making and recording of a tick can end a run so.
+abbrev pub IsOfMaking : Status → Type 0
+IsOfMaking (statuses.IdsExhausted index) = Unit {0}
+IsOfMaking statuses.DiskFault = Unit {0}
+IsOfMaking statuses.Memory = Unit {0}
+IsOfMaking status = ⊥
 
 -- The opening of the journal can end a run so.
 abbrev pub IsOfOpening : Status → Type 0

@@ -72,7 +72,7 @@ returns-clause-step g c =
     rw (c.deref.ensures.value, c.world.ensures) at c.in_ok-lines.ensures in
     let lines : step_lines step ≡ flat_map upload_line done.uploads ++ c.in_ok-lines.lines.items =
     append_assoc (flat_map upload_line done.uploads) (flat_map run_line done.runs.items) _ ∙ ap (λ (z : List ℕ). flat_map upload_line done.uploads ++ z) (sym later) in
-    (step, refl, refl, is, lines)
+    (step, refl, refl, is, lines, refl)
 
 pub returns-clause-few : goal.returns-clause-few
 returns-clause-few g c =

@@ -1,76 +1,91 @@
-use Rattle.std.proofs.Common.{inl, inr, [], ◌∷◌, ◌++◌, List, ℕ, IfSome, ap, subst, sym, ◌∙◌}
+use Rattle.std.proofs.Common.{◌≡◌, ◌≢◌, inl, inr, [], ◌∷◌, ◌++◌, List, ℕ, IfSome, ap, refl, subst, sym, ◌∙◌}
+use Rattle.run_status.specs.declared.status.Status.{Status}
+use Rattle.run_status.specs.declared.status.Status.TheVariants as statuses
+use Rattle.std.specs.List.{flat_map}
 use Rattle.std.specs.Io.KnownBytes.{Appends}
 use Rattle.object_store.specs.Stored.{Stored}
-use Rattle.judged_uploads.specs.Judging.{with_uploads}
-use Rattle.upload_stream.specs.Streams.{uploads_at}
+use Rattle.upload_stream.specs.Streams.{Upload, uploads_at}
 use Rattle.hosted_tick.specs.Hosting.{Held, IsHosted}
+use Rattle.tick_journal.specs.declared.entries.UploadEntry.{UploadEntry}
 use Rattle.tick_journal.specs.declared.tick_record.TickRecord.{TickRecord}
-use Rattle.world_io.specs.Moments.{LeavesNow, LeavesSince}
+use Rattle.world_io.specs.Moments.{LeavesNow}
 use Rattle.world_io.specs.Told.{AppendsPrefix}
-use Rattle.world_journal.specs.Journals.{HasJournal, IsBeforeOrAfter, IsJournal, IsWholeJournal}
-use Rattle.world_rules.specs.Sound.{HaveSerials}
-use Rattle.world_run.specs.declared.kept.Kept.{Kept}
-use Rattle.world_run.specs.inner.Held.{IsKeptAt}
-use Rattle.world_run.proofs.Recorded.{kept_one, may_follow, records_one}
+use Rattle.world_journal.specs.Journals.{HasJournal, IsJournal, IsWholeJournal}
+use Rattle.run_lines.specs.Lines.{upload_line}
+use Rattle.world_run.specs.inner.Held.{Step, step_lines}
+use Rattle.world_run.proofs.RunsLists.{whole_of}
 use Rattle.world_run.proofs.Crashes.{now_has}
 use Rattle.world_run.proofs.ticks.one_tick.Goals as goal
 
-pub returns-in-Ok-record-clause-step : goal.returns-in-Ok-record-clause-step
-returns-in-Ok-record-clause-step g c =
-    let made = c.in-Ok.ensures.step in
-    let told = c.in-Ok.made.told in
-    let serials : HaveSerials c.args.kept.hosted.world.rooms = subst (λ (w : Stored). HaveSerials w.rooms) c.world.ensures c.in_default.ensures.none in
-    let taken = c.take_tick-uploads.ensures.taken ∙ ap (λ n. uploads_at n c.args.stream.now) (c.tick.ensures ∙ ap (λ (w : Stored). w.tick) c.world-2.ensures) in
-    let next : Kept = record { hosted = c.in-Ok.made.hosted; recorder = c.make_tick.new.recorder; journal = c.record.new.journal } in (
-      made.0,
-      made.1,
-      made.3 c.args.stream.now taken,
-      serials,
-      subst (λ (b : List ℕ). Appends (g.O.Sink.written c.args.out.now) (g.O.Sink.written c.record.new.out) b) (sym made.4) c.in-Ok-record.ensures.lines,
-      λ base entries start. subst (λ (r : TickRecord). IsKeptAt base (entries ++ r ∷ []) next (g.D.Disk.seen c.record.new.disk) (g.D.Disk.moments c.record.new.disk)) (sym made.2)
-          (kept_one base entries c.args.kept (with_uploads told.uploads told.entry) _ _ start c.in-Ok.ensures.follows c.in-Ok.made.hosted c.make_tick.new.recorder c.record.new.journal _ _ c.record.ensures.alike (c.in-Ok-record.ensures.recorded base entries) c.in-Ok.ensures.leads c.in-Ok.ensures.modules c.in-Ok.ensures.hosted c.in-Ok.ensures.few c.in-Ok.ensures.recorder c.in-Ok-record.ensures.log c.in-Ok-record.ensures.is_open),
-      λ base entries start has. subst (λ (r : TickRecord). LeavesSince (IsBeforeOrAfter base entries r) (g.D.Disk.moments c.args.disk.now) (g.D.Disk.moments c.record.new.disk)) (sym made.2)
-          (c.record.ensures.each_moment base entries has (may_follow base entries c.args.kept (with_uploads told.uploads told.entry) _ _ start c.in-Ok.ensures.follows)),
-      λ base entries start has. subst (λ (r : TickRecord). HasJournal base (entries ++ r ∷ []) c.record.new.journal.log.gate (g.D.Disk.seen c.record.new.disk) (g.D.Disk.moments c.record.new.disk)) (sym made.2)
-          (c.in-Ok-record.ensures.recorded base entries has (may_follow base entries c.args.kept (with_uploads told.uploads told.entry) _ _ start c.in-Ok.ensures.follows)),
-    )
+-- the uploads that were taken are those of the tick
+of_tick : (one other tick : ℕ) (uploads taken : List Upload) → one ≡ other → other ≡ tick → taken ≡ uploads_at one uploads → taken ≡ uploads_at tick uploads
+of_tick one other tick uploads taken first second is = is ∙ ap (λ (n : ℕ). uploads_at n uploads) (first ∙ second)
 
-pub returns-in-Err-clause-write_stopped : goal.returns-in-Err-clause-write_stopped
-returns-in-Err-clause-write_stopped g c = λ stopped.
-    let made = c.in-Ok.ensures.step in
-    let told = c.in-Ok.made.told in
-    let serials : HaveSerials c.args.kept.hosted.world.rooms = subst (λ (w : Stored). HaveSerials w.rooms) c.world.ensures c.in_default.ensures.none in
-    let taken = c.take_tick-uploads.ensures.taken ∙ ap (λ n. uploads_at n c.args.stream.now) (c.tick.ensures ∙ ap (λ (w : Stored). w.tick) c.world-2.ensures) in (
-      made.0,
-      made.3 c.args.stream.now taken,
-      serials,
-      subst (λ (held : Held). IsHosted held.world) (sym made.1) c.in-Ok.ensures.hosted,
-      subst (λ (b : List ℕ). AppendsPrefix (g.O.Sink.written c.args.out.now) (g.O.Sink.written c.record.new.out) b) (sym made.4) (c.in-Err.ensures.lines_cut stopped),
-      λ base entries start. subst (λ (r : TickRecord). IfSome (g.D.Disk.seen c.record.new.disk) (IsWholeJournal base (entries ++ r ∷ []))) (sym made.2)
-          (records_one base entries c.args.kept (with_uploads told.uploads told.entry) _ _ start c.in-Ok.ensures.follows c.record.new.journal.log.gate _ _ c.record.ensures.alike (c.in-Err.ensures.recorded_too stopped base entries)),
+-- the lines that were handed on
+handed : (step : Step) (judged : List UploadEntry) (lines given : List ℕ) → step_lines step ≡ flat_map upload_line judged ++ lines → given ≡ lines → flat_map upload_line judged ++ given ≡ step_lines step
+handed step judged lines given said same = ap (λ (l : List ℕ). flat_map upload_line judged ++ l) same ∙ sym said
+
+pub returns-in-Ok-print_lines-clause-step : goal.returns-in-Ok-print_lines-clause-step
+returns-in-Ok-print_lines-clause-step g c =
+    let added = c.in-Ok.ensures.added in
+    let taken = of_tick _ _ c.args.kept.hosted.world.tick c.args.stream.now _ c.tick.ensures (ap (λ (w : Stored). w.tick) c.world.ensures) c.take_tick-uploads.ensures.taken in (
+      added.step,
+      added.after,
+      added.is c.args.stream.now taken,
+      added.serials,
+      subst (λ (b : List ℕ). Appends (g.O.Sink.written c.args.out.now) (g.O.Sink.written c.print_lines.new.out) b) (handed added.step c.in-Ok.done.uploads c.in-Ok.done.lines.items c.deref.result.now added.said c.deref.ensures.value) c.in-Ok-print_lines.ensures.whole,
+      added.keeps,
+      added.each,
+      added.has,
     )
 
 pub returns-in-Err-clause-cut : goal.returns-in-Err-clause-cut
 returns-in-Err-clause-cut g c =
-    let made = c.in-Ok.ensures.step in
-    let told = c.in-Ok.made.told in
-    let serials : HaveSerials c.args.kept.hosted.world.rooms = subst (λ (w : Stored). HaveSerials w.rooms) c.world.ensures c.in_default.ensures.none in
-    let taken = c.take_tick-uploads.ensures.taken ∙ ap (λ n. uploads_at n c.args.stream.now) (c.tick.ensures ∙ ap (λ (w : Stored). w.tick) c.world-2.ensures) in
-    let moments = g.D.Disk.moments c.args.disk.now in
-    let later = g.D.Disk.moments c.record.new.disk in
+    let taken = of_tick _ _ c.args.kept.hosted.world.tick c.args.stream.now _ c.tick.ensures (ap (λ (w : Stored). w.tick) c.world.ensures) c.take_tick-uploads.ensures.taken in
+    elim c.in-Err.ensures.lost [
+      | inl same ↦ inl (same, refl)
+      | inr lost ↦ inr (record {
+        step = lost.step;
+        serials = lost.serials;
+        is = lost.is c.args.stream.now taken;
+        hosted = lost.hosted;
+        each = lost.each;
+        printed = inl refl;
+      })
+    ]
+
+pub returns-in-Err-print_lines-clause-cut : goal.returns-in-Err-print_lines-clause-cut
+returns-in-Err-print_lines-clause-cut g c =
+    let added = c.in-Ok.ensures.added in
+    let taken = of_tick _ _ c.args.kept.hosted.world.tick c.args.stream.now _ c.tick.ensures (ap (λ (w : Stored). w.tick) c.world.ensures) c.take_tick-uploads.ensures.taken in
     inr (record {
-      step = made.0;
-      serials = serials;
-      is = made.3 c.args.stream.now taken;
-      hosted = subst (λ (held : Held). IsHosted held.world) (sym made.1) c.in-Ok.ensures.hosted;
-      each = λ base entries start has. subst (λ (r : TickRecord). LeavesSince (IsBeforeOrAfter base entries r) moments later) (sym made.2)
-          (c.record.ensures.each_moment base entries has (may_follow base entries c.args.kept (with_uploads told.uploads told.entry) _ _ start c.in-Ok.ensures.follows));
-      printed = elim c.in-Err.ensures.stopped [
-        | inl same ↦ inl same
-        | inr part ↦ inr (
-          subst (λ (b : List ℕ). AppendsPrefix (g.O.Sink.written c.args.out.now) (g.O.Sink.written c.record.new.out) b) (sym made.4) part.0,
-          λ base entries start has. subst (λ (r : TickRecord). LeavesNow (IsJournal base (entries ++ r ∷ [])) later) (sym made.2)
-              (now_has base _ _ _ later (part.1 base entries has (may_follow base entries c.args.kept (with_uploads told.uploads told.entry) _ _ start c.in-Ok.ensures.follows))),
-        )
-      ];
+      step = added.step;
+      serials = added.serials;
+      is = added.is c.args.stream.now taken;
+      hosted = subst (λ (held : Held). IsHosted held.world) (sym added.after) c.in-Ok.ensures.hosted;
+      each = added.each;
+      printed = inr (
+        subst (λ (b : List ℕ). AppendsPrefix (g.O.Sink.written c.args.out.now) (g.O.Sink.written c.print_lines.new.out) b) (handed added.step c.in-Ok.done.uploads c.in-Ok.done.lines.items c.deref.result.now added.said c.deref.ensures.value) c.in-Err-print_lines.ensures.cut,
+        λ base entries start has. now_has base _ _ _ _ (added.has base entries start has),
+      );
     })
+
+pub returns-in-Err-print_lines-clause-write_stopped : goal.returns-in-Err-print_lines-clause-write_stopped
+returns-in-Err-print_lines-clause-write_stopped g c = λ stopped.
+    let added = c.in-Ok.ensures.added in
+    let taken = of_tick _ _ c.args.kept.hosted.world.tick c.args.stream.now _ c.tick.ensures (ap (λ (w : Stored). w.tick) c.world.ensures) c.take_tick-uploads.ensures.taken in (
+      added.step,
+      added.is c.args.stream.now taken,
+      added.serials,
+      subst (λ (held : Held). IsHosted held.world) (sym added.after) c.in-Ok.ensures.hosted,
+      subst (λ (b : List ℕ). AppendsPrefix (g.O.Sink.written c.args.out.now) (g.O.Sink.written c.print_lines.new.out) b) (handed added.step c.in-Ok.done.uploads c.in-Ok.done.lines.items c.deref.result.now added.said c.deref.ensures.value) c.in-Err-print_lines.ensures.cut,
+      λ base entries start. whole_of base _ _ _ _ (added.keeps base entries start).journal,
+    )
+
+not_fault : (status : Status) (index : ℕ) → status ≡ statuses.IdsExhausted index → status ≢ statuses.DiskFault
+not_fault status index is = λ other. cc
+
+pub returns-in-Err-clause-exhausted : goal.returns-in-Err-clause-exhausted
+returns-in-Err-clause-exhausted g c = λ index is.
+    let stop = c.in-Err.ensures in
+    (stop.exhausted index is, (stop.same (not_fault _ index is)).0, refl)

@@ -3,7 +3,7 @@ use Rattle.hosted_tick.specs.Hosting.{IsHosted}
 use Rattle.site_limit.specs.FewSites.{HaveFewSites}
 use Rattle.tick_journal.specs.BaseForms.{world_as_read}
 use Rattle.world_run.proofs.Opened.{course_as_read}
-use Rattle.world_run.proofs.opening.restore.Goals as goal
+use Rattle.world_run.proofs.opening.resume.Goals as goal
 
 pub returns-clause-at_end : goal.returns-clause-at_end
 returns-clause-at_end c = λ entries found.
