@@ -1,0 +1,4 @@
+pub mod Given
+pub mod Summaries
+pub mod Serving
+pub mod inner
