@@ -137,6 +137,11 @@ RUNS = {
     "world_journal::UntestedWalk::tested": "program.py",
     "world_journal::read_base": "journals.py",
     "world_roster::Roster::of": "rooms.py",
+    "world_run::load_world": "program.py",
+    "world_run::record_tick": "program.py",
+    "world_run::record_tick DiskFault": "failures.py",
+    "world_run::resume": "journals.py",
+    "world_run::same_base": "journals.py",
     "world_text::Text::of": "world_files.py",
     "world_text::Text::push": "world_files.py",
     "world_text::Tokens::push": "world_files.py",
@@ -160,7 +165,37 @@ NAMES = {"Bad": "Uploads", "Empty": "is_empty"}
 # Names of methods that are those of std's types too.
 COMMON = {"copy", "new", "of", "push", "reserve"}
 # Crates of tests alone, whose functions serve the tests of all their files.
-OF_TESTS = {"base_examples", "content_examples", "device_examples", "journal_examples", "machine_examples", "module_round_trip", "run_examples"}
+OF_TESTS = {
+    "base_examples",
+    "content_examples",
+    "device_examples",
+    "hub_examples",
+    "journal_examples",
+    "machine_examples",
+    "module_round_trip",
+    "run_examples",
+    "serve_examples",
+    "session_examples",
+    "socket_examples",
+}
+
+# The ends of a call of the program, but for want of memory.
+ALL_ENDS = {
+    "DiskFault",
+    "Differs",
+    "Done",
+    "IdsExhausted",
+    "NoJournal",
+    "NoSuchTick",
+    "NotAJournal",
+    "OtherWorld",
+    "ReadFault",
+    "Refused",
+    "Uploads",
+    "Usage",
+    "World",
+    "WriteFault",
+}
 
 # The answers that a clause says never come.
 NEVER = {
@@ -172,6 +207,9 @@ NEVER = {
     "world_journal::span": {"NoSuchTick"},
     "module_round_trip::written_and_read": {"Malformed", "TooLarge"},
     "player_run::admit": {"UnknownPlayer", "WrongToken"},
+    "world_run::load_world": ALL_ENDS - {"World", "ReadFault"},
+    "world_run::record_tick": ALL_ENDS - {"IdsExhausted", "DiskFault"},
+    "world_run::same_base": ALL_ENDS - {"OtherWorld"},
 }
 
 
