@@ -1,17 +1,28 @@
 // The commands, and the files that they are run over.
 ghost use Rattle.std.specs.Prelude.{◌≡◌, ◌≢◌, ◌≤◌, ◌⊎◌, map, string_bytes};
-ghost use Rattle.command_words.specs.Words.{AreOfTool, AreRun, AreRunBy};
+ghost use Rattle.command_words.specs.Words.{AreOfTool, AreRun, AreRunBy, AreServe};
 ghost use Rattle.world_run.specs.Runs.{IsPastWords};
 
 use command_words::{Command, WordsFault, read_words};
 use run_status::Status;
 use shared_run::run_shared;
+use shared_serve::serve_shared;
+use socket_links::{SleepPace, SocketDoor};
+use std::net::{Net, TcpListener, TcpStream};
+use std::sync::Wait;
 use std::thread::Threads;
+use std::time::{Clock, Duration};
 use world_io::{
-    Disk, FileDisk, FileSource, MemoryDisk, OpenGate, Source, SteadySource, StreamSink,
+    Disk, FileDisk, FileSource, MemoryDisk, OpenGate, Source, SteadySource, StreamSink, write_all,
 };
 use world_run::run_alone;
 use world_tools::tool_main;
+
+// How long a read or a write of a link waits at most, in seconds.
+const PATIENCE: u64 = 60;
+
+// How long a link lives at most, in seconds.
+const LIFE: u64 = 3600;
 
 /// How a call ends whose words could not be read.
 pub fn refused_words(fault: WordsFault) -> Status
@@ -29,11 +40,13 @@ pub fn refused_words(fault: WordsFault) -> Status
 ///
 /// A journal is made where a run finds none. A file that cannot be opened fails at its first call, as a
 /// source or a disk that fails.
-pub fn run_command<R: Threads + Sync>(rt: &HostRuntime, threads: &R, words: &[String]) -> Status
+pub fn run_command<
+    R: Threads + Wait + Net<Listener = TcpListener, Stream = TcpStream> + Clock + Sync,
+>(rt: &HostRuntime, threads: &R, words: &[String]) -> Status
     ensures usage { result ≡ Status.Usage → (AreRun (map string_bytes words.now) → ⊥)
-        × (AreOfTool (map string_bytes words.now) → ⊥) }
+        × (AreServe (map string_bytes words.now) → ⊥) × (AreOfTool (map string_bytes words.now) → ⊥) }
     ensures words { IsPastWords result → AreRun (map string_bytes words.now)
-        ⊎ AreOfTool (map string_bytes words.now) }
+        ⊎ AreServe (map string_bytes words.now) ⊎ AreOfTool (map string_bytes words.now) }
 {
     match read_words(rt.alloc(), words) {
         Ok(
@@ -53,6 +66,25 @@ pub fn run_command<R: Threads + Sync>(rt: &HostRuntime, threads: &R, words: &[St
             uploads.as_str(),
             journal.as_str(),
         ),
+        Ok(
+            Command::Serve {
+                world,
+                journal,
+                ticks: _,
+                links: _,
+                port,
+                workers: _,
+                pace,
+            },
+        ) => serve_files(
+            rt,
+            threads,
+            words,
+            world.as_str(),
+            journal.as_str(),
+            port,
+            pace,
+        ),
         Ok(Command::Check { module }) => {
             let mut module = FileSource::open(rt, module.as_str());
             use_tool(rt, words, &mut module, &mut no_disk(rt))
@@ -62,7 +94,6 @@ pub fn run_command<R: Threads + Sync>(rt: &HostRuntime, threads: &R, words: &[St
         }
         Ok(Command::Show { journal, tick: _ }) => read_journal(rt, words, journal.as_str()),
         Ok(Command::Replay { journal }) => read_journal(rt, words, journal.as_str()),
-        Ok(Command::Serve { .. }) => Status::Usage,
         Err(fault) => refused_words(fault),
     }
 }
@@ -106,6 +137,52 @@ fn run_files<R: Threads + Sync>(
             &mut disk,
             &OpenGate,
         )
+    }
+}
+
+// Serves the world of a file at a port of this machine, over the file of a journal, which is made where it is
+// not there. A line on standard error says where it listens, or that the port can't be had.
+fn serve_files<R: Threads + Wait + Net<Listener = TcpListener, Stream = TcpStream> + Clock + Sync>(
+    rt: &HostRuntime,
+    threads: &R,
+    words: &[String],
+    world: &str,
+    journal: &str,
+    port: u16,
+    pace: u32,
+) -> Status
+    requires { AreServe (map string_bytes words.now) }
+    ensures { result ≢ Status.Usage }
+{
+    let mut world = FileSource::open(rt, world);
+    let mut disk = FileDisk::open_or_make(rt, journal);
+    let door = SocketDoor::open(
+        threads,
+        port,
+        Duration::from_secs(PATIENCE),
+        Duration::from_secs(LIFE),
+    );
+    tell_door(rt, port, door.is_open());
+    serve_shared(
+        threads,
+        rt.alloc(),
+        words,
+        &mut world,
+        &mut disk,
+        &door,
+        &mut SleepPace::new(threads, u64::from(pace)),
+    )
+}
+
+// Says on standard error where the door is, or that there is none.
+fn tell_door(rt: &HostRuntime, port: u16, is_open: bool) {
+    let line = if is_open {
+        format!(in rt.alloc(); "serving at 127.0.0.1:{port}\n")
+    } else {
+        format!(in rt.alloc(); "port {port} can't be had: serving no links\n")
+    };
+    if let Ok(line) = line {
+        let _ = write_all(&mut StreamSink::over(rt.stderr()), line.as_bytes());
     }
 }
 

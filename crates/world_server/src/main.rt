@@ -9,8 +9,11 @@ use run_status::Status;
 use server_calls::{refused_words, run_command};
 use std::env;
 use std::io::ErrorKind;
+use std::net::{Net, TcpListener, TcpStream};
 use std::process::ExitCode;
+use std::sync::Wait;
 use std::thread::Threads;
+use std::time::Clock;
 use world_io::{StreamSink, write_all};
 
 fn main(rt: HostRuntime) -> ExitCode {
@@ -43,7 +46,11 @@ fn words_after_the_name(rt: &HostRuntime) -> Result<Vec<String>, WordsFault> {
 }
 
 // Prints the page that the words ask for, or runs the command that they say, which may start threads.
-fn answer<R: Threads + Sync>(rt: &HostRuntime, threads: &R, words: &[String]) -> Status {
+fn answer<R: Threads + Wait + Net<Listener = TcpListener, Stream = TcpStream> + Clock + Sync>(
+    rt: &HostRuntime,
+    threads: &R,
+    words: &[String],
+) -> Status {
     match page_of(words) {
         Some(page) => print(rt, page),
         None => run_command(rt, threads, words),

@@ -8,6 +8,8 @@ const HELP: &str =
     \n\
     Choices:\n\
     \x20 run WORLD UPLOADS JOURNAL --ticks N  runs N ticks and prints the lines of each; with --workers K by K threads\n\
+    \x20 serve WORLD JOURNAL --ticks N --links M --port P\n\
+    \x20                                      runs N ticks, and serves M links of players at a port meanwhile\n\
     \x20 check MODULE                         says whether players may upload a module\n\
     \x20 gen SEED ROOMS PART                  prints a world that is made of a number, or its players' modules\n\
     \x20 demo SEED ROOMS TICKS                runs such a world in memory, and prints how its last tick ended\n\
@@ -40,6 +42,27 @@ const RUN_HELP: &str = "world_server run WORLD UPLOADS JOURNAL --ticks N [--work
     \x20 world_server run worlds/small.json worlds/no_uploads.bin small.journal --ticks 2\n\
     \n\
     docs/hosting.md explains the files, the lines and the exit statuses.\n";
+
+const SERVE_HELP: &str =
+    "world_server serve WORLD JOURNAL --ticks N --links M --port P [--workers K] [--pace MS]\n\
+    \n\
+    Runs N ticks on a world, and meanwhile serves M links of players at a port of this machine, four at a time.\n\
+    They upload modules and ask how the world stands. A line on standard error says where links are served.\n\
+    \n\
+    \x20 WORLD        the path of a world file, of at most 64 MiB, which has the players' tokens\n\
+    \x20 JOURNAL      the path of the journal: where none stands it is begun, and else the ticks go on from its\n\
+    \x20              last one; it has to begin with this world\n\
+    \x20 --ticks N    how many ticks, in digits: 0 to 1000000\n\
+    \x20 --links M    how many links, in digits: 0 to 1000000; it ends when ticks and links are over\n\
+    \x20 --port P     the port of 127.0.0.1, in digits: 1 to 65535\n\
+    \x20 --workers K  how many threads run players and step rooms, in digits: 1 to 16; where it is left out, 1\n\
+    \x20 --pace MS    how many milliseconds to wait before each tick, in digits: 0 to 60000; where it is left\n\
+    \x20              out, 0\n\
+    \n\
+    An example, in the top folder of the repository, ten ticks without links:\n\
+    \x20 world_server serve worlds/small.json small.journal --ticks 10 --links 0 --port 7777\n\
+    \n\
+    docs/hosting.md says how to serve a world, and docs/formats.md what a link says.\n";
 
 const CHECK_HELP: &str = "world_server check MODULE\n\
     \n\
@@ -122,6 +145,7 @@ pub(crate) fn page_of(words: &[String]) -> Option<&'static str> {
 fn page_of_choice(choice: &str, word: &str) -> Option<&'static str> {
     let help = match choice {
         "run" => RUN_HELP,
+        "serve" => SERVE_HELP,
         "check" => CHECK_HELP,
         "gen" => GEN_HELP,
         "demo" => DEMO_HELP,

@@ -1,5 +1,5 @@
 use Rattle.std.proofs.Common.{◌≡◌, ◌∙◌, refl, sym}
-use Rattle.command_words.specs.Commands.{a_run}
+use Rattle.command_words.specs.Commands.{a_run, a_serve}
 use Rattle.command_words.proofs.Tools.{none_of_tool}
 use Rattle.command_words.specs.declared.command.WordsFault.{WordsFault}
 use Rattle.command_words.specs.declared.command.WordsFault.TheVariants as faults
@@ -14,8 +14,8 @@ is_usage faults.Usage status wanted is = refl
 is_usage faults.Memory status wanted is =
     let bad : statuses.Memory ≡ statuses.Usage = sym (wanted refl) ∙ is in cc
 
-pub returns-clause-usage : goal.returns-clause-usage
-returns-clause-usage g c = λ is.
+pub returns-in-Err-clause-usage : goal.returns-in-Err-clause-usage
+returns-in-Err-clause-usage g c = λ is.
     let none = c.in-Err.ensures.usage
     (is_usage c.in-Err.fault c.refused_words.result c.refused_words.ensures.memory is) in
-    (none a_run, none_of_tool _ none)
+    (none a_run, none a_serve, none_of_tool _ none)

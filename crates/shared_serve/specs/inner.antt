@@ -1,0 +1,2 @@
+-- Definitions that private functions and proofs cite alone.
+pub mod Ticks
