@@ -536,8 +536,9 @@ def check_words():
 def check_pages():
     """What the program says of itself. Its texts are compared in part: docs/hosting.md has their first and last lines."""
     pages = {
-        ("--help",): [b"run WORLD UPLOADS JOURNAL --ticks N", b"check MODULE", b"gen SEED ROOMS PART", b"demo SEED ROOMS TICKS", b"show JOURNAL TICK", b"replay JOURNAL", b"docs/hosting.md", b"docs/players.md"],
+        ("--help",): [b"run WORLD UPLOADS JOURNAL --ticks N", b"serve WORLD JOURNAL --ticks N --links M --port P", b"check MODULE", b"gen SEED ROOMS PART", b"demo SEED ROOMS TICKS", b"show JOURNAL TICK", b"replay JOURNAL", b"docs/hosting.md", b"docs/players.md"],
         ("run", "--help"): [b"WORLD", b"UPLOADS", b"JOURNAL", b"--ticks N", b"--workers K", b"docs/hosting.md"],
+        ("serve", "--help"): [b"WORLD", b"JOURNAL", b"--ticks N", b"--links M", b"--port P", b"--workers K", b"--pace MS", b"docs/hosting.md", b"docs/formats.md"],
         ("check", "--help"): [b"MODULE", b"docs/players.md"],
         ("gen", "--help"): [b"SEED", b"ROOMS", b"PART", b"`world`", b"`uploads`", b"docs/hosting.md", b"docs/formats.md"],
         ("show", "--help"): [b"JOURNAL", b"TICK", b"docs/hosting.md", b"docs/formats.md"],
@@ -545,6 +546,7 @@ def check_pages():
         ("replay", "--help"): [b"JOURNAL", b"docs/hosting.md"],
         ("--version",): [b"world_server 1\n"],
         ("run", "--version"): [b"world_server 1\n"],
+        ("serve", "--version"): [b"world_server 1\n"],
         ("check", "--version"): [b"world_server 1\n"],
         ("gen", "--version"): [b"world_server 1\n"],
         ("show", "--version"): [b"world_server 1\n"],
@@ -740,12 +742,14 @@ def check_modules():
 CALL = "crates/world_server/out/world_server "
 MAKER = "players/upload_stream.py "
 SHOWER = "players/show_room.py "
+# What starts a server, uploads to it, asks or ends it, is run by checks/serve.py.
+SERVED = (CALL + "serve worlds/", "players/upload.py ", "kill %1")
 
 # How many examples each document has: one that is lost, or that is no longer found, is a fault as one too many is.
-EXAMPLES = {"README.md": 6, "docs/hosting.md": 26, "docs/players.md": 23}
+EXAMPLES = {"README.md": 6, "docs/hosting.md": 27, "docs/players.md": 23}
 
 # What the other blocks of these documents begin with, and where they are run, if anywhere.
-OF_PLAYERS, OF_GATE, NOWHERE = "checks/players.py", ".ci/run", "a form, or a command that takes a prover or a compiler for Rust"
+OF_PLAYERS, OF_GATE, NOWHERE = "checks/players.py", ".ci/run", "a form, or what takes a prover, a compiler for Rust or another machine"
 OTHERS = {
     "README.md": {"rm -f small.journal && (cd crates/world_server && rt run -- ": NOWHERE, ".ci/run": OF_GATE},
     "docs/hosting.md": {
@@ -756,6 +760,10 @@ OTHERS = {
         "world_server demo SEED ROOMS TICKS": NOWHERE,
         "world_server show JOURNAL TICK": NOWHERE,
         "world_server replay JOURNAL": NOWHERE,
+        "world_server serve WORLD JOURNAL ": NOWHERE,
+        "ssh -N -L 7777:127.0.0.1:7777 ": NOWHERE,
+        "socat TCP-LISTEN:7777,": NOWHERE,
+        "stream {": NOWHERE,
     },
     "docs/players.md": {
         "players/build.sh players/dropper.c": OF_PLAYERS,
@@ -775,7 +783,7 @@ def openings_of(text):
 
 def other_faults(text, others):
     """The blocks that are none of the examples and not among these, and those among these that the text doesn't have."""
-    found = [line for line in openings_of(text) if not line.startswith((CALL, MAKER, SHOWER))]
+    found = [line for line in openings_of(text) if not line.startswith((CALL, MAKER, SHOWER, *SERVED))]
     faults = [f"a block that nothing runs: {line}" for line in found if not line.startswith(tuple(others))]
     return faults + [f"no block begins with {start}" for start in others if not any(line.startswith(start) for line in found)]
 
@@ -784,7 +792,9 @@ def examples_of(text):
     """The calls of the program and of the scripts for players in indented blocks, each with the lines that stand behind it in its block."""
     found, last = [], None
     for line in text.splitlines():
-        if line.startswith(("    " + CALL, "    " + MAKER, "    " + SHOWER)):
+        if line.startswith("    ") and line.strip().startswith(SERVED):
+            last = None
+        elif line.startswith(("    " + CALL, "    " + MAKER, "    " + SHOWER)):
             last = (line.strip(), [])
             found.append(last)
         elif line.startswith("    ") and last:
