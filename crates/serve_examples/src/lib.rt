@@ -4,4 +4,6 @@
 #[cfg(test)]
 mod serving;
 #[cfg(test)]
+mod shared_tests;
+#[cfg(test)]
 mod tick_tests;

@@ -14,8 +14,8 @@ use world_journal::Journal;
 use world_link::Pace;
 use world_run::run_alone;
 
-// (module (func (export "loop")))
-const LOOP: &[u8] =
+/// `(module (func (export "loop")))`, in 34 bytes
+pub const LOOP: &[u8] =
     b"\0asm\x01\0\0\0\x01\x04\x01\x60\0\0\x03\x02\x01\0\x07\x08\x01\x04loop\0\0\x0a\x04\x01\x02\0\x0b";
 
 // A pace that counts how often it was waited for.
@@ -41,14 +41,22 @@ pub struct Served {
     pub journal: Vec<u8>,
 }
 
-// A room of one source that is renewed at once, and a pile of 1,001, and two players.
-fn world(alloc: Global) -> Result<String, AllocError> {
+/// A room of one source that is renewed at once, and a pile of 1,001, and two players, of whom player 3 has a
+/// token.
+pub fn world(alloc: Global) -> Result<String, AllocError> {
+    world_of(alloc, 1001)
+}
+
+/// The same with a pile of so much energy.
+pub fn world_of(alloc: Global, pile: u64) -> Result<String, AllocError> {
     // (tiles of plain ground: a zero that is padded to so many, with walls at the corners)
     let plain = 0;
     let ground = format!(in alloc; "1{plain:048}1{plain:02400}1{plain:048}1")?;
     let source = "{\"id\":1,\"kind\":\"source\",\"x\":10,\"y\":10,\"timer\":1}";
-    let pile = "{\"id\":2,\"kind\":\"pile\",\"x\":20,\"y\":20,\"energy\":1001}";
-    let players = "{\"player\":1,\"limit\":20},{\"player\":3,\"limit\":20}";
+    let pile = format!(in alloc;
+        "{{\"id\":2,\"kind\":\"pile\",\"x\":20,\"y\":20,\"energy\":{pile}}}"
+    )?;
+    let players = "{\"player\":1,\"limit\":20},{\"player\":3,\"limit\":20,\"token\":\"abc\"}";
     format!(in alloc;
         "{{\"version\":1,\"tick\":0,\"rooms\":[{{\"name\":\"E0S0\",\"terrain\":\"{ground}\",\
         \"next\":3,\"objects\":[{source},{pile}]}}],\"players\":[{players}]}}"
