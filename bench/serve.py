@@ -96,16 +96,16 @@ def tick_time(client, seconds):
     return (ended - began) / (last - first)
 
 
-def beside(server, is_asking=True, count=CLIENTS - 1):
+def beside(server, seconds, is_asking=True, count=CLIENTS - 1):
     """Clients who ask, and where they put their times. (The fourth is the one who looks at the ticks.)"""
-    answers, until = multiprocessing.Queue(), time.perf_counter() + SECONDS + 0.5
+    answers, until = multiprocessing.Queue(), time.perf_counter() + seconds + 0.5
     askers = [multiprocessing.Process(target=ask_often, args=(server.port, until, answers, is_asking), daemon=True) for _ in range(count)]
     for one in askers:
         one.start()
     return askers, answers
 
 
-def measured_beside(name, first, modules_of, workers):
+def measured_beside(name, first, modules_of, workers, seconds=SECONDS):
     with tempfile.TemporaryDirectory(dir="/dev/shm" if os.path.isdir("/dev/shm") else None) as folder:
         with open(os.path.join(folder, "world.json"), "wb") as it:
             it.write(first)
@@ -117,17 +117,17 @@ def measured_beside(name, first, modules_of, workers):
             server.until(lambda: client.status().tick > before + 2, "no ticks", 120)
             alone, asked, busy, times = [], [], [], []
             for _ in range(ROUNDS):
-                alone.append(tick_time(client, SECONDS))
+                alone.append(tick_time(client, seconds))
                 for found, is_asking in ((asked, True), (busy, False)):
-                    askers, answers = beside(server, is_asking)
-                    found.append(tick_time(client, SECONDS))
+                    askers, answers = beside(server, seconds, is_asking)
+                    found.append(tick_time(client, seconds))
                     replies = [one for _ in askers for one in answers.get(timeout=60)]
                     times += replies if is_asking else []
                     for one in askers:
                         one.join(10)
     times.sort()
     parts = "".join(f"{1e6 * times[min(len(times) - 1, int(part * len(times)))]:10,.0f}" for part in PARTS)
-    rate = len(times) / ROUNDS / SECONDS
+    rate = len(times) / ROUNDS / (seconds + 0.5)
     ticks = [1e3 * min(one) for one in (alone, busy, asked)]
     print(f"{name:46}{rate:8,.0f}{parts}{ticks[0]:11.3f}{ticks[1]:11.3f}{ticks[2]:11.3f}{ticks[2] / ticks[0]:8.2f}", flush=True)
 
@@ -136,7 +136,8 @@ def questions():
     head = f"{'asked':>8}" + "".join(f"{f'{100 * part:g}%':>10}" for part in PARTS) + f"{'tick alone':>11}{'busy':>11}{'asked':>11}{'ratio':>8}"
     print(f"{'STATUS, times in us, ticks in ms':46}{head}", flush=True)
     spending = dict.fromkeys(range(1, PLAYERS + 1), WITHOUT_END)
-    measured_beside("a room with two objects", small(), {}, 1)
+    # (its million ticks are over in some seconds)
+    measured_beside("a room with two objects", small(), {}, 1, seconds=0.1)
     measured_beside("16 players who use their budget, 1 worker", wide(), spending, 1)
     measured_beside("16 players who use their budget, 4 workers", wide(), spending, 4)
     measured_beside("the same rooms without modules", wide(), {}, 1)
