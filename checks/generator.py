@@ -16,7 +16,7 @@ TOP = os.path.dirname(os.path.dirname(os.path.abspath(__file__)))
 sys.path.insert(0, os.path.join(TOP, "bench"))
 sys.path.insert(0, os.path.join(TOP, "players"))
 from checked_program import run, write_files  # noqa: E402
-from show_room import frames, read_base, read_tick  # noqa: E402
+from journal_file import worlds_of  # noqa: E402
 
 STATES = 1 << 64
 TICKS = 300
@@ -207,12 +207,8 @@ def played(made, stream, ticks):
         write_files(folder, {"world.json": json.dumps(made).encode(), "stream": stream})
         status, out, _ = run(["run", "world.json", "stream", "journal", "--ticks", str(ticks)], folder)
         with open(os.path.join(folder, "journal"), "rb") as it:
-            contents = frames(it.read())
-    _, _, rooms = read_base(next(contents))
-    states = [rooms]
-    for content in contents:
-        rooms = rooms | read_tick(content)[1]
-        states.append(rooms)
+            # (a tick brings lists of its own, so those of the worlds before it stay)
+            states = [{index: room.objects for index, room in world.rooms.items()} for _, world in worlds_of(it.read())]
     return status, out.decode().splitlines(), states
 
 

@@ -1,133 +1,153 @@
 #!/usr/bin/env python3
 """Shows a room as a journal has it after a tick: a picture of the tiles on which something stands, and a list of all that does.
 
-    players/show_room.py harvest.journal 0 300
+    players/show_room.py JOURNAL ROOM TICK [--all]
 
-shows the room with the index 0 in the world of tick 300. In the picture `.` is plain, `#` wall and `~` swamp. Of several objects on a tile
-the one that stands first in the list of letters below it is shown. In the list a field that is 0 is left out.
+ROOM is the index of a room or its name, as 0 or E0S0, and TICK the tick of the world. With --all the picture has all 50 by 50 tiles of
+the room, and else those around what stands there. --help prints this.
+
+The columns have their x above them, tens over ones, and the rows their y at the left. In the picture `.` is plain, `#` wall and `~` swamp.
+Of several objects on a tile the one that comes first in this list is shown: `@` creep, `o` source, `C` controller, `S` spawn, `E` extension,
+`T` storage, `B` container, `+` site, `=` road, `*` pile. Where creeps of several players stand in the room, those of the player with the
+least number are `@`, those of the next `a`, then `b` and so on without `o`, and a line says which is whose.
+
+In the list a field that is 0 is left out, and `player 1` is the owner.
 """
 
-import struct
+import os
 import sys
 
-KINDS = ["source", "controller", "creep", "spawn", "extension", "storage", "container", "road", "pile", "site"]
+from journal_file import FIELDS, SIDE, NotAJournal, worlds_of
+
 LETTERS = {"creep": "@", "source": "o", "controller": "C", "spawn": "S", "extension": "E", "storage": "T", "container": "B", "site": "+", "road": "=", "pile": "*"}
-PARTS = ["move", "work", "carry", "attack", "ranged_attack", "tough", "heal", "claim"]
-FIELDS = ["owner", "hits", "energy", "timer", "extra", "progress", "other", "other_ticks"]
+# Those of the creeps of each further player, and that of all players who are left then.
+FURTHER, LEFT = "abcdefghijklmnpqrstuvwxyz", "?"
 GROUNDS = ".#~"
+MOST_NUMBER = 2**64 - 1
 
 
-class Reader:
-    """Numbers and bytes, one after the other."""
-
-    def __init__(self, content):
-        self.content, self.at = content, 0
-
-    def take(self, form):
-        found = struct.unpack_from("<" + form, self.content, self.at)
-        self.at += struct.calcsize("<" + form)
-        return found if len(found) > 1 else found[0]
-
-    def bytes(self, length):
-        self.at += length
-        return self.content[self.at - length : self.at]
-
-    def object(self):
-        id, kind, x, y, *fields, parts = self.take("QBBBIIQIIQIIB")
-        body = [PARTS[part - 1] for part in self.bytes(parts)]
-        return {"id": id, "kind": KINDS[kind - 1], "x": x, "y": y, **dict(zip(FIELDS, fields)), "body": body}
-
-    def room(self):
-        """A room's index and objects."""
-        index, _, count = self.take("III")
-        return index, [self.object() for _ in range(count)]
-
-    def account(self):
-        self.take("IIIQ")
-        self.bytes(self.take("I"))
+class Refused(Exception):
+    """Why nothing is shown."""
 
 
-def frames(journal):
-    """The contents of a journal up to its closed gate, one after the other."""
-    at = 0
-    while journal[at]:
-        (length,) = struct.unpack_from("<Q", journal, at + 1)
-        yield Reader(journal[at + 9 : at + 9 + length])
-        at += 9 + length
+# ---- words and lines
 
 
-def read_base(reader):
-    """The tick, the terrains and the rooms of the base."""
-    reader.bytes(8)
-    tick, count = reader.take("Q"), reader.take("I")
-    grounds, rooms = [], {}
-    for _ in range(count):
-        reader.bytes(8)
-        grounds.append(reader.bytes(2500))
-        index, rooms[index] = reader.room()
-    return tick, grounds, rooms
+def number(text):
+    """A number of a journal, or None where the text is none."""
+    digits = text.lstrip("0") or "0"
+    # (the length first, since Python doesn't read numbers of any length)
+    is_one = text.isascii() and text.isdigit() and len(digits) <= len(str(MOST_NUMBER))
+    return int(digits) if is_one else None
 
 
-def read_tick(reader):
-    """The tick and the rooms of a tick's content, which are those that changed."""
-    reader.bytes(1)
-    tick = reader.take("Q")
-    for _ in range(reader.take("I")):
-        reader.bytes(5)
-        reader.bytes(reader.take("I"))
-    for _ in range(reader.take("I")):
-        reader.bytes(14)
-        for _ in range(reader.take("I")):
-            reader.bytes(25)
-            reader.bytes(reader.take("B"))
-    for _ in range(reader.take("I")):
-        reader.account()
-    return tick, dict(reader.room() for _ in range(reader.take("I")))
-
-
-def room_at(journal, index, wanted):
-    """The terrain of a room, and its objects after a tick, in rising id."""
-    contents = frames(journal)
-    tick, grounds, rooms = read_base(next(contents))
-    while tick != wanted:
-        tick, changed = read_tick(next(contents))
-        rooms |= changed
-    return grounds[index], rooms[index]
-
-
-def picture(ground, objects):
-    """The part of the room in which objects stand, with a tile around it."""
-    left, right = max(0, min(it["x"] for it in objects) - 1), min(49, max(it["x"] for it in objects) + 1)
-    top, bottom = max(0, min(it["y"] for it in objects) - 1), min(49, max(it["y"] for it in objects) + 1)
-    order = list(LETTERS)
-    standing = {}
-    for it in sorted(objects, key=lambda it: -order.index(it["kind"])):
-        standing[it["x"], it["y"]] = LETTERS[it["kind"]]
-    for y in range(top, bottom + 1):
-        yield "".join(standing.get((x, y), GROUNDS[ground[50 * y + x]]) for x in range(left, right + 1))
-
-
-def line(it):
-    fields = [f"{field} {it[field]}" for field in FIELDS if it[field]]
-    if it["body"]:
-        fields.append("body " + " ".join(it["body"]))
-    return f"{LETTERS[it['kind']]} {it['kind']} {it['id']} at {it['x']}, {it['y']}: {', '.join(fields)}"
-
-
-def main():
-    if len(sys.argv) != 4 or not (sys.argv[2] + sys.argv[3]).isdigit():
-        sys.exit("show_room.py: JOURNAL ROOM TICK")
-    path, index, tick = sys.argv[1], int(sys.argv[2]), int(sys.argv[3])
+def world_of(path, tick, turn=lambda record, world: None):
+    """The record and the world of a tick of a journal. `turn` is called with those of each tick up to this one."""
     try:
         with open(path, "rb") as it:
-            ground, objects = room_at(it.read(), index, tick)
+            journal = it.read()
     except OSError as error:
-        sys.exit(f"show_room.py: {error.strerror}: {path}")
-    except (StopIteration, KeyError, IndexError, struct.error):
-        sys.exit(f"show_room.py: {path} has no room {index} in tick {tick}")
-    for text in [*(picture(ground, objects) if objects else []), *map(line, objects)]:
-        print(text)
+        raise Refused(f"{error.strerror}: {path}") from None
+    ticks = []
+    try:
+        for record, world in worlds_of(journal):
+            turn(record, world)
+            ticks.append(world.tick)
+            if world.tick == tick:
+                return record, world
+    except NotAJournal as what:
+        raise Refused(f"{path} is no journal: {what}") from None
+    there = f"its worlds are those of the ticks {ticks[0]} to {ticks[-1]}" if ticks else "nothing is recorded in it"
+    raise Refused(f"{path} has no tick {tick}: {there}")
+
+
+def print_lines(lines):
+    """Prints lines, with nothing kept back that could fail at the end of the program."""
+    try:
+        print("\n".join(lines), flush=True)
+    except OSError as error:
+        # (what could not be written would be tried again)
+        os.dup2(os.open(os.devnull, os.O_WRONLY), sys.stdout.fileno())
+        raise Refused(f"{error.strerror}: standard output") from None
+
+
+def answer(name, run, text):
+    """Runs a script by its words: it prints its lines, its text where that is asked for, or in one line what is wrong."""
+    try:
+        print_lines([text.strip()] if {"-h", "--help"} & set(sys.argv[1:]) else run(sys.argv[1:]))
+    except Refused as refused:
+        sys.exit(f"{name}: {refused}")
+
+
+# ---- a room
+
+
+def room_of(world, text, path):
+    """The index of a room, by its index or its name."""
+    index = number(text)
+    found = next((at for at, room in world.rooms.items() if at == index or room.name == text), None)
+    if found is None:
+        raise Refused(f"{path} has no room {text}: its rooms are those of the indices 0 to {len(world.rooms) - 1}")
+    return found
+
+
+def letters_of(objects):
+    """The letter of each player's creeps, where several players have some in a room."""
+    players = sorted({it["owner"] for it in objects if it["kind"] == "creep"})
+    letters = [LETTERS["creep"], *FURTHER]
+    return {player: letters[at] if at < len(letters) else LEFT for at, player in enumerate(players)}
+
+
+def letter_of(it, letters):
+    return letters[it["owner"]] if it["kind"] == "creep" else LETTERS[it["kind"]]
+
+
+def side_of(places, whole):
+    """The first and the last of the columns, or of the rows, that are shown: those of all objects and one more on each side."""
+    if whole or not places:
+        return 0, SIDE - 1
+    return max(0, min(places) - 1), min(SIDE - 1, max(places) + 1)
+
+
+def picture(ground, objects, letters, whole):
+    left, right = side_of([it["x"] for it in objects], whole)
+    top, bottom = side_of([it["y"] for it in objects], whole)
+    order, standing = list(LETTERS), {}
+    for it in sorted(objects, key=lambda it: -order.index(it["kind"])):
+        standing[it["x"], it["y"]] = letter_of(it, letters)
+    yield "   " + "".join(str(x // 10) for x in range(left, right + 1))
+    yield "   " + "".join(str(x % 10) for x in range(left, right + 1))
+    for y in range(top, bottom + 1):
+        yield f"{y:2} " + "".join(standing.get((x, y), GROUNDS[ground[SIDE * y + x]]) for x in range(left, right + 1))
+
+
+def line(it, letters):
+    fields = [f"{'player' if field == 'owner' else field} {it[field]}" for field in FIELDS if it[field]]
+    if it["body"]:
+        fields.append("body " + " ".join(it["body"]))
+    return f"{letter_of(it, letters)} {it['kind']} {it['id']} at {it['x']}, {it['y']}: {', '.join(fields)}"
+
+
+def lines_of(index, room, tick, whole):
+    """What is printed of a room."""
+    objects, letters = room.objects, letters_of(room.objects)
+    yield f"room {index} {room.name}, tick {tick}"
+    if objects or whole:
+        yield from picture(room.ground, objects, letters, whole)
+    if len(letters) > 1:
+        yield "creeps: " + ", ".join(f"{letter} player {player}" for player, letter in letters.items())
+    yield from [line(it, letters) for it in objects] or ["nothing stands there"]
+
+
+def run(words):
+    whole, words = "--all" in words, [word for word in words if word != "--all"]
+    if len(words) != 3 or number(words[2]) is None:
+        raise Refused("the words are JOURNAL ROOM TICK [--all]: --help says more")
+    path, text, tick = words[0], words[1], number(words[2])
+    _, world = world_of(path, tick)
+    index = room_of(world, text, path)
+    return lines_of(index, world.rooms[index], tick, whole)
 
 
 if __name__ == "__main__":
-    main()
+    answer("show_room.py", run, __doc__)
