@@ -741,12 +741,12 @@ def check_modules():
 
 CALL = "crates/world_server/out/world_server "
 MAKER = "players/upload_stream.py "
-SHOWER = "players/show_room.py "
+SHOWERS = ("players/show_room.py ", "players/show_run.py ", "worlds/check_world.py ")
 # What starts a server, uploads to it, asks or ends it, is run by checks/serve.py.
 SERVED = (CALL + "serve worlds/", "players/upload.py ", "kill %1")
 
 # How many examples each document has: one that is lost, or that is no longer found, is a fault as one too many is.
-EXAMPLES = {"README.md": 6, "docs/hosting.md": 27, "docs/players.md": 23}
+EXAMPLES = {"README.md": 6, "docs/hosting.md": 28, "docs/players.md": 25}
 
 # What the other blocks of these documents begin with, and where they are run, if anywhere.
 OF_PLAYERS, OF_GATE, NOWHERE = "checks/players.py", ".ci/run", "a form, or what takes a prover, a compiler for Rust or another machine"
@@ -764,6 +764,7 @@ OTHERS = {
         "ssh -N -L 7777:127.0.0.1:7777 ": NOWHERE,
         "socat TCP-LISTEN:7777,": NOWHERE,
         "stream {": NOWHERE,
+        "fault 3 World BadValue Energy 1": "checks/shown.py",
     },
     "docs/players.md": {
         "players/build.sh players/dropper.c": OF_PLAYERS,
@@ -783,18 +784,19 @@ def openings_of(text):
 
 def other_faults(text, others):
     """The blocks that are none of the examples and not among these, and those among these that the text doesn't have."""
-    found = [line for line in openings_of(text) if not line.startswith((CALL, MAKER, SHOWER, *SERVED))]
+    found = [line for line in openings_of(text) if line.startswith(tuple(others)) or not line.startswith((CALL, MAKER, *SHOWERS, *SERVED))]
     faults = [f"a block that nothing runs: {line}" for line in found if not line.startswith(tuple(others))]
     return faults + [f"no block begins with {start}" for start in others if not any(line.startswith(start) for line in found)]
 
 
-def examples_of(text):
-    """The calls of the program and of the scripts for players in indented blocks, each with the lines that stand behind it in its block."""
+def examples_of(text, others=()):
+    """The calls of the program and of the scripts for players and for worlds in indented blocks, each with the lines that stand behind it in its
+    block. What begins as one of these others is run elsewhere."""
     found, last = [], None
     for line in text.splitlines():
-        if line.startswith("    ") and line.strip().startswith(SERVED):
+        if line.startswith("    ") and line.strip().startswith((*SERVED, *others)):
             last = None
-        elif line.startswith(("    " + CALL, "    " + MAKER, "    " + SHOWER)):
+        elif line.startswith(tuple("    " + start for start in (CALL, MAKER, *SHOWERS))):
             last = (line.strip(), [])
             found.append(last)
         elif line.startswith("    ") and last:
@@ -841,20 +843,21 @@ def maker_faults(call, printed, folder):
 
 
 def shower_faults(call, printed, folder):
-    """What is wrong of an example that shows what the journal of one before it has."""
+    """What is wrong of an example that shows what the journal of one before it has, or a world file. One that says a fault ends with the status 1."""
     done = subprocess.run([sys.executable, *call.split()], cwd=folder, stdin=subprocess.DEVNULL, stdout=subprocess.PIPE, stderr=subprocess.STDOUT, timeout=60)
-    return printed_faults(done.stdout, printed) + ([] if done.returncode == 0 else [f"exit status {done.returncode}"])
+    status = 1 if done.stdout.startswith(b"fault ") else 0
+    return printed_faults(done.stdout, printed) + ([] if done.returncode == status else [f"exit status {done.returncode}"])
 
 
 def check_documents():
-    kinds = {CALL: call_faults, MAKER: maker_faults, SHOWER: shower_faults}
+    kinds = {CALL: call_faults, MAKER: maker_faults, **{start: shower_faults for start in SHOWERS}}
     paths = [os.path.join(TOP, "README.md")]
     paths += sorted(os.path.join(TOP, "docs", it) for it in os.listdir(os.path.join(TOP, "docs")) if it.endswith(".md"))
     for path in paths:
         document = os.path.relpath(path, TOP)
         with open(path, encoding="utf-8") as it:
             text = it.read()
-        found = examples_of(text)
+        found = examples_of(text, OTHERS.get(document, ()))
         with tempfile.TemporaryDirectory() as folder:
             for part in ("worlds", "modules", "players"):
                 shutil.copytree(os.path.join(TOP, part), os.path.join(folder, part))

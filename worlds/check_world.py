@@ -67,7 +67,7 @@ class Parser:
 
     def fail(self, allowed, at=None):
         at = self.at if at is None else at
-        found = brief(self.text[at : at + MOST_SHOWN].split("\n")[0]) if at < len(self.text) else "nothing: the file ends"
+        found = brief(self.text[at : at + MOST_SHOWN + 1].split("\n")[0]) if at < len(self.text) else "nothing: the file ends"
         raise Fault("NotJson", at, "the JSON text", found, allowed)
 
     def match(self, form):
