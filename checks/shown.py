@@ -238,6 +238,9 @@ RUNS = [
     ("a creep that is made", [SPAWN], wants(("spawn_creep", 3, 0, 0, ["carry", "move"])), ["spawn 3 spawn_creep carry move: timer 0 to 5"]),
     ("a creep that is too dear", [SPAWN], wants(("spawn_creep", 3, 0, 0, ["work", "carry"])), ["spawn 3 spawn_creep work carry: nothing changed"]),
     ("a step", [WORKER], wants(("move", 2, 0, 3)), ["creep 2 move right: moved to 10, 10"]),
+    ("a step upwards", [WORKER], wants(("move", 2, 0, 1)), ["creep 2 move top: moved to 9, 9"]),
+    ("a step aslant", [WORKER], wants(("move", 2, 0, 6)), ["creep 2 move bottom left: moved to 8, 11"]),
+    ("steps onto one tile", [WORKER, creep(4, 9, 12, "move")], wants(("move", 2, 0, 5), ("move", 4, 0, 1)), ["creep 2 move bottom: moved to 9, 11", "creep 4 move top: stayed at 9, 12"]),
     ("a step of who is tired", [TIRED], wants(("move", 2, 0, 8)), ["creep 2 move top left: stayed at 9, 10"]),
     ("a step in no direction", [WORKER], wants(("move", 2, 0, 9)), ["creep 2 move 9: stayed at 9, 10"]),
     ("a step over the border", [{**WORKER, "x": 48}], wants(("move", 2, 0, 3)), ["creep 2 move right: moved to 0, 10 of room 1 E1S0"]),
@@ -360,6 +363,7 @@ def check_journals():
     content = journal(CROWD, [], [])
     for name, it, wanted in [
         ("an empty file", b"", "it.journal has no tick 2: nothing is recorded in it"),
+        ("a file of one byte", b"h", "it.journal has no tick 2: nothing is recorded in it"),
         ("a closed gate", b"\0what is left", "it.journal has no tick 2: nothing is recorded in it"),
         ("a text", b"hello", "it.journal is no journal: a frame is cut off at byte 0"),
         ("a journal that is cut", content[:-9], None),
@@ -591,9 +595,9 @@ FILES = [
     ),
     (
         '"energy": 5',
-        '"colour": 5, "energy": 6, "energy": 5',
+        '"colour": 5, "energy": 9999, "energy": 5',
         "good: rooms 1 objects 2 players 1\nwarning: line 7, column 51: room 0 E0S0, object 0 of its list, id 1: nothing reads the key colour\n"
-        "warning: line 7, column 77: room 0 E0S0, object 0 of its list, id 1: the key energy stands twice, and the last one counts",
+        "warning: line 7, column 80: room 0 E0S0, object 0 of its list, id 1: the key energy stands twice, and the last one counts",
     ),
     (
         '"kind": "source", "x": 10, "y": 10, "energy": 5',

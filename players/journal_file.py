@@ -158,9 +158,9 @@ class Reader:
 
 
 def frames_of(journal):
-    """A reader of each frame's content, up to the closed gate. An empty journal has none."""
+    """A reader of each frame's content, up to the closed gate. An empty journal has none, and a file of one byte is one, whatever the byte."""
     at = 0
-    while at < len(journal) and journal[at]:
+    while len(journal) > 1 and journal[at]:
         if at + 9 > len(journal):
             raise NotAJournal(f"a frame is cut off at byte {at}")
         (length,) = struct.unpack_from("<Q", journal, at + 1)
