@@ -611,6 +611,22 @@ FILES = [
         "fault 3 World NotJson\nline 5, column 4: the JSON text\nstands there: \"terrain\": \"" + ("1" + "0" * 47)[:48] + "..\nallowed: a comma and the next key, or }",
     ),
     (
+        '{"player": 1, "limit": 20}',
+        "[7]",
+        "fault 3 World Missing Player\nline 12, column 14: player 0 of the list: key player\nstands there: a list of 1, which has no keys\n"
+        "allowed: a whole number from 1 to 4294967295; the key may not be left out",
+    ),
+    (
+        '"version": 1',
+        '"a\udce4b": 1',
+        "fault 3 World NotJson\nline 2, column 4: the JSON text\nstands there: \\xe4b\": 1, \"tick\": 0,\nallowed: UTF-8, and control characters as \\n or \\u000a",
+    ),
+    (
+        '"version": 1',
+        '"version": "1\n"',
+        "fault 3 World NotJson\nline 2, column 15: the JSON text\nstands there: \\n\", \"tick\": 0,\nallowed: UTF-8, and control characters as \\n or \\u000a",
+    ),
+    (
         '"limit": 20}]\n}\n',
         '"limit": 20}]\n',
         "fault 3 World NotJson\nline 13, column 1: the JSON text\nstands there: nothing: the file ends\nallowed: a comma and the next key, or }",
@@ -628,7 +644,7 @@ def check_files():
     for old, new, wanted in FILES:
         content = GOOD.replace("TERRAIN", grounds())
         note(f"{old} in the good file", [] if old in content else ["it is not there"])
-        _, lines = check_world.lines_of((content.replace(old, new) if old else content).encode())
+        _, lines = check_world.lines_of((content.replace(old, new) if old else content).encode(errors="surrogateescape"))
         note(f"the good file with {new!r}", differ(lines, wanted.split("\n")))
     documented = "".join(f"    {line}\n" for line in FILES[1][2].split("\n"))
     note("the fault that docs/hosting.md shows", [] if documented in content_of(os.path.join(TOP, "docs/hosting.md")).decode() else ["it is another there"])

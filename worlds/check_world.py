@@ -67,7 +67,8 @@ class Parser:
 
     def fail(self, allowed, at=None):
         at = self.at if at is None else at
-        found = brief(self.text[at : at + MOST_SHOWN + 1].split("\n")[0]) if at < len(self.text) else "nothing: the file ends"
+        rest = self.text[at : at + MOST_SHOWN + 1]
+        found = brief(rest[:1] + rest[1:].split("\n")[0]) if rest else "nothing: the file ends"
         raise Fault("NotJson", at, "the JSON text", found, allowed)
 
     def match(self, form):
@@ -168,7 +169,8 @@ class Parser:
 def brief(text):
     """A text as it can stand in one line."""
     text = text if len(text) <= MOST_SHOWN else text[:MOST_SHOWN] + ".."
-    return text if text.isprintable() else ascii(text)[1:-1]
+    # (a byte that is no UTF-8 as what it is)
+    return text if text.isprintable() else ascii(text)[1:-1].replace("\\udc", "\\x")
 
 
 def shown(value):
@@ -253,7 +255,7 @@ class Part:
     def __init__(self, value, number, where):
         # (of a key that stands twice the last counts)
         self.held = {key: one for key, _, one in value.held} if value.kind == "object" else {}
-        self.at, self.number, self.names, self.values, self.kind = value.at, number, [where], {}, value.kind
+        self.at, self.value, self.number, self.names, self.values = value.at, value, number, [where], {}
 
     def __getitem__(self, key):
         return self.values[key]
@@ -268,7 +270,9 @@ class Part:
         """What stands at a key, for a fault."""
         if key in self.held:
             return shown(self.held[key])
-        return f"no such key, which stands for {self.values[key]}" if key in self.values else "no such key" if self.kind == "object" else f"no object with keys, but {self.kind}"
+        if key in self.values:
+            return f"no such key, which stands for {self.values[key]}"
+        return "no such key" if self.value.kind == "object" else f"{shown(self.value)}, which has no keys"
 
     def fault(self, name, key, allowed, found=None):
         return Fault(name, self.place(key), self.where(key), found or self.found(key), allowed)
