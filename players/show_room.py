@@ -63,6 +63,8 @@ def world_of(path, tick, turn=lambda record, world: None):
 
 def print_lines(lines):
     """Prints lines, with nothing kept back that could fail at the end of the program."""
+    if sys.stdout is None:
+        raise Refused("standard output is closed")
     try:
         print("\n".join(lines), flush=True)
     except OSError as error:

@@ -607,6 +607,10 @@ def main():
                 good, lines = lines_of(it.read(MOST_BYTES + 1))
     except OSError as error:
         sys.exit(f"check_world.py: {error.strerror}: {words[0]}")
+    if sys.stdout is None:
+        sys.exit("check_world.py: standard output is closed")
+    # (keys may have any characters)
+    sys.stdout.reconfigure(errors="backslashreplace")
     try:
         print("\n".join(lines), flush=True)
     except OSError as error:
