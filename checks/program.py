@@ -794,9 +794,10 @@ def examples_of(text, others=()):
     block. What begins as one of these others is run elsewhere."""
     found, last = [], None
     for line in text.splitlines():
-        if line.startswith("    ") and line.strip().startswith((*SERVED, *others)):
+        is_call = line.startswith(tuple("    " + start for start in (CALL, MAKER, *SHOWERS)))
+        if line.startswith("    ") and line.strip().startswith(SERVED) or is_call and line.strip().startswith(tuple(others)):
             last = None
-        elif line.startswith(tuple("    " + start for start in (CALL, MAKER, *SHOWERS))):
+        elif is_call:
             last = (line.strip(), [])
             found.append(last)
         elif line.startswith("    ") and last:
