@@ -1,8 +1,8 @@
 #!/usr/bin/env python3
 """Looks up what the documents name: `checks/named.py`, without a word, and without the program.
 
-docs/definitions.md, docs/guarantees.md, docs/architecture.md and docs/DECISIONS.md say by hand what the clauses and definitions of the crates say. Each name in backquotes
-there has to stand somewhere in the code of the repository, comments apart, each path has to lead to a file, and where a document says in which crate, file or function a
+docs/definitions.md, docs/guarantees.md, docs/architecture.md, docs/DECISIONS.md and docs/CONTRIBUTING.md say by hand what the clauses and definitions of the crates say. Each name
+in backquotes there has to stand somewhere in the code of the repository, comments apart, each path has to lead to a file, and where a document says in which crate, file or function a
 name stands, it has to stand there:
 
 - in a table of definitions, under its crate and its file, each definition is one that the file declares;
@@ -25,7 +25,7 @@ from checked_program import Checks  # noqa: E402
 
 # Where the kit has the libraries that it brings, in their sources.
 KIT = os.environ.get("KIT_SOURCES", "/opt/rattle/rattle")
-LOOKED_UP = ("docs/definitions.md", "docs/guarantees.md", "docs/architecture.md", "docs/DECISIONS.md")
+LOOKED_UP = ("docs/definitions.md", "docs/guarantees.md", "docs/architecture.md", "docs/DECISIONS.md", "docs/CONTRIBUTING.md")
 
 # Names that stand nowhere in the code of the repository, by the reason.
 ELSEWHERE = {
@@ -33,6 +33,8 @@ ELSEWHERE = {
     "the protocol's word for the length of what follows": ("SIZE",),
     "a function of the C library": ("pthread_create",),
     "the clause of a trait of the kit": ("output",),
+    "a command of the kit": ("plant", "tidy"),
+    "what the first example of docs/CONTRIBUTING.md would add": ("quiet_line", "add_quiet"),
 }
 # Paths that are made, or that stand for many.
 MADE = re.compile(r"(players|crates/[\w*]+)/out\b|crates/NAME\b")
@@ -45,7 +47,7 @@ DECLARED = re.compile(r"(?m)^[ \t]*(?:(?:pub|abbrev|unfoldable|record|data|lemma
 FUNCTION = re.compile(r"\bfn\s+([^\W\d]\w*)")
 CLAUSE = re.compile(r"\b(?:ensures|requires)\*?(?:\s+([^\W\d]\w*))?\s*\{")
 SUFFIXES = "rt|antt|edit|py|md|txt|json|tsv|sh|c|cpp|h|rs|uploads|wasm|service"
-PATH = re.compile(rf"(?:[\w*-]+/)+(?:[\w*-]+(?:\.(?:{SUFFIXES})\b)?)?|[\w-]+\.(?:{SUFFIXES})\b")
+PATH = re.compile(rf"(?:\.?[\w*-]+/)+(?:[\w*-]+(?:\.(?:{SUFFIXES})\b)?)?|[\w-]+\.(?:{SUFFIXES})\b")
 OUTSIDE = re.compile(rf"\b(?:docs|checks|bench|players|worlds|modules|crates)/[\w/-]*(?:\.(?:{SUFFIXES})\b)?")
 LINK = re.compile(r"\]\(([^)\s]+)\)")
 QUOTED = re.compile(r"([\w/]+\.md)(?:\]\([^)]*\))?,? \(?\"([^\"]+)\"")
