@@ -53,6 +53,8 @@ LINK = re.compile(r"\]\(([^)\s]+)\)")
 QUOTED = re.compile(r"([\w/]+\.md)(?:\]\([^)]*\))?,? \(?\"([^\"]+)\"")
 QUOTED_HERE = re.compile(r"\"([A-Z][^\"]+)\" (?:below|above)\b")
 
+COUNTS = ["no", "one", "two", "three", "four", "five", "six", "seven", "eight", "nine"]
+
 checks = Checks(__file__, has_program=False)
 note = checks.note
 
@@ -148,7 +150,7 @@ class Page:
 
     def __init__(self, path, known):
         self.path, self.known, self.faults, self.used = path, known, [], set()
-        self.crates, self.files, self.table, self.functions, self.is_explained = [], [], "", [], False
+        self.crates, self.files, self.table, self.functions, self.row_before, self.is_explained = [], [], "", [], [], False
 
     def fault(self, number, what):
         self.faults.append(f"{self.path}:{number}: {what}")
@@ -158,7 +160,7 @@ class Page:
         for number, line in enumerate(text_of(self.path).splitlines(), 1):
             if line.startswith("#"):
                 named = [it for it in WORD.findall(line) if it in self.known.crates]
-                self.crates, self.files, self.functions, self.table = named, [], [], ""
+                self.crates, self.files, self.functions, self.row_before, self.table = named, [], [], [], ""
                 self.is_explained = line == "## How to read a definition"
             elif line.startswith("|") and not self.table:
                 self.table = line
@@ -206,7 +208,7 @@ class Page:
     def promises(self, number, functions, clauses):
         """Each function of a row is one of the crate, and each clause one of a function's of the row; a row that names no function speaks of those before it."""
         # (a function may be one that this crate passes on from another one)
-        passed_on = {head(name): place for name, place in re.findall(r"`([^`]+)` \(of `(\w+)`\)", functions)}
+        passed_on = {head(name): place for name, place in re.findall(r"`([^`]+)` \(?of `(\w+)`\)", functions)}
         names = [head(it) for it in SPAN.findall(functions)]
         there = collections.defaultdict(set)
         for crate in self.crates:
@@ -214,13 +216,11 @@ class Page:
                 there[name] |= found
         words = self.known.words_of(self.crates)
         for name in names:
-            if name in passed_on and name not in self.known.functions_of(passed_on[name]):
-                self.fault(number, f"`{name}` is no function of {passed_on[name]}")
+            if name in passed_on and name not in self.known.words_of([passed_on[name]]):
+                self.fault(number, f"`{name}` is nothing of {passed_on[name]}")
             elif name not in passed_on and name not in there and name not in words | self.known.crates | self.known.libraries | set(ELSEWHERE):
                 self.fault(number, f"`{name}` is no function of {', '.join(self.crates)}")
-        # (a row may go on with the functions of the one above, or say "these" or "all others" of those of its section)
-        self.functions = [*self.functions, *names] if names or not functions else self.functions
-        rows = names or self.functions if not functions or names else list(there)
+        rows, is_of_each = self.functions_of_row(functions, names, len(SPAN.findall(clauses)))
         known = set().union(*(there[name] for name in rows if name in there))
         if not all(it in there for it in rows):
             # (what a type or a trait promises may be said by a trait of another crate)
@@ -228,6 +228,23 @@ class Page:
         for span in SPAN.findall(clauses):
             if span not in known and not self.elsewhere(span) and not (head(span) in words and head(span)[:1].isupper()) and not re.search(rf"law[s]? [^|]*`{re.escape(span)}`", clauses):
                 self.fault(number, f"`{span}` is no clause of {', '.join(rows)}")
+            for name in rows if is_of_each and not head(span)[:1].isupper() else ():
+                if name in there and name not in passed_on and span not in there[name]:
+                    self.fault(number, f"`{span}` is no clause of {name}")
+
+    def functions_of_row(self, functions, names, count):
+        """The functions of which a row of promises speaks, and whether each of them has its clause: so it is where there is one clause. "These four" are the last
+        four of the section, "all others" those of the section that the row above has not, and a row without a word goes on with those of the row above."""
+        before = self.functions
+        self.functions = [*before, *(it for it in names if it not in before)]
+        others = [it for it in before if it not in self.row_before]
+        these = re.match(r"these (\w+)", functions)
+        if these:
+            rows = [*before[-COUNTS.index(these[1]) :], *names]
+        else:
+            rows = others if functions == "all others" else names if functions else self.row_before
+        self.row_before = rows
+        return rows, count == 1 and bool(functions) and len(rows) > 1
 
     def within(self, number, text, crates, where):
         """Each name of a text stands in one of these crates."""
