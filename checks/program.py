@@ -4,7 +4,7 @@ standard error byte for byte, and each file of the folder that it runs in, befor
 
 It runs behind `rt ci`, which builds crates/world_server/out/world_server. What is compared with comes from
 a second, slow writing of the formats and of the tick in bench/worlds.py, or from the documents: each example of
-README.md and docs/ that calls the built program is run, and has to print what stands there; each that makes an
+README.md and docs/ that calls the built program is run, and has to print what stands there (those of docs/faq.md by checks/walk.py); each that makes an
 upload stream is run too, and has to make the file of the repository. What players do is the subject of checks/desk.py.
 """
 

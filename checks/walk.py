@@ -6,8 +6,10 @@
 
 It runs behind `rt ci`, which builds crates/world_server/out/world_server; the variable WORLD_SERVER names another program. A copy has the tracked files as they stand, but
 for the crates, and the program. Every command in an indented block is run, by a shell, in the top folder of the copy; what stands below it has to be what is printed, byte for byte, where a
-line `..` stands for any others. What one page makes stays for the next: so no page may take a name that one before it has used for something else. The commands that aren't run
-stand in a table with the reason, and each of them has to stand in its page. In the end git finds nothing new or changed in the copy.
+line `..` stands for any others. What one page makes stays for the next: so no page may take a name that one before it has used for something else. Servers run behind the commands
+that follow, at a port that is free, and are ended where the page ends them. A command that was run on the same files in another copy isn't run again: what it printed and made is taken
+from there. The commands that aren't run stand in a table with the reason, and each of them has to stand in its page; what takes a compiler that isn't installed is passed over with
+a word. In the end git finds nothing new or changed in the copy.
 """
 
 import argparse
@@ -285,7 +287,8 @@ def main():
         readers += [] if pages else [walk([page], "by itself", paths, absent, remembered) for page in PAGES[1:]]
     for what in sorted(absent):
         commands = [command for reader in readers for command in reader.passed_over.get(what, [])]
-        print(f"checks/walk.py: {len(commands)} commands passed over, as there is no {what}")
+        if commands:
+            print(f"checks/walk.py: {len(commands)} commands passed over, as there is no {what}")
     checks.finish()
 
 
