@@ -351,8 +351,19 @@ def link_faults(path, known):
 
 
 def main():
+    if sys.argv[1:] in (["-h"], ["--help"]):
+        print(__doc__.strip())
+        return
     if len(sys.argv) != 1:
-        sys.exit(__doc__ if sys.argv[1:] in (["-h"], ["--help"]) else f"named.py: it takes no words, and not {sys.argv[1]}")
+        sys.exit(f"named.py: it takes no words, and not {sys.argv[1]}")
+    try:
+        look_up_all()
+    except (OSError, UnicodeDecodeError) as error:
+        sys.exit(f"named.py: {error}")
+    checks.finish()
+
+
+def look_up_all():
     known = Repository()
     known.names |= {name for name, _ in kit_names()}
     explained = text_of("docs/definitions.md").partition("## How to read a definition")[2].partition("\n## ")[0]
@@ -370,7 +381,6 @@ def main():
         note(f"the links of {path}", link_faults(path, known))
     if os.path.isdir(KIT):
         note("the names of the kit", kit_faults())
-    checks.finish()
 
 
 if __name__ == "__main__":

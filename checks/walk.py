@@ -26,9 +26,14 @@ import time
 TOP = os.path.dirname(os.path.dirname(os.path.abspath(__file__)))
 # (behind this folder: in bench/ there is another `serve`, and the one of this folder comes first)
 sys.path.insert(1, os.path.join(TOP, "bench"))
+from checked_program import PROGRAM, Checks  # noqa: E402
+
+checks = Checks(__file__)
+note = checks.note
+
+# (these two ask for the program too, when they are read)
 from serve import KILL, SERVE, UPLOAD, Walk  # noqa: E402, I001
 from program import printed_faults  # noqa: E402
-from checked_program import PROGRAM, Checks, shown  # noqa: E402
 from status_client import Silent, end_servers_when_ended  # noqa: E402
 
 PAGES = ("README.md", "docs/hosting.md", "docs/players.md", "docs/faq.md")
@@ -65,9 +70,6 @@ MOVING = {"README.md": (UPLOAD,), "docs/hosting.md": (UPLOAD,), "docs/players.md
 # What a command takes that may not be installed. What follows from a command that is passed over is passed over too.
 TAKES = {"players/build.sh ": "clang", "clang ": "clang", "players/build_rust.sh ": "rustc for wasm32-unknown-unknown"}
 FOLLOWS = {"docs/faq.md": "clang"}
-
-checks = Checks(__file__)
-note = checks.note
 
 
 def page_text(page):
@@ -279,6 +281,8 @@ def main():
     paths = [path for path in git(TOP, "ls-files", "-z").split("\0") if path and not path.startswith("crates/")]
     absent = lacking()
     for page in pages or PAGES:
+        if not os.path.isfile(os.path.join(TOP, page)):
+            sys.exit(f"walk.py: there is no {page}")
         note(f"the tables for {page}", table_faults(page))
     with tempfile.TemporaryDirectory(prefix="walk.") as store:
         remembered = Remembered(store)
