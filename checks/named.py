@@ -193,7 +193,7 @@ class Page:
             crate = cells[1].strip("`")
             # (what stands behind a colon says what the calls before it do)
             for part in cells[3].split(";"):
-                self.within(number, part.partition(":")[0] if "`:" in part or "`, exactly" in part else part, [crate], f"crates/{crate}")
+                self.within(number, re.split(r"(?<=`):", part)[0], [crate], f"crates/{crate}")
 
     def definitions(self, number, cell, files):
         """Each definition of a cell is declared by one of these files, or of the crate where none is named."""
