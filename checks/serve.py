@@ -926,4 +926,5 @@ def main():
     checks.finish()
 
 
-main()
+if __name__ == "__main__":
+    main()
