@@ -749,7 +749,7 @@ SERVED = (CALL + "serve worlds/", "players/upload.py ", "kill %1")
 EXAMPLES = {"README.md": 6, "docs/hosting.md": 27, "docs/players.md": 23}
 
 # What the other blocks of these documents begin with, and where they are run, if anywhere.
-OF_PLAYERS, OF_GATE, NOWHERE = "checks/players.py", ".ci/run", "a form, or what takes a prover, a compiler for Rust or another machine"
+OF_PLAYERS, OF_PAGES, OF_GATE, NOWHERE = "checks/players.py", "checks/pages.py", ".ci/run", "a form, or what takes a prover, a compiler for Rust or another machine"
 OTHERS = {
     "README.md": {"rm -f small.journal && (cd crates/world_server && rt run -- ": NOWHERE, ".ci/run": OF_GATE},
     "docs/hosting.md": {
@@ -769,6 +769,7 @@ OTHERS = {
         "players/build.sh players/dropper.c": OF_PLAYERS,
         "clang --target=wasm32 ": OF_PLAYERS,
         '#include "path.h"': OF_PLAYERS,
+        "players/show_page.py colonies.journal": OF_PAGES,
         "players/build_rust.sh players/gatherer.rs": NOWHERE,
     },
     "docs/faq.md": {'#include "screeps.h"': OF_PLAYERS, "players/show_run.py logged.journal 1 1": OF_PLAYERS},

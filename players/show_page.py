@@ -195,7 +195,8 @@ def form_parts(title):
     style, script = re.search(r"<style>(.*?)</style>", form, re.S)[1], re.search(r"<script>(.*?)</script>", form, re.S)[1]
     policy = f"default-src 'none'; script-src {hash_of(script)}; style-src {hash_of(style)}; base-uri 'none'; form-action 'none'"
     before, behind = form.split("JOURNAL", 1)
-    return before.replace("POLICY", policy).replace("<title>A journal", "<title>" + html.escape(title)), behind
+    named = html.escape(title).encode("ascii", "xmlcharrefreplace").decode("ascii")
+    return before.replace("POLICY", policy).replace("<title>A journal", "<title>" + named), behind
 
 
 def head_of(name, world):
@@ -283,7 +284,7 @@ def run():
     first, last = tick_number(words.first, "--from"), tick_number(words.last, "--to")
     path = shown(words.journal)
     try:
-        with open(words.journal, "rb") as journal, tempfile.TemporaryFile("w+", encoding="utf-8", errors="replace", newline="\n") as page:
+        with open(words.journal, "rb") as journal, tempfile.TemporaryFile("w+", encoding="ascii", newline="\n") as page:
             is_there = write_page(journal, os.path.basename(words.journal), first, last, page)
             if not is_there:
                 raise Refused(f"{path}: nothing is recorded in it" if first is None and last is None else f"{path} has no tick between these")
