@@ -34,11 +34,11 @@ COLONIES = os.path.join(TOP, "worlds/colonies.json"), os.path.join(TOP, "worlds/
 # The colonies are run for these numbers of ticks in turn, as long as the next one takes less than so many seconds of processor time.
 COUNTS, MOST_RUNNING = (20, 60, 200, 2000), 25
 # What a page may have: so many bytes a tick of the colonies, beside its form; and what the whole of 2,000 ticks may take.
-OF_FORM, OF_TICK, MOST_SECONDS = 100_000, 5_000, 20
+OF_FORM, OF_TICK, MOST_SECONDS = 100_000, 4_900, 20
 # A tick in which one object of many changes.
 OF_IDLE_TICK = 120
-# The memory that a page of a journal of 40 MB may take beyond one of a small one.
-MOST_GROWTH = 12 << 20
+# The memory that the page of a journal of 18 MB may take beyond that of a small one.
+MOST_GROWTH = 8 << 20
 BROWSERS = ("chromium", "chromium-browser", "google-chrome")
 
 
@@ -145,12 +145,12 @@ class Told:
             found[one.pop("room")].append({**one, "kind": self.head["kinds"][one["kind"]], "body": [PARTS[int(part) - 1] for part in one["body"]]})
         return {index: sorted(objects, key=lambda it: it["id"]) for index, objects in found.items()}
 
+    def intent(self, action, actor=0, target=0, amount=0, body=""):
+        return self.head["actions"][action - 1], int(actor), int(target), int(amount), [PARTS[int(part) - 1] for part in body]
+
     def runs(self, line):
-        names = {row.number: name for name, row in ACTIONS.items()}
         for player, outcome, trap, used, intents in line[1]:
-            full_rows = [[*it, 0, 0, ""][:4] + [it[4] if len(it) > 4 else ""] if len(it) < 5 else it for it in intents]
-            rows = [(names[row[0]], *map(int, row[1:4]), [PARTS[int(part) - 1] for part in row[4]]) for row in full_rows]
-            yield player, OUTCOMES[outcome], trap, int(used), rows
+            yield player, OUTCOMES[outcome], trap, int(used), [self.intent(*it) for it in intents]
 
 
 def account_faults(told, world, ends):
@@ -363,11 +363,11 @@ def check_numbers():
 
 
 def check_memory():
-    """A long journal takes as little memory as a short one: it is not in memory whole, and neither is the page."""
-    texts = [bytes([at % 256]) * 60_000 for at in range(700)]
+    """A long journal takes as little memory as a short one: it is not in memory whole."""
+    texts = [bytes([at % 256]) * 60_000 for at in range(300)]
     with tempfile.TemporaryDirectory() as folder:
         peaks = []
-        for count in (2, 700):
+        for count in (2, 300):
             path = os.path.join(folder, "long.journal")
             with open(path, "wb") as it:
                 it.write(of_texts(texts[:count]))
