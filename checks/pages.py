@@ -274,7 +274,7 @@ def check_documented(path, count):
 
 
 def check_idle():
-    """Worlds in which one pile changes and a hundred sites don't, and a creep comes, crosses and dies: the page grows by what changes."""
+    """Worlds in which one pile changes and a hundred sites don't: the page grows by what changes. And one in which creeps cross and die, and a pile comes."""
     sites = [thing("site", 10 + at, 1 + at % 40, 1 + at // 40, owner=1, extra=8) for at in range(100)]
     first = world(room("E0S0", 200, thing("pile", 1, 20, 20, energy=900), *sites), room("E5S0", 1), room("W0N3", 1), players=[{"player": 1, "limit": 20}])
     sizes = []
@@ -284,8 +284,9 @@ def check_idle():
     each = (sizes[1] - sizes[0]) / 100
     note("the size of an idle tick", [] if 0 < each <= OF_IDLE_TICK else [f"{each} bytes"])
     crossing = [thing("creep", 7, 48, 25, owner=1, body=["move"], timer=3), thing("creep", 8, 10, 10, owner=1, body=["move"], timer=2, hits=70)]
-    first = world(room("E0S0", 9, *crossing), room("E1S0", 3), players=[{"player": 1, "limit": 20}])
-    step = [Run(1, "finished", 5, b"", {("move", 7): (0, 3)}), Run(1, "spent", 5, b""), Run(1, "trapped", 6, b"", {("move", 99): (0, 3)}, trap=4)]
+    carrier = thing("creep", 6, 30, 30, owner=1, body=["carry", "move"], timer=900, energy=40)
+    first = world(room("E0S0", 9, carrier, *crossing), room("E1S0", 3), players=[{"player": 1, "limit": 20}])
+    step = [Run(1, "finished", 5, b"", {("drop", 6): (0, 30), ("move", 7): (0, 3)}), Run(1, "spent", 5, b""), Run(1, "trapped", 6, b"", {("move", 99): (0, 3)}, trap=4)]
     it, steps = full(first), []
     for run_of in step:
         it = ticked(it, [run_of])
@@ -372,15 +373,16 @@ def check_memory():
             with open(path, "wb") as it:
                 it.write(of_texts(texts[:count]))
             peaks.append(peak_of(path, folder))
-    note("the memory of a long journal", [] if peaks[1] - peaks[0] < MOST_GROWTH else [f"{peaks[1] - peaks[0]:,} bytes more"])
+    note("the memory that the page of a long journal takes", [] if peaks[1] - peaks[0] < MOST_GROWTH else [f"{peaks[1] - peaks[0]:,} bytes more"])
 
 
 def peak_of(path, folder):
     """The memory that the script takes at most for the page of a journal."""
-    code = "import resource, sys, runpy\nsys.argv = sys.argv[1:]\nsys.path.insert(0, sys.argv[0].rsplit('/', 1)[0])\nrunpy.run_path(sys.argv[0], run_name='__main__')\nprint(resource.getrusage(resource.RUSAGE_SELF).ru_maxrss, file=sys.stderr)"
+    # (the peak of its own memory: that of `getrusage` would be at least what this check has when it starts it)
+    code = "import sys, runpy\nsys.argv = sys.argv[1:]\nsys.path.insert(0, sys.argv[0].rsplit('/', 1)[0])\nrunpy.run_path(sys.argv[0], run_name='__main__')\nprint(open('/proc/self/status').read(), file=sys.stderr)"
     with open(os.path.join(folder, "page.html"), "wb") as sink:
         done = subprocess.run([sys.executable, "-c", code, SCRIPT, path], stdout=sink, stderr=subprocess.PIPE, timeout=300)
-    return int(done.stderr) * 1024
+    return int(re.search(rb"VmHWM:\s*(\d+) kB", done.stderr)[1]) * 1024
 
 
 # ---- what is no journal, and wrong words
@@ -449,11 +451,22 @@ def browser():
 
 
 def loaded(program, path, fragment, folder):
-    """The document that a browser has made of a page."""
+    """The document that a browser has made of a page; none where it takes too long."""
     words = ["--headless", "--disable-gpu", "--disable-dev-shm-usage", "--no-first-run", f"--user-data-dir={folder}/profile", "--window-size=1280,800", "--virtual-time-budget=3000", "--dump-dom"]
     words += ["--no-sandbox"] if os.geteuid() == 0 else []
-    done = subprocess.run([program, *words, f"file://{path}#{fragment}"], stdin=subprocess.DEVNULL, stdout=subprocess.PIPE, stderr=subprocess.DEVNULL, timeout=600)
+    try:
+        done = subprocess.run([program, *words, f"file://{path}#{fragment}"], stdin=subprocess.DEVNULL, stdout=subprocess.PIPE, stderr=subprocess.DEVNULL, timeout=300)
+    except subprocess.TimeoutExpired:
+        return ""
     return done.stdout.decode("utf-8", "replace")
+
+
+def may_load(program, folder):
+    """Whether the browser loads a file of this folder at all: one that is shut in may not."""
+    path = os.path.join(folder, "probe.html")
+    with open(path, "w", encoding="ascii") as it:
+        it.write("<!DOCTYPE html><title>probe</title><p id=probe></p><script>document.getElementById('probe').textContent = 6 * 7</script>")
+    return '<p id="probe">42</p>' in loaded(program, path, "", folder)
 
 
 def data_of(document):
@@ -509,6 +522,9 @@ def check_browser(path, count, numbers):
         print("skipped: no Chromium")
         return
     with tempfile.TemporaryDirectory(ignore_cleanup_errors=True) as folder:
+        if not may_load(program, folder):
+            print(f"skipped: {program} loads no file of {os.path.dirname(folder)}")
+            return
         for tick in (1, count - 3):
             check_loaded(program, path, tick, *spawn_texts(path, tick), folder)
         large = os.path.join(folder, "numbers.journal")
