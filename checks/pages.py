@@ -19,6 +19,7 @@ import shutil
 import subprocess
 import sys
 import tempfile
+import time
 
 TOP = os.path.dirname(os.path.dirname(os.path.abspath(__file__)))
 sys.path[:0] = [os.path.join(TOP, "bench"), os.path.join(TOP, "players")]
@@ -31,7 +32,7 @@ checks = Checks(__file__)
 note = checks.note
 SCRIPT = os.path.join(TOP, "players/show_page.py")
 COLONIES = os.path.join(TOP, "worlds/colonies.json"), os.path.join(TOP, "worlds/colonies.uploads")
-# The colonies are run for these numbers of ticks in turn, as long as the next one takes less than so many seconds of processor time.
+# The colonies are run for these numbers of ticks in turn, as long as the next one takes less than so many seconds.
 COUNTS, MOST_RUNNING = (20, 60, 200, 2000), 25
 # What a page may have: so many bytes a tick of the colonies, beside its form; and what the whole of 2,000 ticks may take.
 OF_FORM, OF_TICK, MOST_SECONDS = 100_000, 4_900, 20
@@ -226,10 +227,10 @@ def colonies(folder):
     """The journal of the sample colonies, and how many ticks it has."""
     path, done = os.path.join(folder, "colonies.journal"), 0
     for count in COUNTS:
-        before = seconds_of_children()
+        before = time.monotonic()
         status, _, err = run(["run", *COLONIES, path, "--ticks", str(count - done)], folder)
         note(f"the colonies up to tick {count}", [] if status == 0 else [f"exit status {status}, {shown(err)}"])
-        took, last, done = seconds_of_children() - before, done, count
+        took, last, done = time.monotonic() - before, done, count
         following = next((it for it in COUNTS if it > count), None)
         # (later ticks take more)
         if following is None or 2 * took / (count - last) * (following - count) > MOST_RUNNING:
