@@ -749,7 +749,8 @@ SERVED = (CALL + "serve worlds/", "players/upload.py ", "kill %1")
 EXAMPLES = {"README.md": 6, "docs/hosting.md": 28, "docs/players.md": 25}
 
 # What the other blocks of these documents begin with, and where they are run, if anywhere.
-OF_PLAYERS, OF_GATE, OF_WALK, NOWHERE = "checks/players.py", ".ci/run", "checks/walk.py", "a form, or what takes a prover, a compiler for Rust or another machine"
+OF_PLAYERS, OF_PAGES, OF_GATE, OF_WALK = "checks/players.py", "checks/pages.py", ".ci/run", "checks/walk.py"
+NOWHERE = "a form, or what takes a prover, a compiler for Rust or another machine"
 OTHERS = {
     "README.md": {"rm -f proved.journal && (cd crates/world_server && rt run -- ": OF_WALK, ".ci/run": OF_GATE},
     "docs/hosting.md": {
@@ -770,6 +771,7 @@ OTHERS = {
         "players/build.sh players/dropper.c": OF_PLAYERS,
         "clang --target=wasm32 ": OF_PLAYERS,
         '#include "path.h"': OF_PLAYERS,
+        "players/show_page.py colonies.journal": OF_PAGES,
         "players/build_rust.sh players/gatherer.rs": NOWHERE,
     },
     "docs/faq.md": {'#include "screeps.h"': OF_PLAYERS, "players/build.sh logged.c": OF_WALK, "players/show_run.py logged.journal 1 1": OF_PLAYERS},

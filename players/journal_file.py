@@ -1,13 +1,17 @@
 """Journals as docs/formats.md has them, for the scripts beside this module: frames, bases, ticks and the worlds after them.
 
-A world is made tick by tick in place, so that a walk over a journal takes time and memory in proportion to its bytes and to one world:
+A world is made tick by tick in place, so that a walk over a journal takes time in proportion to its bytes, and memory to one frame and one world:
 
-    for record, world in worlds_of(content):
-        print(world.tick, len(world.rooms[0].objects))
+    with open("first.journal", "rb") as file:
+        for record, world in worlds_in(file):
+            print(world.tick, len(world.rooms[0].objects))
+
+`worlds_of` does the same with bytes.
 
 The first record is None, as no tick makes the world of the base. Who keeps a world beyond one turn of the walk has to copy it.
 """
 
+import io
 import struct
 from collections import namedtuple
 
@@ -28,6 +32,7 @@ RESULTS = [
 OUTCOMES = ["finished", "trapped", "spent"]
 SIDE = 50
 TILES = SIDE * SIDE
+PIECE = 1 << 20
 
 Upload = namedtuple("Upload", "player result module")
 # `body` is a list of the names of parts.
@@ -107,6 +112,8 @@ class Reader:
 
     def object(self):
         id, kind, x, y, *fields = self.take("QBBBIIQIIQII")
+        if x >= SIDE or y >= SIDE:
+            self.fail(f"the tile {x}, {y} is in no room")
         return {"id": id, "kind": self.named(KINDS, kind), "x": x, "y": y, **dict(zip(FIELDS, fields)), "body": self.body()}
 
     def room(self):
@@ -138,6 +145,8 @@ class Reader:
         for _ in range(count):
             column, row = self.take("ii")
             ground = self.bytes(TILES)
+            if max(ground) >= len(GROUNDS):
+                self.fail("a tile has no ground")
             index, next, objects = self.room()
             rooms[index] = Room(column, row, ground, next, objects)
         world = World(tick, rooms, {account.player: account for account in self.list(self.account)})
@@ -157,23 +166,36 @@ class Reader:
             self.fail("bytes are left over")
 
 
-def frames_of(journal):
-    """A reader of each frame's content, up to the closed gate. An empty journal has none, and a file of one byte is one, whatever the byte."""
-    at = 0
-    while len(journal) > 1 and journal[at]:
-        if at + 9 > len(journal):
-            raise NotAJournal(f"a frame is cut off at byte {at}")
-        (length,) = struct.unpack_from("<Q", journal, at + 1)
-        if length > len(journal) - at - 10:
-            raise NotAJournal(f"a frame is cut off at byte {at}")
-        yield Reader(journal[at + 9 : at + 9 + length], at + 9)
-        at += 9 + length
+def taken(file, length):
+    """So many bytes of a file, or as many as it has, piece by piece: a length that no file has takes no memory."""
+    pieces = []
+    while length > 0 and (piece := file.read(min(length, PIECE))):
+        pieces.append(piece)
+        length -= len(piece)
+    return b"".join(pieces)
 
 
-def worlds_of(journal):
-    """The record and the world of each tick, first None and the base; the world is one that goes on from turn to turn."""
+def frames_in(file):
+    """A reader of each frame's content of a file that is open to read bytes, up to the closed gate; one frame at a time is in memory. A run may add
+    to the file meanwhile. An empty journal has none."""
+    gate, at = file.read(1), 0
+    while gate not in (b"", b"\0"):
+        head = taken(file, 8)
+        if at == 0 and not head:
+            return
+        (length,) = struct.unpack("<Q", head) if len(head) == 8 else (None,)
+        content = taken(file, length or 0)
+        following = file.read(1)
+        if len(content) != length or not following:
+            raise NotAJournal(f"a frame is cut off at byte {at}")
+        yield Reader(content, at + 9)
+        gate, at = following, at + 9 + len(content)
+
+
+def worlds_in(file):
+    """The record and the world of each tick of a file, first None and the base; the world is one that goes on from turn to turn."""
     world = None
-    for reader in frames_of(journal):
+    for reader in frames_in(file):
         if world is None:
             world = reader.base()
             yield None, world
@@ -183,3 +205,13 @@ def worlds_of(journal):
             reader.fail(f"a tick that doesn't follow tick {world.tick} ends")
         world.follow(record)
         yield record, world
+
+
+def frames_of(journal):
+    """The frames of a journal's bytes."""
+    return frames_in(io.BytesIO(journal))
+
+
+def worlds_of(journal):
+    """The records and worlds of a journal's bytes."""
+    return worlds_in(io.BytesIO(journal))
