@@ -370,12 +370,17 @@ def serial(world):
             yield it["id"], it.fault(name, "id", f"a serial from 1 to {most}, one less than the key next of room {home}", f"{it['id']}, whose serial is {number}")
 
 
-def id_twice(world):
+def twice(parts, key, rule, says):
+    """Each part whose value at a key one before it has."""
     first = {}
-    for it in world.objects:
-        other = first.setdefault(it["id"], it)
+    for it in parts:
+        other = first.setdefault(it[key], it)
         if other is not it:
-            yield it["id"], it.fault(f"Rule IdTwice {it['id']}", "id", f"an id that no other object has, and {other.where()} has this one")
+            yield it[key], it.fault(f"Rule {rule} {it[key]}", key, f"{says}, and {other.where()} has this one")
+
+
+def id_twice(world):
+    return twice(world.objects, "id", "IdTwice", "an id that no other object has")
 
 
 def tile(world):
@@ -493,11 +498,7 @@ def of_others(it):
 
 
 def player_twice(world):
-    first = {}
-    for it in world.players:
-        other = first.setdefault(it["player"], it)
-        if other is not it:
-            yield it["player"], it.fault(f"Rule PlayerTwice {it['player']}", "player", f"a number that no other player has, and {other.where()} has this one")
+    return twice(world.players, "player", "PlayerTwice", "a number that no other player has")
 
 
 def sites(world):
