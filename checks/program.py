@@ -536,14 +536,14 @@ def check_words():
 def check_pages():
     """What the program says of itself. Its texts are compared in part: docs/hosting.md has their first and last lines."""
     pages = {
-        ("--help",): [b"run WORLD UPLOADS JOURNAL --ticks N", b"serve WORLD JOURNAL --ticks N --links M --port P", b"check MODULE", b"gen SEED ROOMS PART", b"demo SEED ROOMS TICKS", b"show JOURNAL TICK", b"replay JOURNAL", b"docs/hosting.md", b"docs/players.md"],
-        ("run", "--help"): [b"WORLD", b"UPLOADS", b"JOURNAL", b"--ticks N", b"--workers K", b"docs/hosting.md"],
-        ("serve", "--help"): [b"WORLD", b"JOURNAL", b"--ticks N", b"--links M", b"--port P", b"--workers K", b"--pace MS", b"docs/hosting.md", b"docs/formats.md"],
-        ("check", "--help"): [b"MODULE", b"docs/players.md"],
-        ("gen", "--help"): [b"SEED", b"ROOMS", b"PART", b"`world`", b"`uploads`", b"docs/hosting.md", b"docs/formats.md"],
-        ("show", "--help"): [b"JOURNAL", b"TICK", b"docs/hosting.md", b"docs/formats.md"],
-        ("demo", "--help"): [b"SEED", b"ROOMS", b"TICKS", b"docs/hosting.md"],
-        ("replay", "--help"): [b"JOURNAL", b"docs/hosting.md"],
+        ("--help",): [b"run WORLD UPLOADS JOURNAL --ticks N", b"serve WORLD JOURNAL --ticks N --links M --port P", b"check MODULE", b"gen SEED ROOMS PART", b"demo SEED ROOMS TICKS", b"show JOURNAL TICK", b"replay JOURNAL", b"The guide for hosts", b"the guide for players"],
+        ("run", "--help"): [b"WORLD", b"UPLOADS", b"JOURNAL", b"--ticks N", b"--workers K", b"The guide for hosts"],
+        ("serve", "--help"): [b"WORLD", b"JOURNAL", b"--ticks N", b"--links M", b"--port P", b"--workers K", b"--pace MS", b"The guide for hosts", b"the page on formats"],
+        ("check", "--help"): [b"MODULE", b"The guide for players"],
+        ("gen", "--help"): [b"SEED", b"ROOMS", b"PART", b"`world`", b"`uploads`", b"The guide for hosts", b"the page on formats"],
+        ("show", "--help"): [b"JOURNAL", b"TICK", b"The guide for hosts", b"the page on formats"],
+        ("demo", "--help"): [b"SEED", b"ROOMS", b"TICKS", b"The guide for hosts"],
+        ("replay", "--help"): [b"JOURNAL", b"The guide for hosts"],
         ("--version",): [b"world_server 1\n"],
         ("run", "--version"): [b"world_server 1\n"],
         ("serve", "--version"): [b"world_server 1\n"],

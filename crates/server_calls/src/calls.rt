@@ -3,17 +3,20 @@ ghost use Rattle.std.specs.Prelude.{◌≡◌, ◌≢◌, ◌≤◌, ◌⊎◌, 
 ghost use Rattle.command_words.specs.Words.{AreOfTool, AreRun, AreRunBy, AreServe};
 ghost use Rattle.world_run.specs.Runs.{IsPastWords};
 
+use crate::ended::{Ended, with_file, with_output};
 use command_words::{Command, WordsFault, read_words};
 use run_status::Status;
 use shared_run::run_shared;
 use shared_serve::serve_shared;
 use socket_links::{SleepPace, SocketDoor};
+use std::io::{IsTerminal, Stderr};
 use std::net::{Net, TcpListener, TcpStream};
 use std::sync::Wait;
 use std::thread::Threads;
 use std::time::{Clock, Duration};
 use world_io::{
-    Disk, FileDisk, FileSource, MemoryDisk, OpenGate, Source, SteadySource, StreamSink, write_all,
+    Disk, FileDisk, FileSource, MemoryDisk, OpenGate, ProgressSink, Source, SteadySource,
+    StreamSink, write_all,
 };
 use world_run::run_alone;
 use world_tools::tool_main;
@@ -42,10 +45,10 @@ pub fn refused_words(fault: WordsFault) -> Status
 /// source or a disk that fails.
 pub fn run_command<
     R: Threads + Wait + Net<Listener = TcpListener, Stream = TcpStream> + Clock + Sync,
->(rt: &HostRuntime, threads: &R, words: &[String]) -> Status
-    ensures usage { result ≡ Status.Usage → (AreRun (map string_bytes words.now) → ⊥)
+>(rt: &HostRuntime, threads: &R, words: &[String]) -> Ended
+    ensures usage { result.status ≡ Status.Usage → (AreRun (map string_bytes words.now) → ⊥)
         × (AreServe (map string_bytes words.now) → ⊥) × (AreOfTool (map string_bytes words.now) → ⊥) }
-    ensures words { IsPastWords result → AreRun (map string_bytes words.now)
+    ensures words { IsPastWords result.status → AreRun (map string_bytes words.now)
         ⊎ AreServe (map string_bytes words.now) ⊎ AreOfTool (map string_bytes words.now) }
 {
     match read_words(rt.alloc(), words) {
@@ -57,15 +60,7 @@ pub fn run_command<
                 ticks: _,
                 workers,
             },
-        ) => run_files(
-            rt,
-            threads,
-            words,
-            workers,
-            world.as_str(),
-            uploads.as_str(),
-            journal.as_str(),
-        ),
+        ) => run_files(rt, threads, words, workers, world, uploads, journal),
         Ok(
             Command::Serve {
                 world,
@@ -76,53 +71,61 @@ pub fn run_command<
                 workers: _,
                 pace,
             },
-        ) => serve_files(
-            rt,
-            threads,
-            words,
-            world.as_str(),
-            journal.as_str(),
-            port,
-            pace,
-        ),
-        Ok(Command::Check { module }) => {
-            let mut module = FileSource::open(rt, module.as_str());
-            use_tool(rt, words, &mut module, &mut no_disk(rt))
-        }
+        ) => serve_files(rt, threads, words, world, journal, port, pace),
+        Ok(Command::Check { module }) => check_file(rt, words, module),
         Ok(Command::Gen { .. } | Command::Demo { .. }) => {
             use_tool(rt, words, &mut no_source(rt), &mut no_disk(rt))
         }
-        Ok(Command::Show { journal, tick: _ }) => read_journal(rt, words, journal.as_str()),
-        Ok(Command::Replay { journal }) => read_journal(rt, words, journal.as_str()),
-        Err(fault) => refused_words(fault),
+        Ok(Command::Show { journal, tick: _ }) => read_journal(rt, words, journal),
+        Ok(Command::Replay { journal }) => read_journal(rt, words, journal),
+        Err(fault) => Ended {
+            status: refused_words(fault),
+            trouble: None,
+        },
+    }
+}
+
+// Checks the module of a file.
+fn check_file(rt: &HostRuntime, words: &[String], path: String) -> Ended
+    ensures usage { result.status ≡ Status.Usage → AreOfTool (map string_bytes words.now) → ⊥ }
+    ensures words { IsPastWords result.status → AreOfTool (map string_bytes words.now) }
+{
+    let mut module = FileSource::open(rt, path.as_str());
+    let ended = use_tool(rt, words, &mut module, &mut no_disk(rt));
+    if ended.status != Status::ReadFault {
+        return ended;
+    }
+    Ended {
+        status: ended.status,
+        trouble: with_file(path, module.trouble()),
     }
 }
 
 // Runs ticks by so many workers over the files of a world, of an upload stream and of a journal, which is
 // made where it is not there.
-fn run_files<R: Threads + Sync>(
+fn run_files<R: Threads + Clock + Sync>(
     rt: &HostRuntime,
     threads: &R,
     words: &[String],
     workers: u32,
-    world: &str,
-    uploads: &str,
-    journal: &str,
-) -> Status
+    world: String,
+    uploads: String,
+    journal: String,
+) -> Ended
     requires words { AreRunBy workers (map string_bytes words.now) }
     requires few { workers ≤ 16 }
-    ensures { result ≢ Status.Usage }
+    ensures { result.status ≢ Status.Usage }
 {
-    let mut world = FileSource::open(rt, world);
-    let mut uploads = FileSource::open(rt, uploads);
-    let mut out = StreamSink::over(rt.stdout());
-    let mut disk = FileDisk::open_or_make(rt, journal);
-    if workers == 1 {
+    let mut first = FileSource::open(rt, world.as_str());
+    let mut stream = FileSource::open(rt, uploads.as_str());
+    let mut out = ProgressSink::over(rt.stdout(), watched(rt), threads);
+    let mut disk = FileDisk::open_or_make(rt, journal.as_str());
+    let status = if workers == 1 {
         run_alone(
             rt.alloc(),
             words,
-            &mut world,
-            &mut uploads,
+            &mut first,
+            &mut stream,
             &mut out,
             &mut disk,
         )
@@ -131,12 +134,32 @@ fn run_files<R: Threads + Sync>(
             threads,
             rt.alloc(),
             words,
-            &mut world,
-            &mut uploads,
+            &mut first,
+            &mut stream,
             &mut out,
             &mut disk,
             &OpenGate,
         )
+    };
+    out.finish();
+    let trouble = match status {
+        Status::ReadFault => match with_file(world, first.trouble()) {
+            Some(trouble) => Some(trouble),
+            None => with_file(uploads, stream.trouble()),
+        },
+        Status::WriteFault => with_output(out.trouble()),
+        Status::DiskFault => with_file(journal, disk.trouble()),
+        _ => None,
+    };
+    Ended { status, trouble }
+}
+
+// Standard error, where it is a terminal on which the lines of a run don't stand.
+fn watched(rt: &HostRuntime) -> Option<Stderr> {
+    if rt.stderr().is_terminal() && !rt.stdout().is_terminal() {
+        Some(rt.stderr())
+    } else {
+        None
     }
 }
 
@@ -146,16 +169,16 @@ fn serve_files<R: Threads + Wait + Net<Listener = TcpListener, Stream = TcpStrea
     rt: &HostRuntime,
     threads: &R,
     words: &[String],
-    world: &str,
-    journal: &str,
+    world: String,
+    journal: String,
     port: u16,
     pace: u32,
-) -> Status
+) -> Ended
     requires { AreServe (map string_bytes words.now) }
-    ensures { result ≢ Status.Usage }
+    ensures { result.status ≢ Status.Usage }
 {
-    let mut world = FileSource::open(rt, world);
-    let mut disk = FileDisk::open_or_make(rt, journal);
+    let mut first = FileSource::open(rt, world.as_str());
+    let mut disk = FileDisk::open_or_make(rt, journal.as_str());
     let door = SocketDoor::open(
         threads,
         port,
@@ -163,15 +186,21 @@ fn serve_files<R: Threads + Wait + Net<Listener = TcpListener, Stream = TcpStrea
         Duration::from_secs(LIFE),
     );
     tell_door(rt, port, door.is_open());
-    serve_shared(
+    let status = serve_shared(
         threads,
         rt.alloc(),
         words,
-        &mut world,
+        &mut first,
         &mut disk,
         &door,
         &mut SleepPace::new(threads, u64::from(pace)),
-    )
+    );
+    let trouble = match status {
+        Status::ReadFault => with_file(world, first.trouble()),
+        Status::DiskFault => with_file(journal, disk.trouble()),
+        _ => None,
+    };
+    Ended { status, trouble }
 }
 
 // Says on standard error where the door is, or that there is none.
@@ -187,12 +216,19 @@ fn tell_door(rt: &HostRuntime, port: u16, is_open: bool) {
 }
 
 // Shows a tick of the journal of a file, or rules its ticks again.
-fn read_journal(rt: &HostRuntime, words: &[String], journal: &str) -> Status
-    ensures usage { result ≡ Status.Usage → AreOfTool (map string_bytes words.now) → ⊥ }
-    ensures words { IsPastWords result → AreOfTool (map string_bytes words.now) }
+fn read_journal(rt: &HostRuntime, words: &[String], path: String) -> Ended
+    ensures usage { result.status ≡ Status.Usage → AreOfTool (map string_bytes words.now) → ⊥ }
+    ensures words { IsPastWords result.status → AreOfTool (map string_bytes words.now) }
 {
-    let mut journal = FileDisk::open(rt, journal);
-    use_tool(rt, words, &mut no_source(rt), &mut journal)
+    let mut journal = FileDisk::open(rt, path.as_str());
+    let ended = use_tool(rt, words, &mut no_source(rt), &mut journal);
+    if ended.status != Status::DiskFault {
+        return ended;
+    }
+    Ended {
+        status: ended.status,
+        trouble: with_file(path, journal.trouble()),
+    }
 }
 
 // Checks the module of a source, makes a part of a world or runs one in memory, or shows a tick of the
@@ -202,17 +238,17 @@ fn use_tool<S: Source, D: Disk>(
     words: &[String],
     input: &mut S,
     disk: &mut D,
-) -> Status
-    ensures usage { result ≡ Status.Usage → AreOfTool (map string_bytes words.now) → ⊥ }
-    ensures words { IsPastWords result → AreOfTool (map string_bytes words.now) }
+) -> Ended
+    ensures usage { result.status ≡ Status.Usage → AreOfTool (map string_bytes words.now) → ⊥ }
+    ensures words { IsPastWords result.status → AreOfTool (map string_bytes words.now) }
 {
-    tool_main(
-        rt.alloc(),
-        words,
-        input,
-        &mut StreamSink::over(rt.stdout()),
-        disk,
-    )
+    let mut out = StreamSink::over(rt.stdout());
+    let status = tool_main(rt.alloc(), words, input, &mut out, disk);
+    let trouble = match status {
+        Status::WriteFault => with_output(out.trouble()),
+        _ => None,
+    };
+    Ended { status, trouble }
 }
 
 // A source for a command that reads none: it has no byte.

@@ -2,5 +2,7 @@
 #![tactic(auto)]
 
 mod calls;
+mod ended;
 
 pub use calls::{refused_words, run_command};
+pub use ended::{Ended, Place, PlacedTrouble};

@@ -1,6 +1,6 @@
 // A source, a sink and a disk over files of the system.
-ghost use Rattle.std.specs.Prelude.{◌≡◌, ℕ, ◌<◌, ◌≤◌, ◌+◌, ◌^◌, [], length, take, None, IsNone, IsErr, IfOk};
-ghost use Rattle.std.specs.Prelude.{OnOk, IfSome, OnSome, MatchOption, refl};
+ghost use Rattle.std.specs.Prelude.{◌≡◌, ℕ, ◌<◌, ◌≤◌, ◌+◌, ◌^◌, [], length, take, None, IsNone, IsSome, IsErr};
+ghost use Rattle.std.specs.Prelude.{IfOk, OnOk, MatchResult, refl};
 ghost use Rattle.std.specs.Io.{ReadsAtMost, WritesAtMost};
 ghost use Rattle.std.specs.Io.KnownBytes.{ReadConsumes, WriteAppends, Keeps, Consumes, IsAtEnd};
 ghost use Rattle.world_io.specs.Causes.{HasCause};
@@ -11,8 +11,9 @@ use crate::disk::{Disk, MOST_BYTES};
 use crate::sink::Sink;
 use crate::source::{Failed, Source};
 use crate::stream::write_some;
-use std::fs::{File, OpenOptions};
-use std::io::{ErrorKind, Read};
+use crate::trouble::{Deed, Trouble, note};
+use std::fs::{File, OpenOptions, TryLockError};
+use std::io::{Error, ErrorKind, Read, Result as SystemResult};
 use std::os::unix::fs::FileExt;
 use std::path::Path;
 use std::rt::Files;
@@ -22,17 +23,28 @@ use std::rt::Files;
 pub struct FileSource {
     file: Option<File>,
     faults: FaultCount,
+    first: Option<Trouble>,
 }
 
 impl FileSource {
     /// Opens a file that is there, for reading.
     pub fn open<R: Files<File = File>>(files: &R, path: &str) -> Self
-        ensures { result.faults.count ≡ 0 }
+        ensures none { result.faults.count ≡ 0 }
+        ensures told { IsNone result.file → IsSome result.first }
     {
+        let (file, first) = opened(File::open(files, path));
         FileSource {
-            file: File::open(files, path).ok(),
+            file,
             faults: FaultCount::ZERO,
+            first,
         }
+    }
+
+    /// Its first failure, to be opened or read.
+    pub fn trouble(&self) -> Option<Trouble>
+        ensures { result ≡ self.now.first }
+    {
+        self.first
     }
 }
 
@@ -48,14 +60,18 @@ impl Source for FileSource {
         ensures cause { HasCause self.old.faults.count self.new.faults.count result }
         ensures closed { IsNone self.old.file → IsErr result }
         ensures stays_closed { IsNone self.old.file → IsNone self.new.file }
+        ensures told { (IsNone self.old.file → IsSome self.old.first)
+            → IsErr result → IsSome self.new.first }
     {
-        let count = match &mut self.file {
-            Some(file) => read_some(file, buf),
-            None => None,
+        let Some(file) = &mut self.file else {
+            return Err(self.faults.raise());
         };
-        match count {
-            Some(count) => Ok(count),
-            None => Err(self.faults.raise()),
+        match read_some(file, buf) {
+            Ok(count) => Ok(count),
+            Err(reason) => {
+                note(&mut self.first, Deed::Read, reason);
+                Err(self.faults.raise())
+            }
         }
     }
 }
@@ -65,17 +81,28 @@ impl Source for FileSource {
 pub struct FileSink {
     file: Option<File>,
     faults: FaultCount,
+    first: Option<Trouble>,
 }
 
 impl FileSink {
     /// Makes a file, or empties the one that is there, for writing.
     pub fn create<R: Files<File = File>>(files: &R, path: &str) -> Self
-        ensures { result.faults.count ≡ 0 }
+        ensures none { result.faults.count ≡ 0 }
+        ensures told { IsNone result.file → IsSome result.first }
     {
+        let (file, first) = opened(File::create(files, path));
         FileSink {
-            file: File::create(files, path).ok(),
+            file,
             faults: FaultCount::ZERO,
+            first,
         }
+    }
+
+    /// Its first failure, to be made or written.
+    pub fn trouble(&self) -> Option<Trouble>
+        ensures { result ≡ self.now.first }
+    {
+        self.first
     }
 }
 
@@ -92,14 +119,18 @@ impl Sink for FileSink {
         ensures cause { HasCause self.old.faults.count self.new.faults.count result }
         ensures closed { IsNone self.old.file → IsErr result }
         ensures stays_closed { IsNone self.old.file → IsNone self.new.file }
+        ensures told { (IsNone self.old.file → IsSome self.old.first)
+            → IsErr result → IsSome self.new.first }
     {
-        let count = match &mut self.file {
-            Some(file) => write_some(file, piece),
-            None => None,
+        let Some(file) = &mut self.file else {
+            return Err(self.faults.raise());
         };
-        match count {
-            Some(count) => Ok(count),
-            None => Err(self.faults.raise()),
+        match write_some(file, piece) {
+            Ok(count) => Ok(count),
+            Err(reason) => {
+                note(&mut self.first, Deed::Write, reason);
+                Err(self.faults.raise())
+            }
         }
     }
 }
@@ -109,16 +140,20 @@ impl Sink for FileSink {
 pub struct FileDisk {
     file: Option<File>,
     faults: FaultCount,
+    first: Option<Trouble>,
 }
 
 impl FileDisk {
     /// Opens a file that is there, for reading: writes, cuts and syncs may fail.
     pub fn open<R: Files<File = File>>(files: &R, path: &str) -> Self
-        ensures { result.faults.count ≡ 0 }
+        ensures none { result.faults.count ≡ 0 }
+        ensures told { IsNone result.file → IsSome result.first }
     {
+        let (file, first) = opened(File::open(files, path));
         FileDisk {
-            file: File::open(files, path).ok(),
+            file,
             faults: FaultCount::ZERO,
+            first,
         }
     }
 
@@ -127,37 +162,76 @@ impl FileDisk {
     /// gives. Where the system fails to see to that, each call fails. The file is let go when it is dropped,
     /// and when the process ends, however it ends.
     pub fn open_or_make<R: Files<File = File>>(files: &R, path: &str) -> Self
-        ensures { result.faults.count ≡ 0 }
+        ensures none { result.faults.count ≡ 0 }
+        ensures told { IsNone result.file → IsSome result.first }
     {
+        let (file, first) = match open_alone(files, path) {
+            Ok(file) => (Some(file), None),
+            Err(trouble) => (None, Some(trouble)),
+        };
         FileDisk {
-            file: open_alone(files, path),
+            file,
             faults: FaultCount::ZERO,
+            first,
         }
+    }
+
+    /// Its first failure: to be opened, to be nobody else's, to be read, or to be written, cut or synced.
+    pub fn trouble(&self) -> Option<Trouble>
+        ensures { result ≡ self.now.first }
+    {
+        self.first
+    }
+}
+
+// A file that was opened, or the trouble with it.
+fn opened(file: SystemResult<File>) -> (Option<File>, Option<Trouble>)
+    ensures { IsNone result.0 → IsSome result.1 }
+{
+    match file {
+        Ok(file) => (Some(file), None),
+        Err(reason) => (
+            None,
+            Some(Trouble {
+                deed: Deed::Open,
+                reason,
+            }),
+        ),
     }
 }
 
 // Opens a file for reading and writing, which is made where there is none, locks it, and syncs its name and
 // what an earlier process may have left in it without a sync.
-fn open_alone<R: Files<File = File>>(files: &R, path: &str) -> Option<File> {
+fn open_alone<R: Files<File = File>>(files: &R, path: &str) -> Result<File, Trouble> {
     let file = OpenOptions::new()
         .read(true)
         .write(true)
         .create(true)
         .open(files, path)
-        .ok()?;
-    file.try_lock().ok()?;
-    if !is_name_kept(files, path) {
-        return None;
+        .map_err(|reason| at(Deed::Open, reason))?;
+    file.try_lock().map_err(unlocked)?;
+    sync_name(files, path).map_err(|reason| at(Deed::Write, reason))?;
+    file.sync_data().map_err(|reason| at(Deed::Write, reason))?;
+    Ok(file)
+}
+
+fn at(deed: Deed, reason: Error) -> Trouble {
+    Trouble { deed, reason }
+}
+
+// The trouble with a file that is not locked.
+fn unlocked(error: TryLockError) -> Trouble {
+    match error {
+        TryLockError::Error(reason) => at(Deed::Open, reason),
+        TryLockError::WouldBlock => at(Deed::Lock, Error::from(ErrorKind::WouldBlock)),
     }
-    file.sync_data().ok()?;
-    Some(file)
 }
 
 // Syncs the folder of a file, so that a crash leaves the file's name. A folder that may not be read, and one
 // of a file system that syncs none, is left as it is.
-fn is_name_kept<R: Files<File = File>>(files: &R, path: &str) -> bool {
+fn sync_name<R: Files<File = File>>(files: &R, path: &str) -> SystemResult<()> {
     let Some(folder) = Path::new(path).parent() else {
-        return true;
+        return Ok(());
     };
     let folder = if folder.as_str().is_empty() {
         "."
@@ -165,11 +239,11 @@ fn is_name_kept<R: Files<File = File>>(files: &R, path: &str) -> bool {
         folder.as_str()
     };
     let Ok(folder) = File::open(files, folder) else {
-        return true;
+        return Ok(());
     };
     match folder.sync_all() {
-        Ok(()) => true,
-        Err(error) => error.kind() == ErrorKind::InvalidInput,
+        Err(error) if error.kind() != ErrorKind::InvalidInput => Err(error),
+        _ => Ok(()),
     }
 }
 
@@ -189,10 +263,18 @@ impl Disk for FileDisk {
         ensures cause { HasCause self.old.faults.count self.new.faults.count result }
         ensures closed { IsNone self.old.file → IsErr result }
         ensures stays { self.new.file ≡ self.old.file }
+        ensures noted { (IsNone self.old.file → IsSome self.old.first)
+            → IsErr result → IsSome self.new.first }
     {
-        match self.file.as_ref().and_then(|file| length_of(file)) {
-            Some(len) => Ok(len),
-            None => Err(self.faults.raise()),
+        let Some(file) = &self.file else {
+            return Err(self.faults.raise());
+        };
+        match length_of(file) {
+            Ok(len) => Ok(len),
+            Err(reason) => {
+                note(&mut self.first, Deed::Read, reason);
+                Err(self.faults.raise())
+            }
         }
     }
 
@@ -203,10 +285,18 @@ impl Disk for FileDisk {
         ensures cause { HasCause self.old.faults.count self.new.faults.count result }
         ensures closed { IsNone self.old.file → IsErr result }
         ensures stays { self.new.file ≡ self.old.file }
+        ensures noted { (IsNone self.old.file → IsSome self.old.first)
+            → IsErr result → IsSome self.new.first }
     {
-        match self.file.as_ref().and_then(|file| read_at(file, at, buf)) {
-            Some(count) => Ok(count),
-            None => Err(self.faults.raise()),
+        let Some(file) = &self.file else {
+            return Err(self.faults.raise());
+        };
+        match read_at(file, at, buf) {
+            Ok(count) => Ok(count),
+            Err(reason) => {
+                note(&mut self.first, Deed::Read, reason);
+                Err(self.faults.raise())
+            }
         }
     }
 
@@ -217,14 +307,18 @@ impl Disk for FileDisk {
         ensures cause { HasCause self.old.faults.count self.new.faults.count result }
         ensures closed { IsNone self.old.file → IsErr result }
         ensures stays { self.new.file ≡ self.old.file }
+        ensures noted { (IsNone self.old.file → IsSome self.old.first)
+            → IsErr result → IsSome self.new.first }
     {
-        match self
-            .file
-            .as_ref()
-            .and_then(|file| write_at(file, at, bytes))
-        {
-            Some(()) => Ok(()),
-            None => Err(self.faults.raise()),
+        let Some(file) = &self.file else {
+            return Err(self.faults.raise());
+        };
+        match write_at(file, at, bytes) {
+            Ok(()) => Ok(()),
+            Err(reason) => {
+                note(&mut self.first, Deed::Write, reason);
+                Err(self.faults.raise())
+            }
         }
     }
 
@@ -234,10 +328,18 @@ impl Disk for FileDisk {
         ensures cause { HasCause self.old.faults.count self.new.faults.count result }
         ensures closed { IsNone self.old.file → IsErr result }
         ensures stays { self.new.file ≡ self.old.file }
+        ensures noted { (IsNone self.old.file → IsSome self.old.first)
+            → IsErr result → IsSome self.new.first }
     {
-        match self.file.as_ref().and_then(|file| file.set_len(len).ok()) {
-            Some(()) => Ok(()),
-            None => Err(self.faults.raise()),
+        let Some(file) = &self.file else {
+            return Err(self.faults.raise());
+        };
+        match file.set_len(len) {
+            Ok(()) => Ok(()),
+            Err(reason) => {
+                note(&mut self.first, Deed::Write, reason);
+                Err(self.faults.raise())
+            }
         }
     }
 
@@ -246,68 +348,77 @@ impl Disk for FileDisk {
         ensures cause { HasCause self.old.faults.count self.new.faults.count result }
         ensures closed { IsNone self.old.file → IsErr result }
         ensures stays { self.new.file ≡ self.old.file }
+        ensures noted { (IsNone self.old.file → IsSome self.old.first)
+            → IsErr result → IsSome self.new.first }
     {
-        match self.file.as_ref().and_then(|file| file.sync_data().ok()) {
-            Some(()) => Ok(()),
-            None => Err(self.faults.raise()),
+        let Some(file) = &self.file else {
+            return Err(self.faults.raise());
+        };
+        match file.sync_data() {
+            Ok(()) => Ok(()),
+            Err(reason) => {
+                note(&mut self.first, Deed::Write, reason);
+                Err(self.faults.raise())
+            }
         }
     }
 }
 
 // Reads the next bytes, again where a signal cuts in.
-fn read_some<R: Read>(reader: &mut R, buf: &mut [u8]) -> Option<usize>
-    ensures bound { IfSome result (λ n. n ≤ length buf.new) }
-    ensures bytes { MatchOption result (Keeps (R.remaining reader.old) (R.remaining reader.new))
-        (λ n. Consumes (R.remaining reader.old) (R.remaining reader.new) (take n buf.new)) }
-    ensures end { IfSome result (λ n. n ≡ 0 → 0 < length buf.new → IsAtEnd (R.remaining reader.new)) }
+fn read_some<R: Read>(reader: &mut R, buf: &mut [u8]) -> SystemResult<usize>
+    ensures bound { IfOk result (λ n. n ≤ length buf.new) }
+    ensures bytes { MatchResult result
+        (λ n. Consumes (R.remaining reader.old) (R.remaining reader.new) (take n buf.new))
+        (λ _. Keeps (R.remaining reader.old) (R.remaining reader.new)) }
+    ensures end { IfOk result (λ n. n ≡ 0 → 0 < length buf.new → IsAtEnd (R.remaining reader.new)) }
 {
     'again: for _ in 0..u64::MAX {
         match reader.read(buf) {
-            Ok(count) => return Some(count),
+            Ok(count) => return Ok(count),
             Err(error) if error.kind() == ErrorKind::Interrupted => {}
-            Err(_) => return None,
+            Err(error) => return Err(error),
         }
     }
-    None
+    Err(Error::from(ErrorKind::Interrupted))
 }
 
 // The file's length, which a disk may have.
-fn length_of(file: &File) -> Option<u64>
-    ensures { IfSome result (λ n. n < 2 ^ 62) }
+fn length_of(file: &File) -> SystemResult<u64>
+    ensures { IfOk result (λ n. n < 2 ^ 62) }
 {
-    let len = file.metadata().ok()?.len();
+    let len = file.metadata()?.len();
     if len > MOST_BYTES {
-        return None;
+        return Err(Error::from(ErrorKind::FileTooLarge));
     }
-    Some(len)
+    Ok(len)
 }
 
 // Fills as much of the buffer as there are bytes from the place on, again where a signal cuts in.
-fn read_at(file: &File, at: u64, buf: &mut [u8]) -> Option<usize>
-    ensures bound { IfSome result (λ n. n ≤ length buf.new) }
+fn read_at(file: &File, at: u64, buf: &mut [u8]) -> SystemResult<usize>
+    ensures bound { IfOk result (λ n. n ≤ length buf.new) }
 {
     let mut filled = 0usize;
     'fill: for _ in 0..u64::MAX {
         let place = at.saturating_add(filled as u64);
         if filled == buf.len() || place > MOST_BYTES {
-            return Some(filled);
+            return Ok(filled);
         }
         match file.read_at(&mut buf[filled..], place) {
-            Ok(0) => return Some(filled),
+            Ok(0) => return Ok(filled),
             Ok(count) => filled += count,
             Err(error) if error.kind() == ErrorKind::Interrupted => {}
-            Err(_) => return None,
+            Err(error) => return Err(error),
         }
     }
-    None
+    Err(Error::from(ErrorKind::Interrupted))
 }
 
 // Writes the bytes, none of them where they would pass the greatest length.
-fn write_at(file: &File, at: u64, bytes: &[u8]) -> Option<()>
-    ensures limit { OnSome result (at + length bytes.now < 2 ^ 62) }
+fn write_at(file: &File, at: u64, bytes: &[u8]) -> SystemResult<()>
+    ensures limit { OnOk result (at + length bytes.now < 2 ^ 62) }
 {
     if at > MOST_BYTES || bytes.len() as u64 > MOST_BYTES - at {
-        return None;
+        return Err(Error::from(ErrorKind::FileTooLarge));
     }
-    file.write_all_at(bytes, at).ok()
+    file.write_all_at(bytes, at)
 }

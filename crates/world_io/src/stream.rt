@@ -1,19 +1,21 @@
 // A sink over a stream, as standard output.
 ghost use Rattle.std.specs.Io.KnownBytes.{WriteAppends, Appends, Keeps};
 ghost use Rattle.std.specs.Io.{WritesAtMost};
-ghost use Rattle.std.specs.Prelude.{◌≡◌, ◌<◌, ◌≤◌, length, take, None, IfSome, IfOk, MatchOption};
+ghost use Rattle.std.specs.Prelude.{◌≡◌, ◌<◌, ◌≤◌, length, take, None, IsSome, IsErr, IfOk, MatchResult};
 ghost use Rattle.world_io.specs.Causes.{HasCause};
 
 use crate::count::FaultCount;
 use crate::sink::Sink;
 use crate::source::Failed;
-use std::io::{ErrorKind, Write};
+use crate::trouble::{Deed, Trouble, note};
+use std::io::{Error, ErrorKind, Result as SystemResult, Write};
 
 /// A sink over a writer that keeps nothing back, as standard output and standard error are.
 #[derive(Drop)]
 pub struct StreamSink<W> {
     stream: W,
     faults: FaultCount,
+    first: Option<Trouble>,
 }
 
 impl<W> StreamSink<W> {
@@ -24,7 +26,15 @@ impl<W> StreamSink<W> {
         StreamSink {
             stream,
             faults: FaultCount::ZERO,
+            first: None,
         }
+    }
+
+    /// Its first failure, to be written.
+    pub fn trouble(&self) -> Option<Trouble>
+        ensures { result ≡ self.now.first }
+    {
+        self.first
     }
 }
 
@@ -42,29 +52,33 @@ impl<W: Write> Sink for StreamSink<W> {
         ensures cause { HasCause self.old.faults.count self.new.faults.count result }
         ensures through { WriteAppends (W.contents self.old.stream)
             (W.contents self.new.stream) result piece.now }
+        ensures told { IsErr result → IsSome self.new.first }
     {
         match write_some(&mut self.stream, piece) {
-            Some(count) => Ok(count),
-            None => Err(self.faults.raise()),
+            Ok(count) => Ok(count),
+            Err(reason) => {
+                note(&mut self.first, Deed::Write, reason);
+                Err(self.faults.raise())
+            }
         }
     }
 }
 
-// Writes the front of the piece, again where a signal cuts in. `None` is a failure, or a writer that takes
-// nothing.
-pub(crate) fn write_some<W: Write>(writer: &mut W, piece: &[u8]) -> Option<usize>
-    ensures some { IfSome result (λ n. 0 < n) }
-    ensures bound { IfSome result (λ n. n ≤ length piece.now) }
-    ensures bytes { MatchOption result (Keeps (W.contents writer.old) (W.contents writer.new))
-        (λ n. Appends (W.contents writer.old) (W.contents writer.new) (take n piece.now)) }
+// Writes the front of the piece, again where a signal cuts in. A writer that takes nothing fails.
+pub(crate) fn write_some<W: Write>(writer: &mut W, piece: &[u8]) -> SystemResult<usize>
+    ensures some { IfOk result (λ n. 0 < n) }
+    ensures bound { IfOk result (λ n. n ≤ length piece.now) }
+    ensures bytes { MatchResult result
+        (λ n. Appends (W.contents writer.old) (W.contents writer.new) (take n piece.now))
+        (λ _. Keeps (W.contents writer.old) (W.contents writer.new)) }
 {
     'again: for _ in 0..u64::MAX {
         match writer.write(piece) {
-            Ok(0) => return None,
-            Ok(count) => return Some(count),
+            Ok(0) => return Err(Error::from(ErrorKind::WriteZero)),
+            Ok(count) => return Ok(count),
             Err(error) if error.kind() == ErrorKind::Interrupted => {}
-            Err(_) => return None,
+            Err(error) => return Err(error),
         }
     }
-    None
+    Err(Error::from(ErrorKind::Interrupted))
 }

@@ -1,14 +1,16 @@
 // The program of the world server.
 #![tactic(auto)]
 
+mod advice;
 mod pages;
 
+use advice::advice_for;
 use command_words::WordsFault;
 use pages::page_of;
 use run_status::Status;
-use server_calls::{refused_words, run_command};
+use server_calls::{Ended, refused_words, run_command};
 use std::env;
-use std::io::ErrorKind;
+use std::io::{ErrorKind, IsTerminal};
 use std::net::{Net, TcpListener, TcpStream};
 use std::process::ExitCode;
 use std::sync::Wait;
@@ -18,13 +20,39 @@ use world_io::{StreamSink, write_all};
 
 fn main(rt: HostRuntime) -> ExitCode {
     let status = match words_after_the_name(&rt) {
-        Ok(words) => answer(&rt, &rt, &words),
-        Err(fault) => refused_words(fault),
+        Ok(words) => {
+            let ended = answer(&rt, &rt, &words);
+            tell(&rt, &words, &ended);
+            ended.status
+        }
+        Err(fault) => {
+            let ended = ended_with(refused_words(fault));
+            tell(&rt, &[], &ended);
+            ended.status
+        }
     };
-    if status != Status::Done {
-        say(&rt, status);
-    }
     ExitCode::from(status.number())
+}
+
+// Tells on standard error how a call ended that did not do all: by its fault line, and on a terminal by a
+// line more.
+fn tell(rt: &HostRuntime, words: &[String], ended: &Ended) {
+    if ended.status == Status::Done {
+        return;
+    }
+    say(rt, ended.status);
+    if rt.stderr().is_terminal()
+        && let Ok(line) = advice_for(rt.alloc(), words, ended)
+    {
+        let _ = write_all(&mut StreamSink::over(rt.stderr()), line.as_bytes());
+    }
+}
+
+fn ended_with(status: Status) -> Ended {
+    Ended {
+        status,
+        trouble: None,
+    }
 }
 
 // The words after the program's name. One that is not UTF-8 is a faulty command line.
@@ -50,9 +78,9 @@ fn answer<R: Threads + Wait + Net<Listener = TcpListener, Stream = TcpStream> + 
     rt: &HostRuntime,
     threads: &R,
     words: &[String],
-) -> Status {
+) -> Ended {
     match page_of(words) {
-        Some(page) => print(rt, page),
+        Some(page) => ended_with(print(rt, page)),
         None => run_command(rt, threads, words),
     }
 }

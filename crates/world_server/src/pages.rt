@@ -18,12 +18,14 @@ const HELP: &str =
     \n\
     CHOICE --help says what the words of a choice mean. --version prints the version.\n\
     \n\
-    An example, in the top folder of the repository:\n\
-    \x20 world_server run worlds/small.json worlds/no_uploads.bin small.journal --ticks 2\n\
+    An example, on a world that is made for it:\n\
+    \x20 world_server gen 7 9 world > seven.json\n\
+    \x20 world_server gen 7 9 uploads > seven.uploads\n\
+    \x20 world_server run seven.json seven.uploads seven.journal --ticks 10\n\
     \n\
     Options stand anywhere behind the first word. Behind the word -- all words are paths, also those that\n\
     begin with -. The exit status is 0 where all was done; else a line `fault STATUS CAUSE` goes to standard\n\
-    error. docs/hosting.md explains each, and docs/players.md how to write a module.\n";
+    error. The guide for hosts explains each, and the guide for players how to write a module.\n";
 
 const RUN_HELP: &str = "world_server run WORLD UPLOADS JOURNAL --ticks N [--workers K]\n\
     \n\
@@ -38,10 +40,12 @@ const RUN_HELP: &str = "world_server run WORLD UPLOADS JOURNAL --ticks N [--work
     \x20 --workers K  how many threads run players and step rooms, in digits: 1 to 16; where it is left out, 1.\n\
     \x20              The lines and the journal are the same with any number\n\
     \n\
-    An example, in the top folder of the repository:\n\
-    \x20 world_server run worlds/small.json worlds/no_uploads.bin small.journal --ticks 2\n\
+    An example, on a world that is made for it:\n\
+    \x20 world_server gen 7 9 world > seven.json\n\
+    \x20 world_server gen 7 9 uploads > seven.uploads\n\
+    \x20 world_server run seven.json seven.uploads seven.journal --ticks 10\n\
     \n\
-    docs/hosting.md explains the files, the lines and the exit statuses.\n";
+    The guide for hosts explains the files, the lines and the exit statuses.\n";
 
 const SERVE_HELP: &str =
     "world_server serve WORLD JOURNAL --ticks N --links M --port P [--workers K] [--pace MS]\n\
@@ -59,10 +63,11 @@ const SERVE_HELP: &str =
     \x20 --pace MS    how many milliseconds to wait before each tick, in digits: 0 to 60000; where it is left\n\
     \x20              out, 0\n\
     \n\
-    An example, in the top folder of the repository, ten ticks without links:\n\
-    \x20 world_server serve worlds/small.json small.journal --ticks 10 --links 0 --port 7777\n\
+    An example, ten ticks without links on a world that is made for it:\n\
+    \x20 world_server gen 7 9 world > seven.json\n\
+    \x20 world_server serve seven.json served.journal --ticks 10 --links 0 --port 7777\n\
     \n\
-    docs/hosting.md says how to serve a world, and docs/formats.md what a link says.\n";
+    The guide for hosts says how to serve a world, and the page on formats what a link says.\n";
 
 const CHECK_HELP: &str = "world_server check MODULE\n\
     \n\
@@ -70,10 +75,10 @@ const CHECK_HELP: &str = "world_server check MODULE\n\
     \n\
     \x20 MODULE  the path of a WebAssembly module, of at most 1 MiB\n\
     \n\
-    An example, in the top folder of the repository:\n\
-    \x20 world_server check modules/loop.wasm\n\
+    An example:\n\
+    \x20 world_server check player.wasm\n\
     \n\
-    docs/players.md says how to write a module, and docs/hosting.md what each refusal means.\n";
+    The guide for players says how to write a module, and what each refusal means.\n";
 
 const GEN_HELP: &str = "world_server gen SEED ROOMS PART\n\
     \n\
@@ -88,7 +93,7 @@ const GEN_HELP: &str = "world_server gen SEED ROOMS PART\n\
     \x20 world_server gen 7 9 uploads > seven.uploads\n\
     \x20 world_server run seven.json seven.uploads seven.journal --ticks 10\n\
     \n\
-    docs/hosting.md says what stands in such a world, and docs/formats.md what the bytes are.\n";
+    The guide for hosts says what stands in such a world, and the page on formats what the bytes are.\n";
 
 const DEMO_HELP: &str = "world_server demo SEED ROOMS TICKS\n\
     \n\
@@ -102,7 +107,7 @@ const DEMO_HELP: &str = "world_server demo SEED ROOMS TICKS\n\
     An example, twenty ticks of a hundred rooms with eight players:\n\
     \x20 world_server demo 7 100 20\n\
     \n\
-    docs/hosting.md says what stands in such a world.\n";
+    The guide for hosts says what stands in such a world.\n";
 
 const SHOW_HELP: &str = "world_server show JOURNAL TICK\n\
     \n\
@@ -111,10 +116,10 @@ const SHOW_HELP: &str = "world_server show JOURNAL TICK\n\
     \x20 JOURNAL  the path of a journal that a run made\n\
     \x20 TICK     which tick, in digits: that of the world that the journal begins with, or of one after it\n\
     \n\
-    An example, in the top folder of the repository, behind the one of `world_server run --help`:\n\
-    \x20 world_server show small.journal 2 > later.json\n\
+    An example, behind the one of `world_server run --help`:\n\
+    \x20 world_server show seven.journal 2 > later.json\n\
     \n\
-    docs/hosting.md says how it ends where there is no such tick, and docs/formats.md what the text is.\n";
+    The guide for hosts says how it ends where there is no such tick, and the page on formats what the text is.\n";
 
 const REPLAY_HELP: &str = "world_server replay JOURNAL\n\
     \n\
@@ -123,10 +128,10 @@ const REPLAY_HELP: &str = "world_server replay JOURNAL\n\
     \n\
     \x20 JOURNAL  the path of a journal that a run made\n\
     \n\
-    An example, in the top folder of the repository, behind the one of `world_server run --help`:\n\
-    \x20 world_server replay small.journal\n\
+    An example, behind the one of `world_server run --help`:\n\
+    \x20 world_server replay seven.journal\n\
     \n\
-    docs/hosting.md says how it ends where a tick is not what the rules make.\n";
+    The guide for hosts says how it ends where a tick is not what the rules make.\n";
 
 /// The text that the words ask for: `--help` or `--version`, alone or behind a choice.
 pub(crate) fn page_of(words: &[String]) -> Option<&'static str> {
@@ -141,18 +146,32 @@ pub(crate) fn page_of(words: &[String]) -> Option<&'static str> {
     }
 }
 
+/// The form of a choice's words, which is the first line of its help.
+pub(crate) fn form_of(choice: &str) -> Option<&'static str> {
+    let help = help_of(choice)?;
+    match help.split_once('\n') {
+        Some((form, _)) => Some(form),
+        None => Some(help),
+    }
+}
+
+// The help of a choice.
+fn help_of(choice: &str) -> Option<&'static str> {
+    match choice {
+        "run" => Some(RUN_HELP),
+        "serve" => Some(SERVE_HELP),
+        "check" => Some(CHECK_HELP),
+        "gen" => Some(GEN_HELP),
+        "demo" => Some(DEMO_HELP),
+        "show" => Some(SHOW_HELP),
+        "replay" => Some(REPLAY_HELP),
+        _ => None,
+    }
+}
+
 // The text that a word behind a choice asks for.
 fn page_of_choice(choice: &str, word: &str) -> Option<&'static str> {
-    let help = match choice {
-        "run" => RUN_HELP,
-        "serve" => SERVE_HELP,
-        "check" => CHECK_HELP,
-        "gen" => GEN_HELP,
-        "demo" => DEMO_HELP,
-        "show" => SHOW_HELP,
-        "replay" => REPLAY_HELP,
-        _ => return None,
-    };
+    let help = help_of(choice)?;
     match word {
         "--help" => Some(help),
         "--version" => Some(VERSION),
