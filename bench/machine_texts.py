@@ -2,9 +2,10 @@
 """Assembles the text beside each of the modules that the machine is tried on, and works out what it does in two ways.
 
 It reads the tables of crates/machine_examples/src, where a line `// NAME: TEXT` stands above each module and a line `// NAME` above what it
-does. The bytes have to be those that `wat2wasm`, of wabt, makes of the text with the features of Core 1.0, without the opening. What it does is
-worked out by the interpreter below, which is written from the W3C standard and from the rules of this machine for fuel and for room, and,
-where `node` is installed, by node's WebAssembly, with calls put into each module that count instructions, frames and values.
+does; a long text goes on in further lines of comment. The bytes have to be those that `wat2wasm`, of wabt, makes of the text with the features
+of Core 1.0 and sign extension, without the opening. What it does is worked out by the interpreter below, which is written from the W3C standard
+and from the rules of this machine for fuel and for room, and, where `node` is installed, by node's WebAssembly, with calls put into each module
+that count instructions, frames and values.
 
 A text leaves out the imports where it has no word `import`: each host call that it names, as `$see`, is imported from `screeps`, in the order of
 CALLS. `[3 nop]` stands for `nop nop nop`.
@@ -23,7 +24,7 @@ import threading
 
 SOURCES = pathlib.Path(__file__).resolve().parent.parent / "crates/machine_examples/src"
 OPENING = bytes([0x00, 0x61, 0x73, 0x6D, 0x01, 0x00, 0x00, 0x00])
-NEWER = ["saturating-float-to-int", "sign-extension", "simd", "multi-value", "bulk-memory", "reference-types"]
+NEWER = ["saturating-float-to-int", "simd", "multi-value", "bulk-memory", "reference-types"]
 FEATURES = ["--disable-" + name for name in NEWER]
 
 MOST_FRAMES = 1_000
@@ -31,6 +32,9 @@ MOST_VALUES = 65_536
 MOST_PAGES = 256
 PAGE = 65_536
 I32, I64 = 0x7F, 0x7E
+
+# Of each operator of sign extension the low bits that it looks at, and its width.
+EXTENSIONS = {0xC0: (8, 32), 0xC1: (16, 32), 0xC2: (8, 64), 0xC3: (16, 64), 0xC4: (32, 64)}
 
 # What the host of the tests offers: the parameters and the result of each call.
 CALLS = {
@@ -534,6 +538,9 @@ class Machine:
             self.push(signed(self.stack.pop(), 32) & ((1 << 64) - 1))
         elif code == 0xAD:
             pass
+        elif code in EXTENSIONS:
+            low, bits = EXTENSIONS[code]
+            self.push(signed(self.stack.pop(), low) & ((1 << bits) - 1))
         else:
             raise ValueError(f"opcode {code:#x}")
 
@@ -822,7 +829,9 @@ def tables(source):
 
 
 def named_bytes(content):
-    return [(name, text, unescaped(raw)) for name, text, raw in re.findall(r'^    // ([^:]*): (.*)\n    b"([^"]*)"', content, re.MULTILINE)]
+    found = re.findall(r'((?:^    // .*\n)+)    b"([^"]*)"', content, re.MULTILINE)
+    texts = [(" ".join(line.strip().removeprefix("// ") for line in lines.splitlines()), raw) for lines, raw in found]
+    return [(*text.split(": ", 1), unescaped(raw)) for text, raw in texts]
 
 
 def named_results(content):

@@ -3,9 +3,9 @@
 checks/modules.py runs the built program on them.
 
 Run by itself, this assembles the text beside each and compares. The bytes have to be those that `wat2wasm --no-check` makes of the text,
-without the opening, and the answer that of `wasm-validate`, both of Debian's package wabt, with the features of Core 1.0. A text that begins
-with `by hand:` is not assembled, one with `Core 1.0:` in it is not compared with `wasm-validate`, which knows a later rule, and those with a
-float have no answer to compare, since only this server refuses floats.
+without the opening, and the answer that of `wasm-validate`, both of Debian's package wabt, with the features of Core 1.0 and sign extension. A
+text that begins with `by hand:` is not assembled, one with `Core 1.0:` in it is not compared with `wasm-validate`, which knows a later rule, and
+those with a float have no answer to compare, since only this server refuses floats.
 """
 
 import csv
@@ -17,7 +17,7 @@ from collections import namedtuple
 
 ROWS = pathlib.Path(__file__).resolve().parent / "modules.tsv"
 OPENING = bytes([0x00, 0x61, 0x73, 0x6D, 0x01, 0x00, 0x00, 0x00])
-NEWER = ["saturating-float-to-int", "sign-extension", "simd", "multi-value", "bulk-memory", "reference-types"]
+NEWER = ["saturating-float-to-int", "simd", "multi-value", "bulk-memory", "reference-types"]
 FEATURES = ["--disable-" + name for name in NEWER]
 
 # The answer is valid, invalid or float; the content is the whole module.

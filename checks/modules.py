@@ -75,7 +75,7 @@ def check_sections():
 
 
 # Of each opcode the least that stands behind it. All others are refused.
-BEHIND = {code: b"" for code in (0x00, 0x01, 0x0F, 0x1A, 0x1B, *range(0x45, 0xC0))}
+BEHIND = {code: b"" for code in (0x00, 0x01, 0x0F, 0x1A, 0x1B, *range(0x45, 0xC5))}
 BEHIND |= {code: b"\x40\x0b" for code in (0x02, 0x03, 0x04)}
 BEHIND |= {code: b"\0" for code in (0x0C, 0x0D, 0x10, *range(0x20, 0x25), 0x3F, 0x40, 0x41, 0x42)}
 BEHIND |= {code: b"\0\0" for code in (0x0E, 0x11, *range(0x28, 0x3F))}
@@ -84,9 +84,9 @@ BEHIND |= {0x43: bytes(4), 0x44: bytes(8)}
 # Expressions with their ends, and others.
 SPELLED = """
 0b / 00010f1a1b0b / 02400b037f0b0b / 0440010b0b / 047e050b0b / 04400105 01010b010b / 0e020001000b / 1103002000 24000b / 2802003e02003903000b
-3f004000417f4280000b / 430000000044 00000000000000000b / 455a5b66678a8bbf0b / 04400b0b / 0440050b0b / 044005010b0b / 04400105010b0b / 044001050b0b
+3f004000417f4280000b / 430000000044 00000000000000000b / 455a5b66678a8bbfc0c40b / 04400b0b / 0440050b0b / 044005010b0b / 04400105010b0b / 044001050b0b
 """
-MISSPELLED = " / 01 / 05 / 0b0b / 060b / 120b / 1c0b / 250b / c00b / 02410b0b / 0240050b0b / 044005050b0b / 3f010b / 430000000b"
+MISSPELLED = " / 01 / 05 / 0b0b / 060b / 120b / 1c0b / 250b / c50b / 02410b0b / 0240050b0b / 044005050b0b / 3f010b / 430000000b"
 
 
 def check_expressions():

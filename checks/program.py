@@ -638,6 +638,7 @@ def check_modules():
         ("65,536 entries", module([b"\x0b"], before=section(4, b"\1\x70\0" + leb(65_536)))),
         ("an import of each call of the host", HOSTED),
         ("an import of a call, twice", importing(*TWICE, types=HOST_TYPES)),
+        ("sign extensions", module([b"\x41\0\xc0\xc1\x1a\x42\0\xc2\xc3\xc4\x1a\x0b"])),
         ("data up to the end", with_data(leb(65_535), 1)),
         ("no data at the end", with_data(leb(65_536), 0)),
         ("elements up to the end", with_elements(b"\5", 5)),
@@ -654,8 +655,8 @@ def check_modules():
         ("a byte too many", LOOP + b"\0"),
         ("a byte too few", LOOP[:-1]),
         ("a nest of 100,000 that is cut", nest(100_000)[:-1]),
-        ("an opcode that is none", module([b"\xc0\x0b"])),
-        ("a sign extension", module([b"\x41\0\xc0\x1a\x0b"])),
+        ("an opcode that is none", module([b"\xc5\x0b"])),
+        ("the opcode behind those of sign extension", module([b"\x41\0\xc5\x1a\x0b"])),
         ("one mebibyte of zeros", bytes(MIB)),
     ]
     for name, content in malformed:
@@ -682,6 +683,7 @@ def check_modules():
     ]
     invalid = [
         ("a value left", module([b"\x41\0\x0b"])),
+        ("a sign extension of another width", module([b"\x42\0\xc0\x1a\x0b"])),
         ("no value to drop", module([b"\x1a\x0b"])),
         ("an export of no function", OPENING + section(7, b"\1\1x\0\0")),
         ("an unknown label", module([b"\x0c\1\x0b"])),

@@ -7,14 +7,13 @@ here=$(dirname "$0")
 name=$(basename "$source")
 module=${2:-$here/out/${name%.*}.wasm}
 mkdir -p "$(dirname "$module")"
-# -mcpu=mvp        WebAssembly Core 1.0 and nothing after it
 # -nostdlib ..     no library, and no function that the compiler would take from one
 # memory.c         what the compiler calls by itself to copy, fill and compare memory; only what is called stays
 # --no-entry ..    the one export that counts is `loop`
 # stack            8 KiB, in front of what is static: who needs more of it traps, and writes over nothing. The memory has as many pages as
 #                  the two need
 # --strip-all      no names, which count towards the mebibyte that a module may have
-flags=(--target=wasm32 -mcpu=mvp -O2 -Wall -Wextra -nostdlib -ffreestanding -fno-builtin)
+flags=(--target=wasm32 -O2 -Wall -Wextra -nostdlib -ffreestanding -fno-builtin)
 case "$name" in
 *.cpp | *.cc | *.cxx) flags+=(-fno-exceptions -fno-rtti -fno-threadsafe-statics) ;;
 esac

@@ -6,12 +6,11 @@ set -eu
 source=${1:?usage: build_rust.sh SOURCE.rs [MODULE.wasm]}
 module=${2:-$(dirname "$0")/out/$(basename "$source" .rs).wasm}
 mkdir -p "$(dirname "$module")"
-# target-cpu=mvp   WebAssembly Core 1.0 and nothing after it
 # panic=abort      no unwinding: a panic is an `unreachable`, which traps
 # opt-level=2 ..   one unit of code, so that what can't be reached is left out, and with it what the library says in a panic
 # stack, memory    a stack of 8 KiB within one page of 64 KiB, as players/build.sh has it; what is static has the rest
 # strip-all        no names, which count towards the mebibyte that a module may have
 exec "${RUSTC:-rustc}" --edition 2021 --target wasm32-unknown-unknown --crate-type cdylib \
-    -C target-cpu=mvp -C panic=abort -C opt-level=2 -C codegen-units=1 -C lto=fat \
+    -C panic=abort -C opt-level=2 -C codegen-units=1 -C lto=fat \
     -C link-arg=--strip-all -C link-arg=--initial-memory=65536 -C link-arg=-zstack-size=8192 \
     "$source" -o "$module"

@@ -35,7 +35,7 @@ REPLIES = {
 }
 DECISIONS = {
     "TooLarge": "the module passes a limit: docs/players.md has them, \"What is refused\"",
-    "Malformed": "the file is no WebAssembly 1.0 in its binary form: is it the right one, and was it built with -mcpu=mvp?",
+    "Malformed": "the file is no WebAssembly 1.0 in its binary form: is it the right one, or does it use a later extension (clang leaves all out with -mcpu=mvp)?",
     "FloatRefused": "a float type or an instruction on floats stands in the module: docs/faq.md says where they come from",
     "Invalid": "the module is not valid: build it anew, and look at what changed it since",
     "UnknownImport": "the module imports something that is no call of docs/players.md: a linker told to allow undefined functions does so",

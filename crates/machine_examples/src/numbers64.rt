@@ -4,7 +4,7 @@ use crate::recorder::{ASK32, SEE, SEE32};
 use crate::rows::{FINISHED, all_do};
 use std::test::Fail;
 
-const NUMBERS64: [&[u8]; 35] = [
+const NUMBERS64: [&[u8]; 36] = [
     // i64.eqz: (func (export "loop") (call $see32 (i64.eqz (i64.const 0))) (call $see32 (i64.eqz (i64.const
     // 1))) (call $see32 (i64.eqz (i64.const -1))) (call $see32 (i64.eqz (i64.const -0x8000000000000000)))
     // (call $see32 (i64.eqz (i64.const 0x100000000))))
@@ -202,6 +202,20 @@ const NUMBERS64: [&[u8]; 35] = [
     // (i64.extend_i32_u (i32.const 1))) (call $see (i64.extend_i32_u (i32.const -1))) (call $see
     // (i64.extend_i32_u (i32.const -0x80000000))) (call $see (i64.extend_i32_u (i32.const 0x7fffffff))))
     b"\x01\x08\x02\x60\x01\x7e\x00\x60\x00\x00\x02\x0f\x01\x07\x73\x63\x72\x65\x65\x70\x73\x03\x73\x65\x65\x00\x00\x03\x02\x01\x01\x07\x08\x01\x04\x6c\x6f\x6f\x70\x00\x01\x0a\x25\x01\x23\x00\x41\x00\xad\x10\x00\x41\x01\xad\x10\x00\x41\x7f\xad\x10\x00\x41\x80\x80\x80\x80\x78\xad\x10\x00\x41\xff\xff\xff\xff\x07\xad\x10\x00\x0b",
+    // the sign of the low bits is carried on: (func (export "loop") (call $see32 (i32.extend8_s
+    // (i32.const 0))) (call $see32 (i32.extend8_s (i32.const 127))) (call $see32 (i32.extend8_s
+    // (i32.const 128))) (call $see32 (i32.extend8_s (i32.const 255))) (call $see32 (i32.extend8_s
+    // (i32.const 2147483520))) (call $see32 (i32.extend8_s (i32.const -129))) (call $see32
+    // (i32.extend16_s (i32.const 32767))) (call $see32 (i32.extend16_s (i32.const 32768))) (call $see32
+    // (i32.extend16_s (i32.const 65535))) (call $see32 (i32.extend16_s (i32.const 305430528))) (call $see
+    // (i64.extend8_s (i64.const 127))) (call $see (i64.extend8_s (i64.const 128))) (call $see
+    // (i64.extend8_s (i64.const 255))) (call $see (i64.extend8_s (i64.const 9223372036854775680))) (call
+    // $see (i64.extend8_s (i64.const -129))) (call $see (i64.extend16_s (i64.const 32767))) (call $see
+    // (i64.extend16_s (i64.const 32768))) (call $see (i64.extend16_s (i64.const 65535))) (call $see
+    // (i64.extend16_s (i64.const 1311768465173151744))) (call $see (i64.extend32_s (i64.const
+    // 2147483647))) (call $see (i64.extend32_s (i64.const 2147483648))) (call $see (i64.extend32_s
+    // (i64.const 4294967295))) (call $see (i64.extend32_s (i64.const 1311768467015204864))))
+    b"\x01\x0c\x03\x60\x01\x7e\x00\x60\x01\x7f\x00\x60\x00\x00\x02\x1f\x02\x07\x73\x63\x72\x65\x65\x70\x73\x03\x73\x65\x65\x00\x00\x07\x73\x63\x72\x65\x65\x70\x73\x05\x73\x65\x65\x33\x32\x00\x01\x03\x02\x01\x02\x07\x08\x01\x04\x6c\x6f\x6f\x70\x00\x02\x0a\xb9\x01\x01\xb6\x01\x00\x41\x00\xc0\x10\x01\x41\xff\x00\xc0\x10\x01\x41\x80\x01\xc0\x10\x01\x41\xff\x01\xc0\x10\x01\x41\x80\xff\xff\xff\x07\xc0\x10\x01\x41\xff\x7e\xc0\x10\x01\x41\xff\xff\x01\xc1\x10\x01\x41\x80\x80\x02\xc1\x10\x01\x41\xff\xff\x03\xc1\x10\x01\x41\x80\x80\xd2\x91\x01\xc1\x10\x01\x42\xff\x00\xc2\x10\x00\x42\x80\x01\xc2\x10\x00\x42\xff\x01\xc2\x10\x00\x42\x80\xff\xff\xff\xff\xff\xff\xff\xff\x00\xc2\x10\x00\x42\xff\x7e\xc2\x10\x00\x42\xff\xff\x01\xc3\x10\x00\x42\x80\x80\x02\xc3\x10\x00\x42\xff\xff\x03\xc3\x10\x00\x42\x80\x80\xd2\x91\x81\xcf\x95\x9a\x12\xc3\x10\x00\x42\xff\xff\xff\xff\x07\xc4\x10\x00\x42\x80\x80\x80\x80\x08\xc4\x10\x00\x42\xff\xff\xff\xff\x0f\xc4\x10\x00\x42\x80\x80\x80\x80\x88\xcf\x95\x9a\x12\xc4\x10\x00\x0b",
     // a wrapped value is extended: (func (export "loop") (call $see (i64.extend_i32_u (i32.wrap_i64
     // (i64.const -1)))) (call $see (i64.extend_i32_s (i32.wrap_i64 (i64.const 0x180000000)))) (call $see
     // (i64.extend_i32_u (i32.add (i32.const -1) (i32.const 1)))) (call $see (i64.extend_i32_u (i32.sub
@@ -228,7 +242,7 @@ const NUMBERS64: [&[u8]; 35] = [
 ];
 
 // The fuel, the outcome, what is used, and each call of the host with its arguments.
-const NUMBERS64_RESULTS: [&[i64]; 35] = [
+const NUMBERS64_RESULTS: [&[i64]; 36] = [
     // i64.eqz
     &[
         1000, FINISHED, 15, SEE32, 1, SEE32, 0, SEE32, 0, SEE32, 0, SEE32, 0,
@@ -606,6 +620,58 @@ const NUMBERS64_RESULTS: [&[i64]; 35] = [
     // i64.extend_i32_u
     &[
         1000, FINISHED, 15, SEE, 0, SEE, 1, SEE, 4294967295, SEE, 2147483648, SEE, 2147483647,
+    ],
+    // the sign of the low bits is carried on
+    &[
+        1000,
+        FINISHED,
+        69,
+        SEE32,
+        0,
+        SEE32,
+        127,
+        SEE32,
+        -128,
+        SEE32,
+        -1,
+        SEE32,
+        -128,
+        SEE32,
+        127,
+        SEE32,
+        32767,
+        SEE32,
+        -32768,
+        SEE32,
+        -1,
+        SEE32,
+        -32768,
+        SEE,
+        127,
+        SEE,
+        -128,
+        SEE,
+        -1,
+        SEE,
+        -128,
+        SEE,
+        127,
+        SEE,
+        32767,
+        SEE,
+        -32768,
+        SEE,
+        -1,
+        SEE,
+        -32768,
+        SEE,
+        2147483647,
+        SEE,
+        -2147483648,
+        SEE,
+        -1,
+        SEE,
+        -2147483648,
     ],
     // a wrapped value is extended
     &[

@@ -156,3 +156,8 @@ extend_u M N i = i
 -- the N bits that stand for the signed number of the M bits
 abbrev pub extend_s : ℕ → ℕ → ℕ → ℕ
 extend_s M N i = unsigned N (signed M i)
+
+-- the N bits that stand for the signed number of the low M bits (the sign-extension operators, which came to
+-- the standard after Core 1.0: chapter 4.3.2 of Core 2.0, `iextendM_s`)
+abbrev pub iextend_s : ℕ → ℕ → ℕ → ℕ
+iextend_s M N i = extend_s M N (wrap N M i)

@@ -1,10 +1,10 @@
--- The opcodes of the integer instructions, as WebAssembly Core 1.0, chapter 5.4.5, lists them: for each the
--- width of its operands and the operator.
+-- The opcodes of the integer instructions, as WebAssembly Core 1.0, chapter 5.4.5, lists them, and those of the
+-- sign-extension operators: for each the width of its operands and the operator.
 use Rattle.std.specs.Prelude.{◌≡◌, ◌≤◌, ◌⊎◌, ℕ, ◌==◌, Bool, if◌then◌else◌, Option, Some}
 use Rattle.wasm_numeric.specs.Integers.{least, minus_one, iclz, ictz, ipopcnt, iadd, isub, imul, idiv_s}
 use Rattle.wasm_numeric.specs.Integers.{idiv_u, irem_s, irem_u, iand, ior, ixor, ishl, ishr_s, ishr_u, irotl}
 use Rattle.wasm_numeric.specs.Integers.{irotr, ieqz, ieq, ine, ilt_s, ilt_u, igt_s, igt_u, ile_s, ile_u}
-use Rattle.wasm_numeric.specs.Integers.{ige_s, ige_u, wrap, extend_s, extend_u}
+use Rattle.wasm_numeric.specs.Integers.{ige_s, ige_u, wrap, extend_s, extend_u, iextend_s}
 
 -- opcodes from `low` to `high`
 abbrev pub IsFrom : ℕ → ℕ → ℕ → Type 0
@@ -13,7 +13,11 @@ IsFrom low high op = (low ≤ op) × (op ≤ high)
 -- ---- one operand
 
 abbrev pub IsUnary : ℕ → Type 0
-IsUnary op = IsFrom 0x67 0x69 op ⊎ IsFrom 0x79 0x7b op
+IsUnary op = IsFrom 0x67 0x69 op ⊎ IsFrom 0x79 0x7b op ⊎ IsFrom 0xc0 0xc4 op
+
+-- those on 32 bits
+abbrev pub IsNarrowUnary : ℕ → Type 0
+IsNarrowUnary op = IsFrom 0x67 0x69 op ⊎ IsFrom 0xc0 0xc1 op
 
 unfoldable pub unary_entry : ℕ → ℕ × (ℕ → ℕ → ℕ)
 unary_entry op =
@@ -22,7 +26,12 @@ unary_entry op =
     else if op == 0x69 then (32, ipopcnt)
     else if op == 0x79 then (64, iclz)
     else if op == 0x7a then (64, ictz)
-    else (64, ipopcnt)
+    else if op == 0x7b then (64, ipopcnt)
+    else if op == 0xc0 then (32, iextend_s 8)
+    else if op == 0xc1 then (32, iextend_s 16)
+    else if op == 0xc2 then (64, iextend_s 8)
+    else if op == 0xc3 then (64, iextend_s 16)
+    else (64, iextend_s 32)
 
 unfoldable pub unary_value : ℕ → ℕ → ℕ
 unary_value op a = let entry = unary_entry op in entry.1 entry.0 a

@@ -5,7 +5,7 @@ ghost use Rattle.std.specs.Prelude.{◌≡◌, ◌<◌, ◌≤◌, ◌^◌, IfOk
 ghost use Rattle.std.specs.Result.{result_ok};
 ghost use Rattle.wasm_numeric.specs.Integers.{least, minus_one, idiv_s, irem_s};
 ghost use Rattle.wasm_numeric.specs.Opcodes.{IsFrom, IsOverflow, IsUnary, IsBinary, IsDivision, IsCompare};
-ghost use Rattle.wasm_numeric.specs.Opcodes.{IsConvert, unary_value, binary_value, compare_value};
+ghost use Rattle.wasm_numeric.specs.Opcodes.{IsConvert, IsNarrowUnary, unary_value, binary_value, compare_value};
 ghost use Rattle.wasm_numeric.specs.Opcodes.{convert_value};
 
 /// Why an integer instruction has no value.
@@ -17,14 +17,15 @@ pub enum NumFault {
     Overflow,
 }
 
-/// Counts bits, by opcode 67 to 69 (`i32`) or 79 to 7B (`i64`). An `i32` stands in the low 32 bits, the
-/// others 0.
+/// Counts bits, by opcode 67 to 69 (`i32`) or 79 to 7B (`i64`), or carries the sign of the low bits on, by
+/// opcode C0 (8 bits), C1 (16; both `i32`) or C2 (8), C3 (16), C4 (32; all `i64`). An `i32` stands in the low
+/// 32 bits, the others 0.
 #[inline]
 pub fn unary(op: u8, a: u64) -> u64
     requires group { IsUnary op }
-    requires operand { op ≤ 0x69 → a < 2 ^ 32 }
+    requires operand { IsNarrowUnary op → a < 2 ^ 32 }
     ensures value { result ≡ unary_value op a }
-    ensures range { op ≤ 0x69 → result < 2 ^ 32 }
+    ensures range { IsNarrowUnary op → result < 2 ^ 32 }
 {
     match op {
         0x67 => u64::from((a as u32).leading_zeros()),
@@ -32,7 +33,27 @@ pub fn unary(op: u8, a: u64) -> u64
         0x69 => u64::from((a as u32).count_ones()),
         0x79 => u64::from(a.leading_zeros()),
         0x7a => u64::from(a.trailing_zeros()),
-        _ => u64::from(a.count_ones()),
+        0x7b => u64::from(a.count_ones()),
+        _ => extend_within(op, a),
+    }
+}
+
+// Carries the sign of the low bits on, by opcode C0 to C4.
+#[inline]
+#[tactic(auto, unfolding(crate::specs::Opcodes::unary_value, crate::specs::Opcodes::unary_entry))]
+fn extend_within(op: u8, a: u64) -> u64
+    requires { IsFrom 0xc0 0xc4 op }
+    ensures value { result ≡ unary_value op a }
+    ensures range { op ≤ 0xc1 → result < 2 ^ 32 }
+{
+    let byte = ((a & 0xff) as u8).cast_signed();
+    let two_bytes = ((a & 0xffff) as u16).cast_signed();
+    match op {
+        0xc0 => u64::from(i32::from(byte).cast_unsigned()),
+        0xc1 => u64::from(i32::from(two_bytes).cast_unsigned()),
+        0xc2 => i64::from(byte).cast_unsigned(),
+        0xc3 => i64::from(two_bytes).cast_unsigned(),
+        _ => i64::from(((a & 0xffff_ffff) as u32).cast_signed()).cast_unsigned(),
     }
 }
 

@@ -8,7 +8,7 @@ use Rattle.wasm_values.specs.declared.types.ValType.{ValType}
 use Rattle.wasm_values.specs.declared.types.ValType.TheVariants.{I32, I64}
 use Rattle.wasm_typing.specs.Context.{Context}
 use Rattle.wasm_typing.specs.Operations.{Signature}
-use Rattle.wasm_numeric.specs.Opcodes.{IsFrom, IsUnary, IsBinary, IsCompare, IsConvert, IsOverflow, unary_value, binary_value, compare_value, convert_value}
+use Rattle.wasm_numeric.specs.Opcodes.{IsFrom, IsUnary, IsNarrowUnary, IsBinary, IsCompare, IsConvert, IsOverflow, unary_value, binary_value, compare_value, convert_value}
 use Rattle.wasm_steps.specs.Program.{Store, most_values}
 use Rattle.wasm_steps.specs.Threads.{Thread, size}
 use Rattle.wasm_steps.specs.Plain.{Does, does_i32_const, does_i64_const, does_unary, does_binary, does_test, does_compare, does_convert, fails_by_zero, fails_overflow, IsTest, truth}
@@ -74,7 +74,7 @@ module _ {op : ℕ} {old : Held} {before : Store} (n : IsNext (numeric op) old b
 -- ---- the groups: what they find
 
 module _ {op : ℕ} {old : Held} {before : Store} (n : IsNext (numeric op) old before) where
-  pub unary_found : IsUnary op → (1 ≤ length old.operands) × (op ≤ 0x69 → get_or old.operands 0 0 < 2 ^ 32)
+  pub unary_found : IsUnary op → (1 ≤ length old.operands) × (IsNarrowUnary op → get_or old.operands 0 0 < 2 ^ 32)
   unary_found group = let t = takes_unary op group in let f = one_found n t.1 in (f.0, λ h. t.2.narrow (get_or old.operands 0 0) f.1 h)
 
   pub binary_found : IsBinary op → (2 ≤ length old.operands) × (op ≤ 0x78 → get_or old.operands 0 0 < 2 ^ 32) × (op ≤ 0x78 → get_or old.operands 1 0 < 2 ^ 32)
@@ -96,10 +96,10 @@ module _ {op : ℕ} {old : Held} {before : Store} (n : IsNext (numeric op) old b
   convert_found group = let t = takes_convert op group in let f = one_found n t.takes in (f.0, λ h. t.narrow (get_or old.operands 0 0) f.1 h)
 
 -- an operation of no other group is a conversion
-pub must_convert : {op : ℕ} {old : Held} {before : Store} → IsNext (numeric op) old before → (IsFrom 0x45 0x5a op → ⊥) → (IsFrom 0x67 0x8a op → ⊥) → IsConvert op
-must_convert {op} {old} n no_compare no_arithmetic =
+pub must_convert : {op : ℕ} {old : Held} {before : Store} → IsNext (numeric op) old before → (IsFrom 0x45 0x5a op → ⊥) → (IsFrom 0x67 0x8a op → ⊥) → (IsFrom 0xc0 0xc4 op → ⊥) → IsConvert op
+must_convert {op} {old} n no_compare no_arithmetic no_extension =
     let o = offers_numeric (running n.rest old) op n.thread in
-    elim (grouped op o.0 o.1) [ inl h ↦ absurd (no_compare h) | inr h ↦ elim h [ inl k ↦ absurd (no_arithmetic k) | inr k ↦ k ] ]
+    elim (grouped op o.0 o.1) [ inl h ↦ absurd (no_compare h) | inr h ↦ elim h [ inl k ↦ absurd (no_arithmetic k) | inr k ↦ elim k [ inl m ↦ m | inr m ↦ absurd (no_extension m) ] ] ]
 
 -- ---- the groups: what they do
 
@@ -124,7 +124,7 @@ module _ {op : ℕ} {old : Held} {before : Store} (n : IsNext (numeric op) old b
   does_same : (count value said : ℕ) → value ≡ said → Does (numeric op) (data_of old store) (data_of (replaced count said old) store) → Does (numeric op) (data_of old store) (data_of (replaced count value old) store)
   does_same count value said e does = subst (λ z. Does (numeric op) (data_of old store) (data_of (replaced count z old) store)) (sym e) does
 
-  pub unary_done : IsUnary op → (a value : ℕ) → a ≡ get_or old.operands 0 0 → value ≡ unary_value op a → (op ≤ 0x69 → value < 2 ^ 32) → value < 2 ^ 64 → new ≡ replaced 1 value old → IsDone (numeric op) old store new store
+  pub unary_done : IsUnary op → (a value : ℕ) → a ≡ get_or old.operands 0 0 → value ≡ unary_value op a → (IsNarrowUnary op → value < 2 ^ 32) → value < 2 ^ 64 → new ≡ replaced 1 value old → IsDone (numeric op) old store new store
   unary_done group a value at said narrow wide e =
       let t = takes_unary op group in
       one_done n store new value t.1 (t.2.wide value narrow wide) e

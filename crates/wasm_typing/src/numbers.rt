@@ -34,6 +34,8 @@ fn signature(op: u8) -> Option<Operation>
         0x7c..=0x8a => binary(ValType::I64, ValType::I64),
         0xa7 => unary(ValType::I64, ValType::I32),
         0xac..=0xad => unary(ValType::I32, ValType::I64),
+        0xc0..=0xc1 => unary(ValType::I32, ValType::I32),
+        0xc2..=0xc4 => unary(ValType::I64, ValType::I64),
         _ => None,
     }
 }

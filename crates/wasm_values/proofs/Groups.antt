@@ -89,6 +89,7 @@ group_by_bounds op =
     else if nat_lt op 0xac then float_plain_group
     else if nat_lt op 0xae then numeric_group
     else if nat_lt op 0xc0 then float_plain_group
+    else if nat_lt op 0xc5 then numeric_group
     else no_group
 
 same_low : map (λ op. group (meaning op)) (numbers 256 0) ≡ map group_by_bounds (numbers 256 0)
@@ -145,14 +146,14 @@ store_bounds op r = memory_bounds op (inr (inl (store_grouped op r)))
 pub float_memory_bounds : (op : ℕ) → IsFloatMemory op → (0x28 ≤ op) × (op ≤ 0x3e)
 float_memory_bounds op r = memory_bounds op (inr (inr (float_memory_grouped op r)))
 
-operation_bounds : (op : ℕ) → (group_by_bounds op ≡ numeric_group) ⊎ (group_by_bounds op ≡ float_plain_group) → (0x45 ≤ op) × (op ≤ 0xbf)
+operation_bounds : (op : ℕ) → (group_by_bounds op ≡ numeric_group) ⊎ (group_by_bounds op ≡ float_plain_group) → (0x45 ≤ op) × (op ≤ 0xc4)
 unfolding group_by_bounds
 operation_bounds op h = (grind (arith, nat_tests), grind (arith, nat_tests))
 
-pub numeric_bounds : (op : ℕ) → IsNumeric op → (0x45 ≤ op) × (op ≤ 0xbf)
+pub numeric_bounds : (op : ℕ) → IsNumeric op → (0x45 ≤ op) × (op ≤ 0xc4)
 numeric_bounds op r = operation_bounds op (inl (numeric_grouped op r))
 
-pub float_plain_bounds : (op : ℕ) → IsFloatPlain op → (0x45 ≤ op) × (op ≤ 0xbf)
+pub float_plain_bounds : (op : ℕ) → IsFloatPlain op → (0x45 ≤ op) × (op ≤ 0xc4)
 float_plain_bounds op r = operation_bounds op (inr (float_plain_grouped op r))
 
 -- ---- from bounds to the rows
@@ -246,6 +247,10 @@ wraps {op = op} same = let e : group_by_bounds op ≡ numeric_group = grind (ari
 pub extends : {op : ℕ} → 0xac ≤ op → op ≤ 0xad → IsNumeric op
 unfolding group_by_bounds
 extends {op = op} low high = let e : group_by_bounds op ≡ numeric_group = grind (arith, nat_tests) in numeric_meaning op (meaning op) refl (grouped op ∙ e)
+
+pub extends_within : {op : ℕ} → 0xc0 ≤ op → op ≤ 0xc4 → IsNumeric op
+unfolding group_by_bounds
+extends_within {op = op} low high = let e : group_by_bounds op ≡ numeric_group = grind (arith, nat_tests) in numeric_meaning op (meaning op) refl (grouped op ∙ e)
 
 pub compares_float : {op : ℕ} → 0x5b ≤ op → op ≤ 0x66 → IsFloatPlain op
 unfolding group_by_bounds

@@ -192,14 +192,14 @@ op_f32_const = record { never = op_never; spell = λ text inner s. rw s.1 (spell
 pub op_f64_const : IsTag Op ℕ SpellsOp (SpellsLittle 8) (λ (n : ℕ). float_const (Eight n)) 0x44
 op_f64_const = record { never = op_never; spell = λ text inner s. rw s.1 (spells_f64_const s.0); behind = λ text op s. elim (lone 0x44 (inr (omega arith, omega arith)) text op s) [ lone_f64_const m ↦ m ] }
 
--- No instruction has an opcode past BF.
-high_kind : {code : ℕ} {text : List ℕ} {op : Op} → 0xc0 ≤ code → Kind code text op → ⊥
+-- No instruction has an opcode past C4.
+high_kind : {code : ℕ} {text : List ℕ} {op : Op} → 0xc5 ≤ code → Kind code text op → ⊥
 high_kind high (kind_lone a s) = grind arith
 high_kind high (kind_memory r s) = let top = memory_high r in omega (arith, top)
 high_kind {code = code} high (kind_numeric r) = let top = (numeric_bounds code r).1 in omega (arith, top)
 high_kind {code = code} high (kind_float_plain r) = let top = (float_plain_bounds code r).1 in omega (arith, top)
 
-pub high_unknown : (code : ℕ) → 0xc0 ≤ code → (text : List ℕ) (op : Op) → SpellsOp (code ∷ text) op → ⊥
+pub high_unknown : (code : ℕ) → 0xc5 ≤ code → (text : List ℕ) (op : Op) → SpellsOp (code ∷ text) op → ⊥
 high_unknown code high text op s = high_kind high (kind_of code text op s)
 
 -- What stands behind the opcode of a load or a store.

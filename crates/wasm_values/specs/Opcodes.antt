@@ -167,6 +167,11 @@ opcodes =
     ∷ (0xbd, works_on_floats)  -- i64.reinterpret_f64
     ∷ (0xbe, works_on_floats)  -- f32.reinterpret_i32
     ∷ (0xbf, works_on_floats)  -- f64.reinterpret_i64
+    ∷ (0xc0, unary I32 I32)  -- i32.extend8_s
+    ∷ (0xc1, unary I32 I32)  -- i32.extend16_s
+    ∷ (0xc2, unary I64 I64)  -- i64.extend8_s
+    ∷ (0xc3, unary I64 I64)  -- i64.extend16_s
+    ∷ (0xc4, unary I64 I64)  -- i64.extend32_s
     ∷ []
 
 -- The meaning of an opcode by these rows, if it has one.

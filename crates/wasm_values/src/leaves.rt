@@ -176,7 +176,7 @@ pub(crate) fn plain(code: u8) -> Option<Instr>
     ensures none { IfNone result ((op : Op) (text : List ℕ) → SpellsOp (code ∷ text) op → ⊥) }
 {
     match code {
-        0x45..=0x5a | 0x67..=0x8a | 0xa7 | 0xac | 0xad => Some(Instr::Numeric(code)),
+        0x45..=0x5a | 0x67..=0x8a | 0xa7 | 0xac | 0xad | 0xc0..=0xc4 => Some(Instr::Numeric(code)),
         0x5b..=0x66 | 0x8b..=0xa6 | 0xa8..=0xab | 0xae..=0xbf => Some(Instr::FloatPlain(code)),
         _ => None,
     }

@@ -20,6 +20,9 @@ signature_by_bounds op =
     else if op == 0xa7 then Some (of_one I64 I32)
     else if op == 0xac then Some (of_one I32 I64)
     else if op == 0xad then Some (of_one I32 I64)
+    else if nat_lt op 0xc0 then None
+    else if nat_lt op 0xc2 then Some (of_one I32 I32)
+    else if nat_lt op 0xc5 then Some (of_one I64 I64)
     else None
 
 abbrev pub moves : ValType → ℕ → Option Access
