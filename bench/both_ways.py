@@ -35,9 +35,11 @@ import struct
 import sys
 import tempfile
 
-from players import Bench
-from rooms import COUNTED_TICKS, counted, rows
-from whole import ROUNDS, profiled
+TOP = os.path.dirname(os.path.dirname(os.path.abspath(__file__)))
+sys.path[:0] = [os.path.join(TOP, it) for it in ("oracle", "checks/harness", "checks/inputs")]
+from players import Bench  # noqa: E402
+from rooms import COUNTED_TICKS, counted, rows  # noqa: E402
+from whole import ROUNDS, profiled  # noqa: E402
 
 LATER = 1 << 20
 HEAD = f"{'a tick of':40}{'objects':>8}{'entries':>8}{'run':>10}{'whole':>9}{'by rooms':>9}{'ratio':>7}"

@@ -15,7 +15,9 @@ import sys
 import tempfile
 import time
 
-from modules import LOOP, OPENING, leb, listed, module, section
+TOP = os.path.dirname(os.path.dirname(os.path.abspath(__file__)))
+sys.path.insert(0, os.path.join(TOP, "oracle"))
+from module_bytes import LOOP, OPENING, leb, listed, module, section  # noqa: E402
 
 PROGRAM = os.path.abspath("crates/world_server/out/world_server")
 MIB = 1 << 20

@@ -14,9 +14,12 @@ import subprocess
 import sys
 import tempfile
 
-import machine
-from players import EACH_ROOM, EMPTY, FUEL, Bench, for_each, machine_at, of_rooms, players_of, together
-from worlds import upload_entry
+TOP = os.path.dirname(os.path.dirname(os.path.abspath(__file__)))
+sys.path[:0] = [os.path.join(TOP, it) for it in ("oracle", "checks/inputs")]
+import machine  # noqa: E402
+from plain_worlds import EMPTY, for_each, of_rooms, players_of, together  # noqa: E402
+from players import EACH_ROOM, FUEL, Bench, machine_at  # noqa: E402
+from worlds import upload_entry  # noqa: E402
 
 
 def counted(folder, command):

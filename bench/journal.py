@@ -17,12 +17,13 @@ import sys
 import tempfile
 import time
 
-from game import SECOND, thing
-from modules import OPENING, section
-from whole import FREE, PLAYERS, ROOMS, uploads_of, world_of
-from worlds import SMALL, bytes_of, room, upload_entry, world
-
 TOP = os.path.dirname(os.path.dirname(os.path.abspath(__file__)))
+sys.path[:0] = [os.path.join(TOP, it) for it in ("oracle", "checks/inputs")]
+from colony_worlds import FREE, PLAYERS, ROOMS, uploads_of, world_of  # noqa: E402
+from game import SECOND, thing  # noqa: E402
+from module_bytes import OPENING, section  # noqa: E402
+from worlds import SMALL, bytes_of, room, upload_entry, world  # noqa: E402
+
 IN_MEMORY = "/dev/shm" if os.path.isdir("/dev/shm") else None
 SYNCED_TICKS, ROUNDS = 200, 9
 MIB = 1 << 20

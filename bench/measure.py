@@ -12,7 +12,9 @@ import sys
 import tempfile
 import time
 
-from modules import module
+TOP = os.path.dirname(os.path.dirname(os.path.abspath(__file__)))
+sys.path.insert(0, os.path.join(TOP, "oracle"))
+from module_bytes import module  # noqa: E402
 
 PROGRAM = os.path.abspath("crates/world_server/out/world_server")
 

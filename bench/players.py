@@ -27,56 +27,20 @@ import sys
 import tempfile
 import time
 
-import machine
-from game import SECOND, thing
-from modules import I32, OPENING, code_entry, func_type, host_import, leb, listed, name_bytes, player_module, section
-from scripts import Script, unkept
-from worlds import MIB, bytes_of, room, upload_entry, world
+TOP = os.path.dirname(os.path.dirname(os.path.abspath(__file__)))
+sys.path[:0] = [os.path.join(TOP, it) for it in ("oracle", "checks/inputs")]
+import machine  # noqa: E402
+from game import SECOND, thing  # noqa: E402
+from large_modules import empty_data, empty_elements, filled, many_exports, many_functions, many_globals, many_imports, many_types  # noqa: E402
+from module_bytes import leb, player_module  # noqa: E402
+from plain_worlds import EMPTY, UNITS, apart, creep, for_each, of_rooms, players_of, road, together  # noqa: E402
+from scripts import Script, unkept  # noqa: E402
+from worlds import MIB, bytes_of, upload_entry  # noqa: E402
 
-UNITS = 500
 FUEL = 10_000 * UNITS
-EMPTY = player_module(b"")
-TILES = [(x, y) for y in range(1, 49) for x in range(1, 49)]
 
 
 # ---- worlds
-
-
-def name_of(index):
-    return f"E{index % 100}S{index // 100}"
-
-
-def creep(index, serial, owner, parts=1):
-    x, y = TILES[serial - 1]
-    return thing("creep", index * SECOND + serial, x, y, owner=owner, body=["carry"] * parts, energy=50, timer=1500)
-
-
-def road(index, serial):
-    x, y = TILES[serial - 1]
-    return thing("road", index * SECOND + serial, x, y, timer=1000)
-
-
-def of_rooms(rooms, players, terrains=()):
-    grounds = list(terrains) or [None] * len(rooms)
-    listed_rooms = [room(name_of(index), 5000, *objects, terrain=grounds[index]) for index, objects in enumerate(rooms)]
-    return bytes_of(world(*listed_rooms, players=players))
-
-
-def players_of(count, **others):
-    return [{"player": number, "limit": UNITS, **others} for number in range(1, count + 1)]
-
-
-def apart(count, seen, objects):
-    """So many players who each see so many rooms of their own with so many objects."""
-    rooms = []
-    for index in range(count * seen):
-        rooms.append([creep(index, 1, index // seen + 1), *[road(index, serial) for serial in range(2, objects + 1)]])
-    return of_rooms(rooms, players_of(count))
-
-
-def together(count, seen):
-    """So many players who all see the same rooms, by a creep in each."""
-    return of_rooms([[creep(index, owner, owner) for owner in range(1, count + 1)] for index in range(seen)], players_of(count))
 
 
 def wide():
@@ -282,64 +246,6 @@ ASKING = {
 }
 
 
-def filled(content):
-    """The module with a custom section that makes it one mebibyte."""
-    rest = MIB - len(content) - 4
-    return content + b"\0" + bytes([rest & 0x7F | 0x80, rest >> 7 & 0x7F | 0x80, rest >> 14]) + b"\1x" + bytes(rest - 2)
-
-
-def many_functions():
-    """9,999 functions that nothing calls, of about a mebibyte together."""
-    helpers = [(0, b"\0", b"\x41\0\x1a" * 33)] * 9_999
-    return player_module(b"", helpers=helpers)
-
-
-NEAR_MIB = MIB - 200
-
-
-def with_many(types=(), imports=(), sections=(), exports=()):
-    """A module of an empty `loop` with these entries besides, and with further sections by their numbers."""
-    parts = {
-        1: listed([func_type(b"", b""), func_type(b"", I32), *types]),
-        2: listed(imports),
-        3: listed([b"\0"]),
-        7: listed([name_bytes("loop") + b"\0" + leb(len(imports)), *exports]),
-        10: listed([code_entry(b"")]),
-        **dict(sections),
-    }
-    return OPENING + b"".join(section(number, parts[number]) for number in sorted(parts))
-
-
-def many_globals():
-    """200,000 globals, which take five bytes each."""
-    return with_many(sections={6: listed([b"\x7f\1\x41\0\x0b"] * 200_000)})
-
-
-def empty_data():
-    """Segments of no bytes for a memory of no pages."""
-    return with_many(sections={5: listed([b"\0\0"]), 11: listed([b"\0\x41\0\x0b\0"] * (NEAR_MIB // 5))})
-
-
-def empty_elements():
-    """Segments of no functions for a table of no entries."""
-    return with_many(sections={4: listed([b"\x70\0\0"]), 9: listed([b"\0\x41\0\x0b\0"] * (NEAR_MIB // 5))})
-
-
-def many_types():
-    return with_many(types=[func_type(b"", b"")] * (NEAR_MIB // 3))
-
-
-def many_exports():
-    """Exports of `loop` under names of six bytes."""
-    return with_many(exports=[name_bytes(f"{number:06x}") + b"\0\0" for number in range(NEAR_MIB // 9)])
-
-
-def many_imports():
-    """Imports of one call, again and again."""
-    entry = host_import("me", 1)
-    return with_many(imports=[entry] * (NEAR_MIB // len(entry)))
-
-
 def full_table():
     """65,536 entries that are filled."""
     elements = b"\0\x41\0\x0b" + leb(65_536) + bytes(65_536)
@@ -460,10 +366,6 @@ class Bench:
         """The most memory in MiB of a run of one tick with the files of the last one."""
         done = subprocess.run([sys.executable, "-I", "-S", "-c", PEAK, *self.command(1)], stdout=subprocess.PIPE, check=True)
         return int(done.stdout) / 1024
-
-
-def for_each(count, module):
-    return b"".join(upload_entry(0, number, module) for number in range(1, count + 1))
 
 
 # ---- tables

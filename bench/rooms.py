@@ -5,10 +5,11 @@ Run it in the repository's top folder once both are built (README.md). A tick's 
 ticks and of one; the best of some rounds counts, in which the two programs run in turn, so that what else the machine does meets both. The ratio is the time
 of the first program over that of the other.
 
-The rows are the worlds of bench/whole.py, in which 64 players want all kinds of action in 400 rooms, with half and a quarter of it, and without modules;
-the worlds of bench/moves.py and bench/fights.py, of which some have 20,000 creeps with one entry each in 400 rooms; 400 rooms of 50 objects of bench/ticks.py, with a
-drop in each and with none; 400 rooms in which nothing is wanted and nothing changes; and one room with as many objects as may stand there, in which nothing is
-wanted, or each creep drops something on its pile. Where the two write different journals a line says so.
+The rows are the worlds of bench/whole.py, in which 64 players want all kinds of action in 400 rooms, with half and a quarter of it, and without
+modules; the worlds of checks/inputs/moving_worlds.py and checks/inputs/fighting_worlds.py, of which some have 20,000 creeps with one entry each in
+400 rooms; 400 rooms of 50 objects of bench/ticks.py, with a drop in each and with none; 400 rooms in which nothing is wanted and nothing changes; and
+one room with as many objects as may stand there, in which nothing is wanted, or each creep drops something on its pile. Where the two write different
+journals a line says so.
 
 Where valgrind is installed further columns have what its callgrind counts of each program: the instructions of the processor in a tick, in millions, which
 no noise touches, and the share of them that copies of tables take. Those are of the functions below, with all that they call; what the compiler has put
@@ -21,14 +22,18 @@ import shutil
 import sys
 import tempfile
 
-from checked_program import content_of
-from fights import SHAPES as FIGHT_SHAPES, Fight
-from game import SECOND, thing
-from moves import SHAPES as MOVE_SHAPES, Movement
-from players import Bench, of_rooms, players_of, road
-from ticks import TICKS, carrier, drops, scattered
-from whole import FREE, PLAYERS, ROOMS, ROUNDS, TICKS as WHOLE_TICKS, profiled, uploads_of, world_of
-from worlds import bytes_of, room, world
+TOP = os.path.dirname(os.path.dirname(os.path.abspath(__file__)))
+sys.path[:0] = [os.path.join(TOP, it) for it in ("oracle", "checks/harness", "checks/inputs")]
+from checked_program import content_of  # noqa: E402
+from colony_worlds import FREE, PLAYERS, ROOMS, TICKS as WHOLE_TICKS, uploads_of, world_of  # noqa: E402
+from fighting_worlds import SHAPES as FIGHT_SHAPES, Fight  # noqa: E402
+from game import SECOND, thing  # noqa: E402
+from moving_worlds import SHAPES as MOVE_SHAPES, Movement  # noqa: E402
+from plain_worlds import of_rooms, players_of, road  # noqa: E402
+from players import Bench  # noqa: E402
+from ticks import TICKS, carrier, drops, scattered  # noqa: E402
+from whole import ROUNDS, profiled  # noqa: E402
+from worlds import bytes_of, room, world  # noqa: E402
 
 # (what takes little is measured over more ticks)
 IDLE_TICKS = 40

@@ -36,12 +36,13 @@ import time
 if __name__ == "__main__" and len(sys.argv) > 1:
     os.environ["WORLD_SERVER"] = os.path.abspath(sys.argv[1])
 
-import modules
-from checked_program import PROGRAM
-from modules import player_module, section
-from players import of_rooms, road
-from status_client import HOST, Client, Server, end_servers_when_ended
-from worlds import MIB, bytes_of, room, thing, world
+TOP = os.path.dirname(os.path.dirname(os.path.abspath(__file__)))
+sys.path[:0] = [os.path.join(TOP, it) for it in ("oracle", "checks/harness", "checks/inputs")]
+from checked_program import PROGRAM  # noqa: E402
+from module_bytes import module, player_module, section  # noqa: E402
+from plain_worlds import of_rooms, road  # noqa: E402
+from status_client import HOST, Client, Server, end_servers_when_ended  # noqa: E402
+from worlds import MIB, bytes_of, room, thing, world  # noqa: E402
 
 QUICK, HOUR = "--quick" in sys.argv, "--hour" in sys.argv
 SECONDS, ROUNDS = (1, 1) if QUICK else (10, 3)
@@ -230,7 +231,7 @@ def padded(length):
 
 def code():
     """A module of many functions, of somewhat less than a mebibyte."""
-    return modules.module([b"\x41\0\x1a" * 33] * (100 if QUICK else 10_000))
+    return module([b"\x41\0\x1a" * 33] * (100 if QUICK else 10_000))
 
 
 def send_all(port, count, content, answers):

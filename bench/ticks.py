@@ -6,19 +6,20 @@ runs of several ticks and of one. Where players drop, the same players make the 
 carries, so that all are refused by their last check and nothing is recorded: the difference is what the entries take, from the record to the
 last step of upkeep and the journal.
 
-The rows are shapes that a world can have: many objects without entries, one entry in each room, rooms full of creeps on full piles, creeps
-that each make a pile whose id comes behind all others or in front of them, one pile among few and among many objects, and players who all
-see the same rooms. The second table has rooms in which 1,000 creeps each do one thing in every tick (bench/works.py), in one room and over 400,
-beside the same worlds with an empty `loop` and with the same calls all refused. What an entry takes is there what its call and its rule
-take together, less that of the empty `loop`; it should be at most a microsecond, and in no shape more than three times that in another.
+The rows are shapes that a world can have: many objects without entries, one entry in each room, rooms full of creeps on full piles, creeps that each
+make a pile whose id comes behind all others or in front of them, one pile among few and among many objects, and players who all see the same rooms.
+The second table has rooms in which 1,000 creeps each do one thing in every tick (checks/inputs/working_worlds.py), in one room and over 400, beside
+the same worlds with an empty `loop` and with the same calls all refused. What an entry takes is there what its call and its rule take together, less
+that of the empty `loop`; it should be at most a microsecond, and in no shape more than three times that in another.
 
-The third table has worlds whose creeps move (bench/moves.py), in the same columns: rooms that are full of them, in rings and chains, against walls
-and all onto few tiles, 20,000 creeps in 400 rooms, and a crosser at each exit. There the same calls are refused because the creeps are tired.
+The third table has worlds whose creeps move (checks/inputs/moving_worlds.py), in the same columns: rooms that are full of them, in rings and chains,
+against walls and all onto few tiles, 20,000 creeps in 400 rooms, and a crosser at each exit. There the same calls are refused because the creeps are
+tired.
 
-The fourth table has worlds whose creeps fight (bench/fights.py), in the same columns: a room full of creeps that each attack all around, groups that
-shoot one and heal him, and 20,000 creeps that strike each other. A line says what a mass attack takes for each object in its range. Then come
-rooms of creeps with full loads that all die of age in one tick, beside the same that live on, and what each death takes; for one room alone, whose
-deaths are all in one tick that is measured once, that is hardly more than noise.
+The fourth table has worlds whose creeps fight (checks/inputs/fighting_worlds.py), in the same columns: a room full of creeps that each attack all
+around, groups that shoot one and heal him, and 20,000 creeps that strike each other. A line says what a mass attack takes for each object in its
+range. Then come rooms of creeps with full loads that all die of age in one tick, beside the same that live on, and what each death takes; for one
+room alone, whose deaths are all in one tick that is measured once, that is hardly more than noise.
 
 Where crates/world_bench is built, a line says what a copy of the tables of 400 rooms takes, to hold the tick without entries against.
 Where valgrind is installed the last table has the allocations of a tick and their bytes, by the difference of runs of
@@ -34,16 +35,18 @@ import sys
 import tempfile
 import time
 
-from fights import SHAPES as FIGHT_SHAPES, Fight, dying, pairs_in_range
-from game import SECOND, thing
-from moves import SHAPES as MOVE_SHAPES, Movement
-from players import Bench, EMPTY, TILES, for_each, of_rooms, players_of, road, together
-from scripts import Script, unkept
-from works import SHAPES, Work
-from worlds import bytes_of, upload_entry
+TOP = os.path.dirname(os.path.dirname(os.path.abspath(__file__)))
+sys.path[:0] = [os.path.join(TOP, it) for it in ("oracle", "checks/inputs")]
+from fighting_worlds import SHAPES as FIGHT_SHAPES, Fight, dying, pairs_in_range  # noqa: E402
+from game import SECOND, thing  # noqa: E402
+from moving_worlds import SHAPES as MOVE_SHAPES, Movement  # noqa: E402
+from plain_worlds import EMPTY, TILES, for_each, of_rooms, players_of, road, together  # noqa: E402
+from players import Bench  # noqa: E402
+from scripts import Script, unkept  # noqa: E402
+from working_worlds import SHAPES, Work  # noqa: E402
+from worlds import bytes_of, upload_entry  # noqa: E402
 
 TICKS = 20
-TOP = os.path.dirname(os.path.dirname(os.path.abspath(__file__)))
 
 
 def pile(index, serial, tile):

@@ -20,12 +20,16 @@ import subprocess
 import sys
 import tempfile
 
-from modules import player_module
-from players import Bench, of_rooms, players_of, road, seconds
-from rooms import largest
-from scripts import Script, unkept
-from whole import FREE, PLAYERS, ROOMS, TICKS, counted, world_of
-from worlds import upload_entry
+TOP = os.path.dirname(os.path.dirname(os.path.abspath(__file__)))
+sys.path[:0] = [os.path.join(TOP, it) for it in ("oracle", "checks/harness", "checks/inputs")]
+from colony_worlds import FREE, PLAYERS, ROOMS, TICKS, world_of  # noqa: E402
+from module_bytes import player_module  # noqa: E402
+from plain_worlds import of_rooms, players_of, road  # noqa: E402
+from players import Bench, seconds  # noqa: E402
+from rooms import largest  # noqa: E402
+from scripts import Script, unkept  # noqa: E402
+from whole import counted  # noqa: E402
+from worlds import upload_entry  # noqa: E402
 
 NUMBERS = (1, 2, 4, 16)
 # (what takes long is steady)

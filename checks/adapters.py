@@ -2,8 +2,8 @@
 """How the built program meets the system: which folder it syncs and when, how it opens what it only reads, and that inputs which come in pieces, an
 output that goes in pieces, and a reader who is slow make the same output and the same journal.
 
-It runs behind `rt ci`, which builds crates/world_server/out/world_server. What is compared with comes from bench/worlds.py. Opens, syncs and short writes are
-told and made by `strace`, where it is installed and may trace.
+It runs behind `rt ci`, which builds crates/world_server/out/world_server. What is compared with comes from oracle/worlds.py. Opens, syncs and short
+writes are told and made by `strace`, where it is installed and may trace.
 """
 
 import contextlib
@@ -18,12 +18,12 @@ import threading
 import time
 
 TOP = os.path.dirname(os.path.dirname(os.path.abspath(__file__)))
-sys.path.insert(0, os.path.join(TOP, "bench"))
+sys.path[:0] = [os.path.join(TOP, it) for it in ("oracle", "checks/harness")]
 from bounded_calls import FILES, JOURNAL, UPLOADS, WORLD, words_of  # noqa: E402
 from checked_program import PROGRAM, Checks, content_of, shown, write_files  # noqa: E402
 from failing_calls import may_trace, of_nobody  # noqa: E402
 from game import SECOND, thing  # noqa: E402
-from modules import module  # noqa: E402
+from module_bytes import module  # noqa: E402
 from worlds import SMALL, bytes_of, journal_of, output_of, played, room, stream_of, text_of, world  # noqa: E402
 
 checks = Checks(__file__)

@@ -15,7 +15,7 @@ import re
 import sys
 
 TOP = os.path.dirname(os.path.dirname(os.path.abspath(__file__)))
-sys.path.insert(0, os.path.join(TOP, "bench"))
+sys.path.insert(0, os.path.join(TOP, "checks/harness"))
 from checked_program import Checks  # noqa: E402
 
 CRATES = os.path.join(TOP, "crates")

@@ -2,11 +2,11 @@
 """How players found colonies: claims of controllers, sites that they make and remove, and creeps that spawns make. The calls by every check that may
 refuse them, and what a tick makes of those that are recorded.
 
-It runs behind `rt ci`, which builds crates/world_server/out/world_server. First come rooms whose tick is worked out by hand, which both
-the program and bench/game.py have to meet; then tables of calls with their answers (the numbers of each level, tiles, owners, 100 sites, what the record
-has, claims by the global level, bodies and what they cost), all calls with all objects and tiles, a full record, and random worlds in which all actions
-are drawn and every object and every account is compared after each tick. With --model no program is run, and bench/game.py alone is held
-against the rooms and the answers that are worked out.
+It runs behind `rt ci`, which builds crates/world_server/out/world_server. First come rooms whose tick is worked out by hand, which both the program
+and oracle/game.py have to meet; then tables of calls with their answers (the numbers of each level, tiles, owners, 100 sites, what the record has,
+claims by the global level, bodies and what they cost), all calls with all objects and tiles, a full record, and random worlds in which all actions
+are drawn and every object and every account is compared after each tick. With --model no program is run, and oracle/game.py alone is held against the
+rooms and the answers that are worked out.
 """
 
 import os
@@ -14,7 +14,7 @@ import random
 import sys
 
 TOP = os.path.dirname(os.path.dirname(os.path.abspath(__file__)))
-sys.path.insert(0, os.path.join(TOP, "bench"))
+sys.path[:0] = [os.path.join(TOP, it) for it in ("oracle", "checks/harness")]
 import compared_runs  # noqa: E402
 import worked_rooms  # noqa: E402
 from checked_program import Checks  # noqa: E402

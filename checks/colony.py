@@ -3,7 +3,7 @@
 
 It runs behind `rt ci`, which builds crates/world_server/out/world_server. From what the program prints and from its journal it is seen
 that both players reach level 2 and are alive, that they build what they are to build and stay within their budget, that worlds keep the
-rules of docs/formats.md, and that no energy comes from nowhere. Each tick is also compared with what the model in bench/ makes of the
+rules of docs/formats.md, and that no energy comes from nowhere. Each tick is also compared with what the model in oracle/ makes of the
 intents that were recorded. Smaller runs have strangers in the room of a young colony, raiders in that of a grown one, spawns that begin
 with nothing, and a small budget. In another the player in Rust, players/gatherer.wasm, plays for player 1; and what its file of calls says
 is compared with the C header.
@@ -16,7 +16,7 @@ import sys
 import tempfile
 
 TOP = os.path.dirname(os.path.dirname(os.path.abspath(__file__)))
-sys.path.insert(0, os.path.join(TOP, "bench"))
+sys.path[:0] = [os.path.join(TOP, it) for it in ("oracle", "checks/harness")]
 from checked_program import Checks, content_of, run, write_files  # noqa: E402
 from compared_runs import ACTION_NAMES, OBJECT_FIELDS  # noqa: E402
 from game import KINDS, PARTS, SECOND, capacity, thing  # noqa: E402

@@ -3,10 +3,10 @@
 a tick makes of those that are recorded.
 
 It runs behind `rt ci`, which builds crates/world_server/out/world_server. First come rooms whose tick is worked out by hand, which both
-the program and bench/game.py have to meet; then what follows in the tick after a controller is lost, the points of players, all sets of
+the program and oracle/game.py have to meet; then what follows in the tick after a controller is lost, the points of players, all sets of
 actions with an attack on a controller, all calls over controllers of all sorts, and random worlds of controllers of all levels, of which every
-object and every account is compared after each tick. With --model no program is run, and bench/game.py alone is held against the rooms that are
-worked out. Calls of claims are made in checks/colonies.py: here it is looked at what bench/game.py alone makes of entries for them, also of such as
+object and every account is compared after each tick. With --model no program is run, and oracle/game.py alone is held against the rooms that are
+worked out. Calls of claims are made in checks/colonies.py: here it is looked at what oracle/game.py alone makes of entries for them, also of such as
 no call makes.
 """
 
@@ -16,7 +16,7 @@ import random
 import sys
 
 TOP = os.path.dirname(os.path.dirname(os.path.abspath(__file__)))
-sys.path.insert(0, os.path.join(TOP, "bench"))
+sys.path[:0] = [os.path.join(TOP, it) for it in ("oracle", "checks/harness")]
 import compared_runs  # noqa: E402
 from checked_program import Checks  # noqa: E402
 from drawn_runs import call_of, count_into, note_counts, play_drawn  # noqa: E402

@@ -18,16 +18,32 @@ import sys
 import tempfile
 
 TOP = os.path.dirname(os.path.dirname(os.path.abspath(__file__)))
-sys.path.insert(0, os.path.join(TOP, "bench"))
+sys.path[:0] = [os.path.join(TOP, it) for it in ("oracle", "checks/harness", "checks/inputs")]
 from bounded_calls import JOURNAL, Call, chosen, ended, made, put, words_of  # noqa: E402
 from checked_program import Checks, shown  # noqa: E402
+from colony_worlds import FREE, PLAYERS, ROOMS, uploads_of, world_of  # noqa: E402
 from game import MOST_PARTS, thing  # noqa: E402
+from large_modules import empty_data, empty_elements, filled, many_exports, many_functions, many_imports, many_types  # noqa: E402
 from large_worlds import INSIDE, TILES, crowd, file_of, full_room, id_of  # noqa: E402
-from modules import leb, player_module, signed_leb  # noqa: E402
-from players import EMPTY, apart, empty_data, empty_elements, filled, many_exports, many_functions, many_imports, many_types, players_of, together  # noqa: E402
+from module_bytes import leb, player_module, signed_leb  # noqa: E402
+from plain_worlds import EMPTY, apart, players_of, together  # noqa: E402
 from scripts import MOST_ENTRIES, Script, unkept  # noqa: E402
-from whole import FREE, PLAYERS, ROOMS, uploads_of, world_of  # noqa: E402
-from worlds import SMALL, base_content, bytes_of, frame, full, grounds, output_of, played, room, start_line, step_lines, text_of, upload_entry, world  # noqa: E402
+from worlds import (  # noqa: E402
+    SMALL,
+    base_content,
+    bytes_of,
+    frame,
+    full,
+    grounds,
+    output_of,
+    played,
+    room,
+    start_line,
+    step_lines,
+    text_of,
+    upload_entry,
+    world,
+)
 
 checks = Checks(__file__)
 WORDS = sys.argv[1:]

@@ -2,8 +2,8 @@
 """What creeps do: the calls that want it, by every check that may refuse them, and what a tick makes of those that are recorded.
 
 It runs behind `rt ci`, which builds crates/world_server/out/world_server. First come rooms whose tick is worked out by hand, which both
-the program and bench/game.py have to meet; then all calls over all sorts of objects; then random ones, of which every object is compared
-after each tick. With --model no program is run, and bench/game.py alone is held against the rooms that are worked out. Who steps where is
+the program and oracle/game.py have to meet; then all calls over all sorts of objects; then random ones, of which every object is compared
+after each tick. With --model no program is run, and oracle/game.py alone is held against the rooms that are worked out. Who steps where is
 the subject of checks/moves.py, how creeps fight and die that of checks/fights.py, and what they do to controllers that of checks/controllers.py;
 here creeps step and cross among all the other things that they do.
 """
@@ -14,7 +14,7 @@ import struct
 import sys
 
 TOP = os.path.dirname(os.path.dirname(os.path.abspath(__file__)))
-sys.path.insert(0, os.path.join(TOP, "bench"))
+sys.path[:0] = [os.path.join(TOP, it) for it in ("oracle", "checks/harness")]
 import compared_runs  # noqa: E402
 from checked_program import Checks  # noqa: E402
 from drawn_runs import count_into, note_counts, play_drawn  # noqa: E402

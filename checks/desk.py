@@ -2,7 +2,7 @@
 """Runs players' modules in the built program, and compares each answer that the host gives them, each line and each byte of the journal.
 
 It runs behind `rt ci`, which builds crates/world_server/out/world_server. What is compared with is worked out by
-bench/scripts.py, which has the table of the host's calls, and bench/worlds.py, which has the formats and the tick. A row
+oracle/scripts.py, which has the table of the host's calls, and oracle/worlds.py, which has the formats and the tick. A row
 is a call with its answer, or a run with all that it does. What creeps do to other objects is the subject of checks/creeps.py,
 checks/fights.py and checks/controllers.py.
 With --model no program is run, and it is only seen that the worlds keep the rules.
@@ -15,11 +15,11 @@ import struct
 import sys
 
 TOP = os.path.dirname(os.path.dirname(os.path.abspath(__file__)))
-sys.path.insert(0, os.path.join(TOP, "bench"))
+sys.path[:0] = [os.path.join(TOP, it) for it in ("oracle", "checks/harness")]
 import compared_runs  # noqa: E402
 from checked_program import Checks, faults_of  # noqa: E402
 from game import SECOND  # noqa: E402
-from modules import HOST_CALLS, I32, I64, OPENING, code_entry, func_type, leb, listed, name_bytes, player_module, section  # noqa: E402
+from module_bytes import HOST_CALLS, I32, I64, OPENING, code_entry, func_type, leb, listed, name_bytes, player_module, section  # noqa: E402
 from scripts import MOST_ENTRIES, PAGE, Desk, Script, Table, call, compared, kept, unkept  # noqa: E402
 from worlds import (  # noqa: E402
     MIB,

@@ -4,8 +4,8 @@ reading, the disk fails, and what is written at once is many MiB long.
 
 It runs behind `rt ci`, which builds crates/world_server/out/world_server. Runs under a limit of memory (RLIMIT_AS) end by status 11, and what is left
 has to be whole ticks, each with its lines. Where `strace` is installed and may trace, it lets single reads, writes and syncs fail, and tells in which
-order the journal is written and synced and lines are printed. What is compared with comes from bench/worlds.py. What becomes of files that may not be
-opened, and of runs that go on with a journal and are stopped, is the subject of checks/stops.py.
+order the journal is written and synced and lines are printed. What is compared with comes from oracle/worlds.py. What becomes of files that may not
+be opened, and of runs that go on with a journal and are stopped, is the subject of checks/stops.py.
 """
 
 import fcntl
@@ -17,7 +17,7 @@ import sys
 import tempfile
 
 TOP = os.path.dirname(os.path.dirname(os.path.abspath(__file__)))
-sys.path.insert(0, os.path.join(TOP, "bench"))
+sys.path[:0] = [os.path.join(TOP, it) for it in ("oracle", "checks/harness")]
 from checked_program import PROGRAM, Checks, content_of, shown, write_files  # noqa: E402
 from failing_calls import (  # noqa: E402
     FILES,
@@ -36,7 +36,7 @@ from failing_calls import (  # noqa: E402
     words_of,
 )
 from game import SECOND, thing  # noqa: E402
-from modules import module  # noqa: E402
+from module_bytes import module  # noqa: E402
 from worlds import MIB, SMALL, bytes_of, contents_of, journal_of, output_of, played, room, start_line, stream_of, text_of, world  # noqa: E402
 
 checks = Checks(__file__)

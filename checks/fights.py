@@ -3,9 +3,9 @@
 several count, and what a tick makes of those that do.
 
 It runs behind `rt ci`, which builds crates/world_server/out/world_server. First come rooms whose tick is worked out by hand, which both
-the program and bench/game.py have to meet; then all sets of actions that overrule each other, all calls over all sorts of objects, rooms that
+the program and oracle/game.py have to meet; then all sets of actions that overrule each other, all calls over all sorts of objects, rooms that
 are full of fighters or of those who die, and random fights of three players, of which every object is compared after each tick. With
---model no program is run, and bench/game.py alone is held against the rooms that are worked out.
+--model no program is run, and oracle/game.py alone is held against the rooms that are worked out.
 """
 
 import itertools
@@ -15,12 +15,27 @@ import struct
 import sys
 
 TOP = os.path.dirname(os.path.dirname(os.path.abspath(__file__)))
-sys.path.insert(0, os.path.join(TOP, "bench"))
+sys.path[:0] = [os.path.join(TOP, it) for it in ("oracle", "checks/harness", "checks/inputs")]
 import compared_runs  # noqa: E402
 from checked_program import Checks  # noqa: E402
 from drawn_runs import count_into, note_counts, play_drawn  # noqa: E402
-from fights import SHAPES, Fight, dying  # noqa: E402
-from game import ACTIONS, BUILDINGS, DIRECTIONS, FULL, INVALID_TARGET, NO_BODYPART, NOT_FOUND, NOT_IN_RANGE, NOT_OWNER, SECOND, counting, distance, live, thing  # noqa: E402
+from fighting_worlds import SHAPES, Fight, dying  # noqa: E402
+from game import (  # noqa: E402
+    ACTIONS,
+    BUILDINGS,
+    DIRECTIONS,
+    FULL,
+    INVALID_TARGET,
+    NO_BODYPART,
+    NOT_FOUND,
+    NOT_IN_RANGE,
+    NOT_OWNER,
+    SECOND,
+    counting,
+    distance,
+    live,
+    thing,
+)
 from scripts import MOST_ENTRIES, Table  # noqa: E402
 from worked_rooms import FIRST_NEW, Case, check_cases, container, creep, with_ids  # noqa: E402
 from worlds import Upload, account_of, objects_of, room, world  # noqa: E402
@@ -510,7 +525,7 @@ def check_full_record():
 
 
 def check_large():
-    """The worlds of bench/fights.py: rooms full of creeps that all shoot, that heal one, and that all die."""
+    """The worlds of checks/inputs/fighting_worlds.py: rooms full of creeps that all shoot, that heal one, and that all die."""
     for shape in SHAPES:
         fight = Fight(shape)
         steps = play(shape.name, fight.as_world(), 1, [Upload(0, number, Table(calls)) for number, calls in fight.calls.items()])

@@ -1,5 +1,5 @@
 #!/usr/bin/env python3
-"""What `gen` prints: the world files and upload streams of a second writing of the generator (checks/generator.py), byte for byte, and that
+"""What `gen` prints: the world files and upload streams of a second writing of the generator (oracle/generated_worlds.py), byte for byte, and that
 `run` takes them; and that `demo` prints the last line of such a run and the length of its journal, with no file. The words of both are looked at too,
 those that are refused among them.
 
@@ -11,9 +11,9 @@ import sys
 import tempfile
 
 TOP = os.path.dirname(os.path.dirname(os.path.abspath(__file__)))
-sys.path.insert(0, os.path.join(TOP, "bench"))
+sys.path[:0] = [os.path.join(TOP, it) for it in ("oracle", "checks/harness")]
 from checked_program import Checks, run, shown, write_files  # noqa: E402
-from generator import uploads, world  # noqa: E402
+from generated_worlds import uploads, world  # noqa: E402
 from worlds import text_of  # noqa: E402
 
 LAST_SEED = 2**64 - 1

@@ -1,8 +1,8 @@
 #!/usr/bin/env python3
 """What the built program keeps in its journal, what it makes of one that it finds, and what is left of it after a crash.
 
-It runs behind `rt ci`, which builds crates/world_server/out/world_server. What is compared with comes from checks/journal_reader.py, a reader written from
-docs/formats.md alone. Runs are made at once and in pieces; journals are damaged, and the program has to answer as the reader does, within limits
+It runs behind `rt ci`, which builds crates/world_server/out/world_server. What is compared with comes from oracle/journal_reader.py, a reader written
+from docs/formats.md alone. Runs are made at once and in pieces; journals are damaged, and the program has to answer as the reader does, within limits
 of memory and time; and runs are killed, whose journals have to stand for what was printed, and to be gone on with.
 """
 
@@ -16,7 +16,7 @@ import tempfile
 import time
 
 TOP = os.path.dirname(os.path.dirname(os.path.abspath(__file__)))
-sys.path.insert(0, os.path.join(TOP, "bench"))
+sys.path[:0] = [os.path.join(TOP, it) for it in ("oracle", "checks/harness")]
 from checked_program import PROGRAM, Checks, content_of, shown, write_files  # noqa: E402
 from journal_reader import ACCEPTED, SECOND, SITE, Bytes, NotAJournal, Thing, framed, is_empty, lines_of, read, start_line, tick_lines  # noqa: E402
 from worlds import SMALL, base_content, bytes_of, played, text_of  # noqa: E402

@@ -5,7 +5,7 @@ a limit of memory of its own.
 Want of memory is the one answer that a call of the program may always give. So a body that gave it at some great size would keep every contract; and
 so would one that reserves many times what it holds. Here calls of great sizes have to be done, under a limit (RLIMIT_AS) that leaves some half more
 than they need: a table, a view, a record or a reader that takes sixteen times its need ends by status 11. What is compared with comes from
-bench/worlds.py, or is made by hand from docs/formats.md.
+oracle/worlds.py, or is made by hand from docs/formats.md.
 
 It runs behind `rt ci`, which builds crates/world_server/out/world_server. With --measure it prints the least limit under which each call is done, as the
 lines of `MOST_MIB` are written, with half of it more. With --without-limits no memory is limited, as a program needs that reserves room for itself. A word
@@ -18,7 +18,7 @@ import sys
 import tempfile
 
 TOP = os.path.dirname(os.path.dirname(os.path.abspath(__file__)))
-sys.path.insert(0, os.path.join(TOP, "bench"))
+sys.path[:0] = [os.path.join(TOP, it) for it in ("oracle", "checks/harness", "checks/inputs")]
 from bounded_calls import FILES, JOURNAL, MIB, WORLD, Again, Call, chosen, ended, hash_of, least_limit, made, put, words_of  # noqa: E402
 from checked_program import Checks, shown, write_files  # noqa: E402
 from large_worlds import INSIDE, Longest, creep, crowd, dropping, file_of, full_room, full_world, ids_of, wanting, writing  # noqa: E402

@@ -13,8 +13,8 @@ import sys
 import tempfile
 
 TOP = os.path.dirname(os.path.dirname(os.path.abspath(__file__)))
-sys.path.insert(0, os.path.join(TOP, "bench"))
-from modules import OPENING, code_entry, leb, listed, module, section, signed_leb  # noqa: E402
+sys.path.insert(0, os.path.join(TOP, "oracle"))
+from module_bytes import OPENING, code_entry, leb, listed, module, section, signed_leb  # noqa: E402
 
 PROGRAM = os.path.join(TOP, "crates/machine_bench/out/machine_bench")
 NOP = b"\x01"

@@ -12,8 +12,7 @@ import sys
 import tempfile
 
 TOP = os.path.dirname(os.path.dirname(os.path.abspath(__file__)))
-sys.path.insert(0, os.path.join(TOP, "bench"))
-sys.path.insert(0, os.path.join(TOP, "worlds"))
+sys.path[:0] = [os.path.join(TOP, it) for it in ("oracle", "checks/harness", "worlds")]
 from checked_program import Checks, content_of, run, shown, write_files  # noqa: E402
 from game import place_of  # noqa: E402
 from make_world import world  # noqa: E402

@@ -3,7 +3,7 @@
 
 It runs behind `rt ci`, which builds crates/world_server/out/world_server. Modules are spelled by hand for each rule of the binary format:
 sections in every order and of every size, custom ones at each place, each opcode, texts that are cut short, and limits. Then come modules on
-both sides of each rule of validity, which another assembler made of the texts that stand beside them (bench/modules.tsv). They export no
+both sides of each rule of validity, which another assembler made of the texts that stand beside them (oracle/modules.tsv). They export no
 `loop`, and what they import is no call of the host, so those that are valid are refused for that.
 """
 
@@ -12,10 +12,10 @@ import sys
 import tempfile
 
 TOP = os.path.dirname(os.path.dirname(os.path.abspath(__file__)))
-sys.path.insert(0, os.path.join(TOP, "bench"))
+sys.path[:0] = [os.path.join(TOP, it) for it in ("oracle", "checks/harness")]
 from checked_program import Checks, run, shown, write_files  # noqa: E402
+from module_bytes import leb  # noqa: E402
 from module_texts import OPENING, rows  # noqa: E402
-from modules import leb  # noqa: E402
 
 checks = Checks(__file__)
 OTHERS = ("Invalid", "FloatRefused", "UnknownImport", "NoLoop")

@@ -2,10 +2,10 @@
 """Which creeps step, and where they are after the tick: rooms as pictures with the moves and what becomes of them, rings and chains that fill
 a room, and random boards on which all sets of creeps are tried.
 
-It runs behind `rt ci`, which builds crates/world_server/out/world_server. The pictures are drawn by hand; they and what bench/movement.py
+It runs behind `rt ci`, which builds crates/world_server/out/world_server. The pictures are drawn by hand; they and what oracle/movement.py
 finds from the creeps that stay have to agree. On the boards a slow writing of the definition takes its place: of those that would step it
 tries every set, and takes together all that may step, each to a tile without a creep or to that of a creep of the set. With --model no
-program is run, and bench/movement.py alone is held against both.
+program is run, and oracle/movement.py alone is held against both.
 """
 
 import itertools
@@ -15,12 +15,12 @@ import struct
 import sys
 
 TOP = os.path.dirname(os.path.dirname(os.path.abspath(__file__)))
-sys.path.insert(0, os.path.join(TOP, "bench"))
+sys.path[:0] = [os.path.join(TOP, it) for it in ("oracle", "checks/harness", "checks/inputs")]
 import compared_runs  # noqa: E402
 from checked_program import Checks  # noqa: E402
 from compared_runs import world_faults  # noqa: E402
 from game import FULL, INVALID, NOT_FOUND, OBSTRUCTING, SECOND, TIRED, part_hits, place_of, thing  # noqa: E402
-from moves import ring_of  # noqa: E402
+from moving_worlds import ring_of  # noqa: E402
 from scripts import MOST_ENTRIES, Table  # noqa: E402
 from worlds import Step, Upload, account_of, full, grounds, room, ticked, world  # noqa: E402
 

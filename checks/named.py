@@ -1,17 +1,18 @@
 #!/usr/bin/env python3
 """Looks up what the documents name: `checks/named.py`, without a word, and without the program.
 
-docs/definitions.md, docs/guarantees.md, docs/architecture.md, docs/DECISIONS.md and docs/CONTRIBUTING.md say by hand what the clauses and definitions of the crates say. Each name
-in backquotes there has to stand somewhere in the code of the repository, comments apart, each path has to lead to a file, and where a document says in which crate, file or function a
-name stands, it has to stand there:
+docs/definitions.md, docs/guarantees.md, docs/architecture.md, docs/DECISIONS.md and docs/CONTRIBUTING.md say by hand what the clauses and definitions
+of the crates say. Each name in backquotes there has to stand somewhere in the code of the repository, comments apart, and in docs/architecture.md
+somewhere in crates/; where a document says in which crate, file or function a name stands, it has to stand there:
 
 - in a table of definitions, under its crate and its file, each definition is one that the file declares;
 - in a table of promises, under its crate, each function is one of the crate, and each clause one of the function's;
 - in a table of crates each call is one that the row's crate has;
 - `NAME` of `CRATE`, `CRATE::NAME`, and `NAME` in `FILE` stand where they say.
 
-In all documents, links and the names of files outside of backquotes lead to files, and what is quoted behind the name of a document is a heading there. Names of other worlds stand in
-a table below with their reasons; an entry that nothing needs is a fault too.
+In all documents each path in backquotes leads to a file or a folder of the repository, links and the names of files outside of backquotes do, and
+what is quoted behind the name of a document is a heading there. Names and paths of other worlds stand in a table below with their reasons; an entry
+that nothing needs is a fault too.
 """
 
 import collections
@@ -20,14 +21,17 @@ import re
 import sys
 
 TOP = os.path.dirname(os.path.dirname(os.path.abspath(__file__)))
-sys.path.insert(1, os.path.join(TOP, "bench"))
+sys.path.insert(0, os.path.join(TOP, "checks/harness"))
 from checked_program import Checks  # noqa: E402
 
 # Where the kit has the libraries that it brings, in their sources.
 KIT = os.environ.get("KIT_SOURCES", "/opt/rattle/rattle")
 LOOKED_UP = ("docs/definitions.md", "docs/guarantees.md", "docs/architecture.md", "docs/DECISIONS.md", "docs/CONTRIBUTING.md")
 
-# Names that stand nowhere in the code of the repository, by the reason.
+# The page whose names have to stand in crates/, and not in a script alone.
+OF_CRATES = "docs/architecture.md"
+
+# Names and paths that stand nowhere in the code or among the files of the repository (for that page: nowhere in crates/), by the reason.
 ELSEWHERE = {
     "the standard's way to write a kind of numbers or types": ("uN", "sN", "t1", "t2", "littleendian"),
     "the protocol's word for the length of what follows": ("SIZE",),
@@ -35,6 +39,13 @@ ELSEWHERE = {
     "the clause of a trait of the kit": ("output",),
     "a command of the kit": ("plant", "tidy"),
     "what the first example of docs/CONTRIBUTING.md would add": ("quiet_line", "add_quiet"),
+    "a file that a reader of the page makes": ("logged.c", "mine.json", "later.uploads", "colonies.html", "players/other.wasm"),
+    "a file of the host": ("etc/nginx/nginx.conf",),
+    "a word of the command line": ("machine_bench MODULE FUEL", "TIMES=1"),
+    "a command of the kit, as a whole": ("rt ci",),
+    "a program of the system": ("strace", "wasm-interp"),
+    "a table of scripts in checks/": ("EXAMPLES",),
+    "the ending of files": (".txt",),
 }
 # Paths that are made, or that stand for many.
 MADE = re.compile(r"(players|crates/[\w*]+)/out\b|crates/NAME\b")
@@ -46,9 +57,9 @@ COMMENTS = {".rt": re.compile(r"//[^\n]*"), ".antt": re.compile(r"--[^\n]*")}
 DECLARED = re.compile(r"(?m)^[ \t]*(?:(?:pub|abbrev|unfoldable|record|data|lemma)[ \t]+)*((?:[^\W\d]\w*[ \t]+)*[^\W\d]\w*)[ \t]*(?:[:({]|$)")
 FUNCTION = re.compile(r"\bfn\s+([^\W\d]\w*)")
 CLAUSE = re.compile(r"\b(?:ensures|requires)\*?(?:\s+([^\W\d]\w*))?\s*\{")
-SUFFIXES = "rt|antt|edit|py|md|txt|json|tsv|sh|c|cpp|h|rs|uploads|wasm|service"
+SUFFIXES = "rt|antt|edit|py|md|txt|json|tsv|sh|c|cpp|h|rs|uploads|wasm|service|bin|html|png|conf"
 PATH = re.compile(rf"(?:\.?[\w*-]+/)+(?:[\w*-]+(?:\.(?:{SUFFIXES})\b)?)?|[\w-]+\.(?:{SUFFIXES})\b")
-OUTSIDE = re.compile(rf"\b(?:docs|checks|bench|players|worlds|modules|crates)/[\w/-]*(?:\.(?:{SUFFIXES})\b)?")
+OUTSIDE = re.compile(rf"\b(?:docs|checks|oracle|bench|players|worlds|modules|crates)/[\w/-]*(?:\.(?:{SUFFIXES})\b)?")
 LINK = re.compile(r"\]\(([^)\s]+)\)")
 QUOTED = re.compile(r"([\w/]+\.md)(?:\]\([^)]*\))?,? \(?\"([^\"]+)\"")
 QUOTED_HERE = re.compile(r"\"([A-Z][^\"]+)\" (?:below|above)\b")
@@ -57,6 +68,15 @@ COUNTS = ["no", "one", "two", "three", "four", "five", "six", "seven", "eight", 
 
 checks = Checks(__file__, has_program=False)
 note = checks.note
+# The entries of the table of names of other worlds that were needed.
+needed = set()
+
+
+def elsewhere(name):
+    """Whether a name or a path has an entry in the table of those of other worlds, which is then a needed one."""
+    found = {(reason, name) for reason, names in ELSEWHERE.items() if name in names}
+    needed.update(found)
+    return bool(found)
 
 
 def text_of(path):
@@ -103,8 +123,10 @@ class Repository:
         self.crates = set(self.sources)
         # (the libraries of the kit that the crates use)
         self.libraries = {it for it in WORD.findall(text_of("crates.txt")) if it not in self.crates} | {"std"}
-        self.names = self.crates | self.libraries | set().union(*(it.words for crate in self.sources.values() for it in crate))
-        scripts = [it for it in self.files if re.match(r"(checks|bench|players|worlds|\.ci)/.*(\.(py|c|h|rs|sh|cpp)|run)$", it) and it != "checks/named.py"]
+        self.code = self.crates | set().union(*(it.words for crate in self.sources.values() for it in crate))
+        self.names = self.code | self.libraries
+        is_script = re.compile(r"(checks|oracle|bench|players|worlds|\.ci)/.*(\.(py|c|h|rs|sh|cpp)|run)$")
+        scripts = [it for it in self.files if is_script.match(it) and it != "checks/named.py"]
         self.names |= {word for it in scripts for word in WORD.findall(text_of(it))}
         self.by_end = collections.defaultdict(set)
         for path in self.files:
@@ -139,6 +161,11 @@ class Repository:
 # ---- what a document says
 
 
+def is_known(path, known, crates=()):
+    """Whether a path leads to a file or a folder of the repository, stands for many, or has an entry in the table of those of other worlds."""
+    return bool(elsewhere(path) or MADE.match(path) or known.found(path, crates))
+
+
 def head(span):
     """The name that a span begins with: behind the type where there is one."""
     found = re.match(r"\W*([^\W\d]\w*(?:::[^\W\d]\w*)*)", span)
@@ -149,7 +176,8 @@ class Page:
     """A document that is looked up line by line, with the crates, the files and the table in which each stands."""
 
     def __init__(self, path, known):
-        self.path, self.known, self.faults, self.used = path, known, [], set()
+        self.path, self.known, self.faults = path, known, []
+        self.names, self.where = (known.code, "in crates/") if path == OF_CRATES else (known.names, "in the code")
         self.crates, self.files, self.table, self.functions, self.row_before, self.is_explained = [], [], "", [], [], False
 
     def fault(self, number, what):
@@ -226,7 +254,7 @@ class Page:
             # (what a type or a trait promises may be said by a trait of another crate)
             known |= {clause for crate in self.known.crates for found in self.known.functions_of(crate).values() for clause in found}
         for span in SPAN.findall(clauses):
-            if span not in known and not self.elsewhere(span) and not (head(span) in words and head(span)[:1].isupper()) and not re.search(rf"law[s]? [^|]*`{re.escape(span)}`", clauses):
+            if span not in known and not elsewhere(span) and not (head(span) in words and head(span)[:1].isupper()) and not re.search(rf"law[s]? [^|]*`{re.escape(span)}`", clauses):
                 self.fault(number, f"`{span}` is no clause of {', '.join(rows)}")
             for name in rows if is_of_each and not head(span)[:1].isupper() else ():
                 if name in there and name not in passed_on and span not in there[name]:
@@ -270,19 +298,12 @@ class Page:
 
     def span(self, number, span):
         paths = PATH.findall(span)
-        for path in paths:
-            if not MADE.match(path) and not self.known.found(path, self.crates) and not self.elsewhere(path):
-                self.fault(number, f"`{path}` is no file")
+        self.faults += [f"{self.path}:{number}: `{path}` is no file" for path in paths if not is_known(path, self.known, self.crates)]
+        if self.path == OF_CRATES and elsewhere(span):
+            return
         for word in [] if paths else WORD.findall(span):
-            if word not in self.known.names and not self.elsewhere(word):
-                self.fault(number, f"`{word}` stands nowhere in the code" + ("" if word == span else f", in `{span}`"))
-
-    def elsewhere(self, name):
-        for reason, names in ELSEWHERE.items():
-            if name in names:
-                self.used.add((reason, name))
-                return True
-        return False
+            if word not in self.names and not elsewhere(word):
+                self.fault(number, f"`{word}` stands nowhere {self.where}" + ("" if word == span else f", in `{span}`"))
 
 
 def kit_names():
@@ -321,6 +342,13 @@ def headings_of(path):
     """What may be quoted of a document: its headings, and what stands there in bold or begins a paragraph in italics."""
     text = text_of(path)
     return {it.strip().strip("*").rstrip(".") for it in re.findall(r"(?m)^#+ (.*)$|\*\*?([^*\n]+)\*\*?", text) for it in it if it}
+
+
+def path_faults(path, known):
+    """The paths in backquotes that lead nowhere, of a document whose names are not looked up."""
+    lines = enumerate(text_of(path).splitlines(), 1)
+    found = [(number, it) for number, line in lines for span in SPAN.findall(line) for it in PATH.findall(span)]
+    return [f"{path}:{number}: `{it}` is no file" for number, it in found if not is_known(it, known)]
 
 
 def link_faults(path, known):
@@ -368,17 +396,17 @@ def look_up_all():
     known.names |= {name for name, _ in kit_names()}
     explained = text_of("docs/definitions.md").partition("## How to read a definition")[2].partition("\n## ")[0]
     known.names |= {word for span in SPAN.findall(explained) for word in WORD.findall(span)}
-    used = set()
     for path in LOOKED_UP:
         page = Page(path, known)
         page.look_up()
-        used |= page.used
         note(f"what {path} names", page.faults)
-    idle = [f"{name}: {reason}" for reason, names in ELSEWHERE.items() for name in names if (reason, name) not in used]
-    note("entries of the table of names that nothing needs", idle)
     documents = sorted(it for it in known.files if it.endswith(".md") and "/crates/" not in f"/{it}")
     for path in documents:
+        if path not in LOOKED_UP:
+            note(f"the paths of {path}", path_faults(path, known))
         note(f"the links of {path}", link_faults(path, known))
+    idle = [f"{name}: {reason}" for reason, names in ELSEWHERE.items() for name in names if (reason, name) not in needed]
+    note("entries of the table of names that nothing needs", idle)
     if os.path.isdir(KIT):
         note("the names of the kit", kit_faults())
 

@@ -22,7 +22,7 @@ import tempfile
 import time
 
 TOP = os.path.dirname(os.path.dirname(os.path.abspath(__file__)))
-sys.path[:0] = [os.path.join(TOP, "bench"), os.path.join(TOP, "players")]
+sys.path[:0] = [os.path.join(TOP, it) for it in ("oracle", "checks/harness", "players")]
 from checked_program import Checks, content_of, run, shown  # noqa: E402
 from game import ACTIONS, KINDS, PARTS, thing  # noqa: E402
 from journal_file import GROUNDS, OUTCOMES, worlds_of  # noqa: E402

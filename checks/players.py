@@ -5,7 +5,7 @@ program runs over several worlds.
 
 It runs behind `rt ci`, which builds crates/world_server/out/world_server; a word names another build of it. What a run prints
 and what it leaves in its journal is compared with a second, slow writing of the sample players in this file, at the desk of
-bench/scripts.py and in the tick of bench/worlds.py. The instructions that a run used are those that it prints. Where clang and
+oracle/scripts.py and in the tick of oracle/worlds.py. The instructions that a run used are those that it prints. Where clang and
 wasm-ld are installed, the sample players are built anew and held against the same, and other players in C and C++ are built and run.
 With --model in place of a build no program is run.
 """
@@ -23,7 +23,7 @@ import sys
 import tempfile
 
 TOP = os.path.dirname(os.path.dirname(os.path.abspath(__file__)))
-sys.path.insert(0, os.path.join(TOP, "bench"))
+sys.path[:0] = [os.path.join(TOP, it) for it in ("oracle", "checks/harness")]
 from compared_runs import ACTION_NAMES, journal_faults, world_faults  # noqa: E402
 from game import ACTIONS, BUILDINGS, DIRECTIONS, FULL, NOT_ENOUGH, STORES, capacity, distance, hits_max, live, place_of, sees, thing  # noqa: E402
 from movement import beyond, obstructed, pace  # noqa: E402

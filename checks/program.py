@@ -3,7 +3,7 @@
 standard error byte for byte, and each file of the folder that it runs in, before and after.
 
 It runs behind `rt ci`, which builds crates/world_server/out/world_server. What is compared with comes from
-a second, slow writing of the formats and of the tick in bench/worlds.py, or from the documents: each example of
+a second, slow writing of the formats and of the tick in oracle/worlds.py, or from the documents: each example of
 README.md and docs/ that calls the built program is run, and has to print what stands there (those of docs/faq.md by checks/walk.py); each that makes an
 upload stream is run too, and has to make the file of the repository. What players do is the subject of checks/desk.py.
 """
@@ -18,11 +18,36 @@ import sys
 import tempfile
 
 TOP = os.path.dirname(os.path.dirname(os.path.abspath(__file__)))
-sys.path.insert(0, os.path.join(TOP, "bench"))
+sys.path[:0] = [os.path.join(TOP, it) for it in ("oracle", "checks/harness")]
 from checked_program import Checks, run, shown  # noqa: E402
-from modules import HOST_CALLS, I32, OPENING, func_type, host_import, leb, listed, section  # noqa: E402
 from game import KINDS, MOST_SITES, SECOND  # noqa: E402
-from worlds import CLOSED, MIB, OPEN, SMALL, Run, Step, base_content, bytes_of, frame, full, grounds, journal_of, output_of, played, room, room_bytes, start_line, step_lines, text_of, thing, tick_content, ticked, upload_entry, world  # noqa: E402
+from module_bytes import HOST_CALLS, I32, OPENING, func_type, host_import, leb, listed, section  # noqa: E402
+from worlds import (  # noqa: E402
+    CLOSED,
+    MIB,
+    OPEN,
+    SMALL,
+    Run,
+    Step,
+    base_content,
+    bytes_of,
+    frame,
+    full,
+    grounds,
+    journal_of,
+    output_of,
+    played,
+    room,
+    room_bytes,
+    start_line,
+    step_lines,
+    text_of,
+    thing,
+    tick_content,
+    ticked,
+    upload_entry,
+    world,
+)
 
 FULL = "/dev/full"
 MOST_NEXT = 2**32 - 2**20

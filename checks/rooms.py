@@ -4,12 +4,12 @@ of players from all of them.
 
 It runs behind `rt ci`, which builds crates/world_server/out/world_server. First come 200 small worlds of two to six rooms, apart, in rows and in rings,
 each drawn by its own number, in which all actions come and creeps cross; after each tick every object, every room and every account is
-compared with what bench/game.py makes of it, and `replay` has to rule the ticks of the journal, which a run makes room by room, to the same
+compared with what oracle/game.py makes of it, and `replay` has to rule the ticks of the journal, which a run makes room by room, to the same
 worlds. Then come 40 worlds in which nothing comes into the first room or leaves it: it has to become the same,
 byte for byte, where it is the whole world, where it is one room of several, and where the players want something of the other rooms too. Last come
 points of several rooms, rooms that lose all that they have, one room alone, and one creep in the last of 400 rooms.
 
-With --model no program is run, and bench/game.py alone is held against what is worked out. With --world N the drawn world of that number alone is
+With --model no program is run, and oracle/game.py alone is held against what is worked out. With --world N the drawn world of that number alone is
 played, and with --counts it is shown what came how often.
 """
 
@@ -18,14 +18,14 @@ import sys
 import tempfile
 
 TOP = os.path.dirname(os.path.dirname(os.path.abspath(__file__)))
-sys.path.insert(0, os.path.join(TOP, "bench"))
+sys.path[:0] = [os.path.join(TOP, it) for it in ("oracle", "checks/harness", "checks/inputs")]
 import compared_runs  # noqa: E402
 from checked_program import Checks, content_of, run, write_files  # noqa: E402
 from compared_runs import room_faults  # noqa: E402
 from drawn_runs import count_into, drawn, note_counts, play_drawn  # noqa: E402
 from game import ACTIONS, DIRECTIONS, MOST_POINTS, MOST_SITES, NOT_FOUND, OBSTRUCTING, SECOND, live, place_of, thing  # noqa: E402
 from movement import beyond, ground_at, tile_of  # noqa: E402
-from players import name_of  # noqa: E402
+from plain_worlds import name_of  # noqa: E402
 from scripts import MOST_ENTRIES, Table  # noqa: E402
 from worked_rooms import EAST, NORTH, SOUTH, WEST, Case, Turn, check_cases, check_turns, controller, creep, room_of, with_ids  # noqa: E402
 from worlds import Upload, account_of, acted, bytes_of, full, objects_of, room, stream_of, ticked, ticks_in, world  # noqa: E402

@@ -1,11 +1,11 @@
 #!/usr/bin/env python3
 """What `serve` does for clients that come over sockets, beside its ticks: replies, uploads, the journal, crashes, and strangers who mean no good.
 
-It runs behind `rt ci`, which builds crates/world_server/out/world_server. The client of bench/status_client.py is written from docs/formats.md alone, and the
-journal is read by checks/journal_reader.py, which is too. Whatever was told of a tick has to stand in the journal, and each upload that was queued is in it
-once, or was still waiting; a `run` of the uploads that the journal has makes the same file. Every wait has an end. Servers are killed at 20 random moments, or
-at so many as `--kills N` says. Where `strace` is installed and may trace, no thread can be made, or only some. The words of README.md and docs/ that start a server or
-upload to it are run, and players/upload.py is.
+It runs behind `rt ci`, which builds crates/world_server/out/world_server. The client of checks/harness/status_client.py is written from
+docs/formats.md alone, and the journal is read by oracle/journal_reader.py, which is too. Whatever was told of a tick has to stand in the journal, and
+each upload that was queued is in it once, or was still waiting; a `run` of the uploads that the journal has makes the same file. Every wait has an
+end. Servers are killed at 20 random moments, or at so many as `--kills N` says. Where `strace` is installed and may trace, no thread can be made, or
+only some. The words of README.md and docs/ that start a server or upload to it are run, and players/upload.py is.
 """
 
 import argparse
@@ -25,11 +25,11 @@ import threading
 import time
 
 TOP = os.path.dirname(os.path.dirname(os.path.abspath(__file__)))
-sys.path.insert(0, os.path.join(TOP, "bench"))
+sys.path[:0] = [os.path.join(TOP, it) for it in ("oracle", "checks/harness")]
 from checked_program import Checks, content_of, files_in, run, shown, write_files  # noqa: E402
 from failing_calls import may_trace  # noqa: E402
 from journal_reader import ACCEPTED, RESULTS, is_empty, read  # noqa: E402
-from modules import OPENING, player_module, section  # noqa: E402
+from module_bytes import OPENING, player_module, section  # noqa: E402
 from status_client import HOST, Line, Server, Silent, Status, end_servers_when_ended, free_port  # noqa: E402
 from worlds import SMALL, bytes_of, journal_of, played, room, thing, upload_entry, world  # noqa: E402
 

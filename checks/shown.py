@@ -2,9 +2,9 @@
 """Checks the scripts that show journals and world files: players/show_room.py, players/show_run.py and worlds/check_world.py.
 
 It runs behind `rt ci`, which builds crates/world_server/out/world_server; the environment variable WORLD_SERVER names another build. What the first
-two print is compared with lines that were worked out by hand for worlds of few objects, whose ticks come from bench/worlds.py, and, for a journal that the program wrote, with
-what bench/worlds.py reads in it. worlds/check_world.py has to name the fault of each world file of checks/world_files.py, which that script holds
-against the program, and of others that are drawn here, which the program is asked about.
+two print is compared with lines that were worked out by hand for worlds of few objects, whose ticks come from oracle/worlds.py, and, for a journal
+that the program wrote, with what oracle/worlds.py reads in it. worlds/check_world.py has to name the fault of each world file of
+checks/world_files.py, which that script holds against the program, and of others that are drawn here, which the program is asked about.
 """
 
 import ast
@@ -18,9 +18,7 @@ import sys
 import tempfile
 
 TOP = os.path.dirname(os.path.dirname(os.path.abspath(__file__)))
-sys.path.insert(0, os.path.join(TOP, "bench"))
-sys.path.insert(0, os.path.join(TOP, "players"))
-sys.path.insert(0, os.path.join(TOP, "worlds"))
+sys.path[:0] = [os.path.join(TOP, it) for it in ("oracle", "checks/harness", "players", "worlds")]
 import check_world  # noqa: E402
 import show_room  # noqa: E402
 import show_run  # noqa: E402
@@ -36,7 +34,7 @@ DRAWN = 40
 
 
 def journal(first, *ticks):
-    """The journal of ticks with these runs, as bench/worlds.py makes it."""
+    """The journal of ticks with these runs, as oracle/worlds.py makes it."""
     steps, it = [], first
     for runs in ticks:
         it = ticked(it, runs)
@@ -381,7 +379,7 @@ def check_journals():
 
 
 def moments_of(content):
-    """Each tick of a journal with its runs, and all objects before and after it by their ids, as bench/worlds.py reads them."""
+    """Each tick of a journal with its runs, and all objects before and after it by their ids, as oracle/worlds.py reads them."""
     before = None
     for parts in ticks_in(content):
         after = {one[0]: (index, *one) for index, _, objects in parts["rooms"] for one in objects}

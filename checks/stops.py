@@ -5,7 +5,7 @@ fail in their turn.
 
 It runs behind `rt ci`, which builds crates/world_server/out/world_server. Each stop has to be an exit status with its fault line, what was printed
 has to stand in the journal, and the next run has to go on to the file of one run. Where `strace` is installed and may trace, it lets the calls fail.
-Modes are looked at as the user nobody where root runs this. What is compared with comes from bench/worlds.py.
+Modes are looked at as the user nobody where root runs this. What is compared with comes from oracle/worlds.py.
 """
 
 import os
@@ -17,7 +17,7 @@ import tempfile
 import time
 
 TOP = os.path.dirname(os.path.dirname(os.path.abspath(__file__)))
-sys.path.insert(0, os.path.join(TOP, "bench"))
+sys.path[:0] = [os.path.join(TOP, it) for it in ("oracle", "checks/harness")]
 from checked_program import PROGRAM, Checks, content_of, files_in, shown, write_files  # noqa: E402
 from failing_calls import (  # noqa: E402
     CUTS,
@@ -39,7 +39,7 @@ from failing_calls import (  # noqa: E402
     went_on_faults,
     words_of,
 )
-from modules import OPENING  # noqa: E402
+from module_bytes import OPENING  # noqa: E402
 from worlds import SMALL, bytes_of, contents_of, journal_of, output_of, played, stream_of, text_of  # noqa: E402
 
 checks = Checks(__file__)

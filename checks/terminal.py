@@ -15,7 +15,7 @@ import tempfile
 import time
 
 TOP = os.path.dirname(os.path.dirname(os.path.abspath(__file__)))
-sys.path.insert(0, os.path.join(TOP, "bench"))
+sys.path.insert(0, os.path.join(TOP, "checks/harness"))
 from checked_program import PROGRAM, Checks, shown  # noqa: E402
 
 checks = Checks(__file__)
@@ -86,16 +86,33 @@ def check_lock(folder):
         other.kill()
 
 
+def told_for(seconds, words, folder):
+    """What a terminal that is standard error gets of a run that is killed after so many seconds."""
+    master, slave = pty.openpty()
+    with subprocess.Popen([PROGRAM, *words], cwd=folder, stdin=subprocess.DEVNULL, stdout=subprocess.DEVNULL, stderr=slave) as run:
+        os.close(slave)
+        time.sleep(seconds)
+        run.kill()
+        run.wait(120)
+        got = b""
+        while piece := read_some(master):
+            got += piece
+    os.close(master)
+    return got
+
+
 def check_progress(folder):
-    """A run that takes some seconds tells rising ticks, each a second behind the one before, and takes the last away."""
+    """A run tells rising ticks, each a second behind the one before, and takes the last away at its end."""
     began = time.monotonic()
-    status, text = watched(["run", SMALL, NO_UPLOADS, "long", "--ticks", "1000000"], folder)
+    text = told_for(4.5, ["run", SMALL, NO_UPLOADS, "killed", "--ticks", "1000000"], folder)
     took = time.monotonic() - began
+    ticks = [int(it) for it in re.findall(rb"\d+", text)]
+    rises = re.fullmatch(rb"(?:\rtick \d+)+", text) and ticks == sorted(set(ticks)) and len(ticks) <= took
+    note("a run tells its ticks once a second", [] if rises else [f"{shown(text)} in {took:.1f} seconds"])
+    status, text = watched(["run", SMALL, NO_UPLOADS, "whole", "--ticks", str(max(ticks, default=1))], folder)
     told = re.fullmatch(rb"((?:\rtick \d+)*)(?:\r\x1b\[K)?", text)
-    ticks = [int(it) for it in re.findall(rb"\d+", told[1])] if told else []
-    faults = [] if status == 0 and told and ticks == sorted(set(ticks)) else [f"{status}, {shown(text)}"]
-    note("a run tells its ticks", faults + ([] if took / 2 - 1 <= len(ticks) <= took else [f"{len(ticks)} ticks in {took:.1f} seconds"]))
-    note("the last is taken away", [] if bool(ticks) == text.endswith(b"\r\x1b[K") else [shown(text)])
+    whole = status == 0 and told and bool(told[1]) == text.endswith(b"\r\x1b[K")
+    note("a run takes the last tick away", [] if whole else [f"{status}, {shown(text)}"])
 
 
 def main():

@@ -24,8 +24,7 @@ import tempfile
 import time
 
 TOP = os.path.dirname(os.path.dirname(os.path.abspath(__file__)))
-# (behind this folder: in bench/ there is another `serve`, and the one of this folder comes first)
-sys.path.insert(1, os.path.join(TOP, "bench"))
+sys.path[:0] = [os.path.join(TOP, it) for it in ("oracle", "checks/harness")]
 from checked_program import PROGRAM, Checks  # noqa: E402
 
 checks = Checks(__file__)
@@ -41,7 +40,7 @@ PAGES = ("README.md", "docs/hosting.md", "docs/players.md", "docs/faq.md")
 PATIENCE = 300
 
 # What a command in the top folder begins with. What stands behind one, up to the next, is what it prints.
-COMMANDS = ("crates/world_server/out/world_server ", "players/", "worlds/", "checks/", "bench/", "clang ", "rm -f ", KILL)
+COMMANDS = ("crates/world_server/out/world_server ", "players/", "worlds/", "checks/", "oracle/", "bench/", "clang ", "rm -f ", KILL)
 # `rt run` proves and builds the program, and then runs it in the folder of its crate. It was proved and built before: it is run so here.
 PROVED, BUILT = "rt run -- ", "out/world_server "
 

@@ -2,7 +2,7 @@
 """What several workers make of a run: the same lines and the same journal, byte for byte, with any number of them.
 
 It runs behind `rt ci`, which builds crates/world_server/out/world_server. Random colonies in which all actions are drawn are run by 1, 2, 3, 7 and 16
-workers, and compared with what bench/game.py makes of them; then worlds that `gen` makes, by words in each order that is taken. A run that is killed
+workers, and compared with what oracle/game.py makes of them; then worlds that `gen` makes, by words in each order that is taken. A run that is killed
 while four workers are at work goes on to the file of one run. Where `strace` is installed and may trace, no thread can be made, or only some; where a
 C compiler is, each allocation of a run by four workers is refused in its turn; where `taskset` is, the tests at a gate run on one processor; and where `valgrind` is, its
 drd looks for data races. With a number in place of 200, so many colonies are drawn.
@@ -18,7 +18,7 @@ import tempfile
 import time
 
 TOP = os.path.dirname(os.path.dirname(os.path.abspath(__file__)))
-sys.path.insert(0, os.path.join(TOP, "bench"))
+sys.path[:0] = [os.path.join(TOP, it) for it in ("oracle", "checks/harness")]
 from checked_program import PROGRAM, Checks, content_of, run, shown, write_files  # noqa: E402
 from colonies import CALLS, Draw, changes_between  # noqa: E402
 from drawn_runs import count_into, drawn, note_counts  # noqa: E402
@@ -233,7 +233,7 @@ def check_refused_memory(most=400):
         return
     with tempfile.TemporaryDirectory() as folder:
         library, counter = os.path.join(folder, "refusing.so"), os.path.join(folder, "count")
-        subprocess.run(["cc", "-O1", "-fPIC", "-shared", "-o", library, os.path.join(TOP, "bench/refusing.c")], check=True)
+        subprocess.run(["cc", "-O1", "-fPIC", "-shared", "-o", library, os.path.join(TOP, "checks/harness/refusing.c")], check=True)
         home = os.path.join(folder, "run")
         os.mkdir(home)
         write_files(home, {FILES[0]: content_of(os.path.join(TOP, "worlds/colonies.json")), FILES[1]: content_of(os.path.join(TOP, "worlds/colonies.uploads"))})

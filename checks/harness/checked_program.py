@@ -10,7 +10,7 @@ import subprocess
 import sys
 import tempfile
 
-TOP = os.path.dirname(os.path.dirname(os.path.abspath(__file__)))
+TOP = os.path.dirname(os.path.dirname(os.path.dirname(os.path.abspath(__file__))))
 PROGRAM = os.path.abspath(os.environ.get("WORLD_SERVER") or os.path.join(TOP, "crates/world_server/out/world_server"))
 LARGE = 1 << 26
 MOST_FAULTS = 60

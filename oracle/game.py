@@ -1,7 +1,7 @@
 """The game's numbers, what objects hold, and what players do, for the checks and the measures.
 
 It is a second, slow writing of the tables in docs/players.md and of the rules in docs/formats.md, which shares nothing with the program.
-An object is what a world file has of it, with every key. How creeps step stands in bench/movement.py.
+An object is what a world file has of it, with every key. How creeps step stands in oracle/movement.py.
 """
 
 import math

@@ -1,6 +1,6 @@
 """What a tick makes of rooms once all entries are done and creeps have stepped, for the checks and the measures.
 
-It is a second writing of the rules in docs/formats.md, as bench/game.py is, which shares nothing with the program.
+It is a second writing of the rules in docs/formats.md, as oracle/game.py is, which shares nothing with the program.
 """
 
 from game import BUILDINGS, DIRECTIONS, DOWNGRADES, Course, full_timer, hits_max, lifetime, live, payers, source_room

@@ -1,4 +1,4 @@
-"""Runs worlds with players in the built program, and says what differs from what bench/scripts.py and bench/worlds.py make of them: which
+"""Runs worlds with players in the built program, and says what differs from what oracle/scripts.py and oracle/worlds.py make of them: which
 call answered what, and which field of which object is another."""
 
 import struct
@@ -161,7 +161,7 @@ def play(checks, name, first, ticks, uploads, said=None, asked=None, status=0, e
 
 
 def replay(checks, name, first, steps):
-    """A replay of the journal of a run, as bench/worlds.py writes it: the program rules each tick of it again, the whole world at once."""
+    """A replay of the journal of a run, as oracle/worlds.py writes it: the program rules each tick of it again, the whole world at once."""
     if checks.has_program:
         files = {"journal.bin": journal_of(first, steps)}
         checks.note(f"the replay of {name}", faults_of(["replay", "journal.bin"], files, 0, f"replayed {len(steps)}\n".encode()))

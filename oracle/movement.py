@@ -1,6 +1,6 @@
 """How creeps step from tile to tile and from room to room, for the checks and the measures.
 
-It is a second writing of the rules in docs/formats.md, as bench/game.py is, which shares nothing with the program. Who steps is found from
+It is a second writing of the rules in docs/formats.md, as oracle/game.py is, which shares nothing with the program. Who steps is found from
 those who can't: a creep that stays keeps back the one that would step to its tile, and so on. checks/moves.py tries all sets instead.
 """
 

@@ -3,9 +3,10 @@
 of which has to be refused by the checks that are named here, and all kinds of checks have to refuse one. It takes some minutes, a C compiler, strace
 and Linux.
 
-    bench/faulty_programs.py
+    checks/by_hand/faulty_programs.py
 
-builds bench/faulty.c, which comes between the program and the C library and makes the fault. Words name the faults that are tried, in place of all.
+builds checks/by_hand/faulty.c, which comes between the program and the C library and makes the fault. Words name the faults that are tried, in place
+of all.
 """
 
 import os
@@ -14,7 +15,7 @@ import subprocess
 import sys
 import tempfile
 
-TOP = os.path.dirname(os.path.dirname(os.path.abspath(__file__)))
+TOP = os.path.dirname(os.path.dirname(os.path.dirname(os.path.abspath(__file__))))
 PROGRAM = os.path.abspath(os.environ.get("WORLD_SERVER") or os.path.join(TOP, "crates/world_server/out/world_server"))
 
 # The kinds of checks of checks/failures.py, by a part of their names that no other has.
@@ -146,7 +147,8 @@ def main():
     with tempfile.TemporaryDirectory() as folder:
         # (the user nobody runs it too)
         os.chmod(folder, 0o755)
-        subprocess.run(["cc", "-O1", "-Wall", "-Wextra", "-fPIC", "-shared", "-o", f"{folder}/faulty.so", os.path.join(TOP, "bench/faulty.c")], check=True)
+        source = os.path.join(TOP, "checks/by_hand/faulty.c")
+        subprocess.run(["cc", "-O1", "-Wall", "-Wextra", "-fPIC", "-shared", "-o", f"{folder}/faulty.so", source], check=True)
         wrong = sum(try_faults(folder, script, named) for script in SCRIPTS)
     sys.exit(1 if wrong else 0)
 

@@ -3,17 +3,22 @@
 Creeps and what they act on stand in pairs, side by side along the rows. Of each shape there are two worlds: one in which all calls are
 recorded and do something, tick after tick, and one in which the same calls are all refused by the last check before that of the record.
 
-    python3 bench/works.py
+    python3 checks/inputs/working_worlds.py
 
-runs no program: it has bench/scripts.py and bench/worlds.py play some ticks of each world, and says where something else happens.
+runs no program: it has oracle/scripts.py and oracle/worlds.py play some ticks of each world, and says where something else happens.
 """
 
-from called import CalledWorld
-from game import FULL, INVALID_TARGET, NOT_ENOUGH, SECOND, thing
-from players import TILES, of_rooms, players_of
-from rules import broken
-from scripts import Desk
-from worlds import Run, acted, full, room, ticked, world
+import os
+import sys
+
+TOP = os.path.dirname(os.path.dirname(os.path.dirname(os.path.abspath(__file__))))
+sys.path.insert(0, os.path.join(TOP, "oracle"))
+from called_worlds import CalledWorld  # noqa: E402
+from game import FULL, INVALID_TARGET, NOT_ENOUGH, SECOND, thing  # noqa: E402
+from plain_worlds import TILES, of_rooms, players_of  # noqa: E402
+from rules import broken  # noqa: E402
+from scripts import Desk  # noqa: E402
+from worlds import Run, acted, full, room, ticked, world  # noqa: E402
 
 COUNT = 1000
 PLENTY = 100_000_000

@@ -1,5 +1,5 @@
 /* Refuses memory: loaded before the C library (LD_PRELOAD) it counts the allocations that a program makes of it, and lets one of them fail, or that one
- * and all behind it. bench/refused_memory.py builds it.
+ * and all behind it. checks/by_hand/refused_memory.py builds it.
  *
  * REFUSED_COUNT is the path of a file of 8 bytes, in which the count stands, also where the program is ended. REFUSED_NUMBER is the number of the
  * allocation that fails, from 1 on, or 0; with REFUSED_BEHIND those behind it fail too. What is allocated before the program's own start is not counted. */

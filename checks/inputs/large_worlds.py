@@ -3,7 +3,7 @@
 import json
 
 from game import MOST_PARTS, PARTS, SECOND, thing
-from players import filled
+from large_modules import filled
 from scripts import MOST_ENTRIES, MOST_TEXT, Script, unkept
 from worlds import MIB, room, world
 

@@ -1,4 +1,4 @@
-"""Runs of calls that are drawn tick by tick for the world as it then stands: the program has to make of them what bench/game.py does."""
+"""Runs of calls that are drawn tick by tick for the world as it then stands: the program has to make of them what oracle/game.py does."""
 
 import compared_runs
 from compared_runs import world_faults
@@ -22,7 +22,7 @@ def count_into(done, counts):
 
 
 def drawn(first, ticks, players, calls, changes):
-    """A run of so many ticks, as bench/game.py has it. `calls` draws the calls of a player for a world, and `changes` counts what became of a
+    """A run of so many ticks, as oracle/game.py has it. `calls` draws the calls of a player for a world, and `changes` counts what became of a
     world in a tick, by the worlds before and after it and the runs. Answers the uploads, the steps, and how often each action did something, and
     nothing, and how often each change came."""
     it, uploads, steps, done = full(first), [], [], {}

@@ -1,12 +1,12 @@
 #!/usr/bin/env python3
 """Refuses memory: lets one allocation of the program fail after the other, and looks at what becomes of each run. It takes a C compiler and Linux.
 
-    bench/refused_memory.py
+    checks/by_hand/refused_memory.py
 
-builds bench/refusing.c, which comes between the program and the C library. Each kind of run is made once with all memory, then with its first
-allocation refused, its second, and so on, each alone and then with all behind it. Each has to end by status 11 (or, where it could do without, by
-status 0 as the first one). Then nothing is printed but whole ticks, and the journal is as before or has just these ticks; and the next run, which has
-all memory, goes on to the file of the first one. Words name the runs, by parts of their names, in place of all. It is no part of the gate.
+builds checks/harness/refusing.c, which comes between the program and the C library. Each kind of run is made once with all memory, then with its
+first allocation refused, its second, and so on, each alone and then with all behind it. Each has to end by status 11 (or, where it could do without,
+by status 0 as the first one). Then nothing is printed but whole ticks, and the journal is as before or has just these ticks; and the next run, which
+has all memory, goes on to the file of the first one. Words name the runs, by parts of their names, in place of all. It is no part of the gate.
 """
 
 import collections
@@ -17,9 +17,8 @@ import sys
 import tempfile
 import time
 
-TOP = os.path.dirname(os.path.dirname(os.path.abspath(__file__)))
-sys.path.insert(0, os.path.join(TOP, "bench"))
-sys.path.insert(1, os.path.join(TOP, "checks"))
+TOP = os.path.dirname(os.path.dirname(os.path.dirname(os.path.abspath(__file__))))
+sys.path[:0] = [os.path.join(TOP, it) for it in ("oracle", "checks/harness", "checks")]
 from checked_program import PROGRAM, Checks, content_of, shown, write_files  # noqa: E402
 from failing_calls import FILES, ended, words_of  # noqa: E402
 from journal_reader import read, start_line, tick_lines  # noqa: E402
@@ -157,7 +156,8 @@ def main():
     began = time.monotonic()
     with tempfile.TemporaryDirectory() as folder:
         library = os.path.join(folder, "refusing.so")
-        subprocess.run(["cc", "-O1", "-Wall", "-Wextra", "-fPIC", "-shared", "-o", library, os.path.join(TOP, "bench/refusing.c")], check=True)
+        source = os.path.join(TOP, "checks/harness/refusing.c")
+        subprocess.run(["cc", "-O1", "-Wall", "-Wextra", "-fPIC", "-shared", "-o", library, source], check=True)
         for kind in kinds():
             if not sys.argv[1:] or any(word in kind.name for word in sys.argv[1:]):
                 check_kind(kind, library)

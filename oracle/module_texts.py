@@ -1,5 +1,5 @@
 #!/usr/bin/env python3
-"""The modules that the validation is tried on, bench/modules.tsv: of each the answer, a name, its text and its sections in hexadecimal digits.
+"""The modules that the validation is tried on, oracle/modules.tsv: of each the answer, a name, its text and its sections in hexadecimal digits.
 checks/modules.py runs the built program on them.
 
 Run by itself, this assembles the text beside each and compares. The bytes have to be those that `wat2wasm --no-check` makes of the text,

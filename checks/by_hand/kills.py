@@ -1,7 +1,7 @@
 #!/usr/bin/env python3
 """Kills runs at random moments, each on what the one before left, and looks at what stands then: some hundred ticks of a sample world.
 
-    bench/kills.py [KILLS [WORLD]]
+    checks/by_hand/kills.py [KILLS [WORLD]]
 
 kills 1,000 runs, or as many as the word says, of worlds/colonies.json with its uploads, or of another world of worlds/. Behind each kill the journal
 has to be one of whole ticks, of which those are all whose lines were printed and at most one more; the next run goes on from there. Some dozen kills
@@ -17,9 +17,8 @@ import sys
 import tempfile
 import time
 
-TOP = os.path.dirname(os.path.dirname(os.path.abspath(__file__)))
-sys.path.insert(0, os.path.join(TOP, "bench"))
-sys.path.insert(1, os.path.join(TOP, "checks"))
+TOP = os.path.dirname(os.path.dirname(os.path.dirname(os.path.abspath(__file__))))
+sys.path[:0] = [os.path.join(TOP, it) for it in ("oracle", "checks/harness", "checks")]
 from checked_program import Checks, content_of, shown, write_files  # noqa: E402
 from journals import FILES, forget_journal, killed, ran, seconds_of  # noqa: E402
 from journal_reader import read, start_line, tick_lines  # noqa: E402

@@ -4,17 +4,22 @@ each exit.
 Creeps that step go one way in even ticks and back in odd ones, so that all ticks are alike. Of each shape there are two worlds: one in which
 all calls are recorded, and one in which the same calls are all refused by the last check before that of the record, as the creeps are tired.
 
-    python3 bench/moves.py
+    python3 checks/inputs/moving_worlds.py
 
-runs no program: it has bench/scripts.py and bench/worlds.py play some ticks of each world, and says where something else happens.
+runs no program: it has oracle/scripts.py and oracle/worlds.py play some ticks of each world, and says where something else happens.
 """
 
-from game import DIRECTIONS, SECOND, TIRED, thing
-from modules import leb, player_module, signed_leb
-from players import of_rooms, players_of
-from rules import broken
-from scripts import Desk
-from worlds import Run, acted, full, grounds, room, ticked, world, upload_entry
+import os
+import sys
+
+TOP = os.path.dirname(os.path.dirname(os.path.dirname(os.path.abspath(__file__))))
+sys.path.insert(0, os.path.join(TOP, "oracle"))
+from game import DIRECTIONS, SECOND, TIRED, thing  # noqa: E402
+from module_bytes import leb, player_module, signed_leb  # noqa: E402
+from plain_worlds import of_rooms, players_of  # noqa: E402
+from rules import broken  # noqa: E402
+from scripts import Desk  # noqa: E402
+from worlds import Run, acted, full, grounds, room, ticked, world, upload_entry  # noqa: E402
 
 SIDE = 48
 MOST_OWNED = 4000

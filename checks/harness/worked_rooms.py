@@ -1,4 +1,4 @@
-"""Rooms whose tick is worked out by hand, for the checks: many of them in one world, which both the program and bench/game.py have to meet."""
+"""Rooms whose tick is worked out by hand, for the checks: many of them in one world, which both the program and oracle/game.py have to meet."""
 
 import struct
 

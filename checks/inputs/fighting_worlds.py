@@ -4,18 +4,23 @@ and heal him, 20,000 that strike each other, and rooms full of loaded creeps tha
 All fighters have so many hits, or are healed so well, that none of them dies within the ticks that are measured. Of each shape there are two
 worlds: one in which all calls are recorded, and one in which the same calls are all refused by the last check before that of the record.
 
-    python3 bench/fights.py
+    python3 checks/inputs/fighting_worlds.py
 
-runs no program: it has bench/scripts.py and bench/worlds.py play two ticks of each world, and says where something else happens.
+runs no program: it has oracle/scripts.py and oracle/worlds.py play two ticks of each world, and says where something else happens.
 """
 
-from called import CalledWorld
-from game import NO_BODYPART, NOT_IN_RANGE, SECOND, thing
-from moves import MOST_OWNED, SIDE
-from players import TILES, name_of, players_of
-from rules import broken
-from scripts import Desk
-from worlds import Run, acted, bytes_of, full, objects_of, room, ticked, world
+import os
+import sys
+
+TOP = os.path.dirname(os.path.dirname(os.path.dirname(os.path.abspath(__file__))))
+sys.path.insert(0, os.path.join(TOP, "oracle"))
+from called_worlds import CalledWorld  # noqa: E402
+from game import NO_BODYPART, NOT_IN_RANGE, SECOND, thing  # noqa: E402
+from moving_worlds import MOST_OWNED, SIDE  # noqa: E402
+from plain_worlds import TILES, name_of, players_of  # noqa: E402
+from rules import broken  # noqa: E402
+from scripts import Desk  # noqa: E402
+from worlds import Run, acted, bytes_of, full, objects_of, room, ticked, world  # noqa: E402
 
 # A measure plays so many ticks at most.
 LASTING = 22

@@ -1,8 +1,8 @@
 """Worlds for the checks: the world file, the journal's contents, the tick and the printed lines.
 
 It is a second, slow writing of docs/formats.md, which shares nothing with the program. A world is what its file
-says, as Python has it from JSON. What players do in a tick stands in bench/game.py and bench/movement.py, and the end of
-a tick in bench/upkeep.py.
+says, as Python has it from JSON. What players do in a tick stands in oracle/game.py and oracle/movement.py, and the end of
+a tick in oracle/upkeep.py.
 """
 
 import copy

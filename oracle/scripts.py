@@ -25,7 +25,7 @@ from game import (
     refusal,
     sees,
 )
-from modules import HOST_CALLS, I32, leb, player_module, signed_leb
+from module_bytes import HOST_CALLS, I32, leb, player_module, signed_leb
 from worlds import UNIT, Run, account_of, allowance, objects_of, part_bytes
 
 PAGE = 1 << 16

@@ -1,5 +1,5 @@
 /* Faults of a program of its own accord: loaded before the C library (LD_PRELOAD) it changes the calls that the program makes of it, as the variable
- * FAULT says. bench/faulty_programs.py builds it, and says which checks have to refuse which fault. */
+ * FAULT says. checks/by_hand/faulty_programs.py builds it, and says which checks have to refuse which fault. */
 #define _GNU_SOURCE
 #include <errno.h>
 #include <fcntl.h>
