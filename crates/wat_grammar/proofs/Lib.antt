@@ -1,0 +1,4 @@
+pub mod Comments
+pub mod Strings
+pub mod Lexing
+pub mod Numbers

@@ -1,0 +1,2 @@
+// Definitions: the text of modules, by its tokens and its grammar.
+#![tactic(auto)]
