@@ -24,7 +24,7 @@ note = checks.note
 SMALL, NO_UPLOADS = os.path.join(TOP, "worlds/small.json"), os.path.join(TOP, "worlds/no_uploads.bin")
 RUN_FORM = b"world_server run WORLD UPLOADS JOURNAL --ticks N [--workers K]"
 NO_FILE = b"No such file or directory (os error 2)"
-EXPLAINED = b"the world file breaks a rule: the host's guide has a table of these faults, and worlds/check_world.py tells where in the file it is\n"
+EXPLAINED = b"the world file has a fault: the guide for hosts has a table of them, and check_world.py tells where in the file it is\n"
 
 
 def watched(words, folder, out=subprocess.DEVNULL):

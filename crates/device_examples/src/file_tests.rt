@@ -1,10 +1,11 @@
 // The adapters over files, of which no clause says what they read and write.
 use std::alloc::{AllocError, Global};
 use std::fs;
+use std::io::ErrorKind;
 use std::test::Fail;
 use world_io::{
-    Disk, Failed, FileDisk, FileSink, FileSource, ReadStop, Sink, Source, StreamSink, read_all,
-    write_all,
+    Deed, Disk, Failed, FileDisk, FileSink, FileSource, ReadStop, Sink, Source, StreamSink,
+    Trouble, read_all, write_all,
 };
 
 // Bytes of several pieces and pages, which differ from place to place, from one place to another.
@@ -14,6 +15,14 @@ fn long_text(alloc: Global, from: u32, to: u32) -> Result<Vec<u8>, AllocError> {
         text.push((i % 251) as u8)?;
     }
     Ok(text)
+}
+
+// What a device was to do when it failed first, and the kind of the system's reason.
+fn told(trouble: Option<Trouble>) -> Option<(Deed, ErrorKind)> {
+    match trouble {
+        Some(first) => Some((first.deed, first.reason.kind())),
+        None => None,
+    }
 }
 
 #[test]
@@ -66,8 +75,11 @@ fn a_disk_is_the_file_at_its_path(rt: HostRuntime) -> Result<(), Fail> {
         assert!(rt; made.len() == Ok(0));
         made.write_at(0, &long_text(rt.alloc(), 0, 200_000)?)?;
         // It is nobody else's as long as it is open.
-        assert!(rt; FileDisk::open_or_make(&rt, path).len() == Err(Failed));
+        let mut second = FileDisk::open_or_make(&rt, path);
+        assert!(rt; second.len() == Err(Failed));
+        assert!(rt; told(second.trouble()) == Some((Deed::Lock, ErrorKind::WouldBlock)));
         assert!(rt; FileDisk::open(&rt, path).len() == Ok(200_000));
+        assert!(rt; told(made.trouble()) == None);
     }
     let mut disk = FileDisk::open_or_make(&rt, path);
     assert!(rt; disk.len() == Ok(200_000));
@@ -81,6 +93,7 @@ fn a_disk_is_the_file_at_its_path(rt: HostRuntime) -> Result<(), Fail> {
     let mut only_read = FileDisk::open(&rt, path);
     assert!(rt; only_read.write_at(0, b"x") == Err(Failed));
     assert!(rt; only_read.cut(0) == Err(Failed));
+    assert!(rt; only_read.trouble().map(|first| first.deed) == Some(Deed::Write));
     assert!(rt; fs::read(&rt, path)?.as_slice() == want.as_slice());
     fs::remove_file(&rt, path)?;
     Ok(())
@@ -93,13 +106,19 @@ fn fails_where_no_file_opens(rt: HostRuntime) -> Result<(), Fail> {
     assert!(rt;
         read_all(rt.alloc(), &mut source, 9).map(|text| text.len()) == Err(ReadStop::Fault)
     );
-    assert!(rt; FileSink::create(&rt, path).write(b"x") == Err(Failed));
+    let no_file = Some((Deed::Open, ErrorKind::NotFound));
+    assert!(rt; told(source.trouble()) == no_file);
+    let mut sink = FileSink::create(&rt, path);
+    assert!(rt; sink.write(b"x") == Err(Failed));
+    assert!(rt; told(sink.trouble()) == no_file);
     assert!(rt; FileDisk::open(&rt, "world_io_no_file").len() == Err(Failed));
     let mut disk = FileDisk::open_or_make(&rt, path);
     assert!(rt; disk.len() == Err(Failed));
     assert!(rt; disk.sync() == Err(Failed));
+    assert!(rt; told(disk.trouble()) == no_file);
     let mut output = StreamSink::over(rt.stderr());
     write_all(&mut output, b"")?;
     assert!(rt; output.write(b"\n") == Ok(1));
+    assert!(rt; told(output.trouble()) == None);
     Ok(())
 }

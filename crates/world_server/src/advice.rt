@@ -16,7 +16,7 @@ pub(crate) fn advice_for(
         (None, Status::Usage) => of_words(alloc, words),
         (None, Status::World(_)) => String::from_str(
             alloc,
-            "the world file breaks a rule: the host's guide has a table of these faults, and worlds/check_world.py tells where in the file it is\n",
+            "the world file has a fault: the guide for hosts has a table of them, and check_world.py tells where in the file it is\n",
         ),
         (None, _) => String::from_str(alloc, ""),
     }
