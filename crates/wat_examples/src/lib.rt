@@ -5,3 +5,5 @@
 mod number_tests;
 #[cfg(test)]
 mod token_tests;
+#[cfg(test)]
+mod word_tests;

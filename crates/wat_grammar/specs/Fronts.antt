@@ -43,3 +43,7 @@ PassesTo text rest = (tokens : List Token) → Lexes text tokens ↔ Lexes rest 
 -- The text has no tokens: it is none.
 abbrev pub HasNoTokens : List ℕ → Type 0
 HasNoTokens text = (tokens : List Token) → Lexes text tokens → ⊥
+
+-- No such token stands first in the text.
+abbrev pub HasNotFirst : (Token → Type 0) → List ℕ → Type 0
+HasNotFirst P text = (token : Token) (tail : List Token) → P token → Lexes text (token ∷ tail) → ⊥

@@ -1,3 +1,4 @@
 mod Scans
 mod Lexed
 mod Signed
+mod Slots

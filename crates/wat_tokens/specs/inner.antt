@@ -2,3 +2,4 @@
 pub mod Fronts
 pub mod Naturals
 pub mod Signs
+pub mod Slots

@@ -3,8 +3,10 @@
 
 mod bytes;
 mod constants;
+mod expected;
 mod front;
 mod numbers;
+mod opcodes;
 mod scan;
 mod strings;
 mod token;
@@ -12,6 +14,7 @@ mod tokens;
 
 pub use constants::{i32_of, i64_of};
 pub use numbers::index_of;
+pub use opcodes::opcode_of;
 pub use strings::put_string;
 pub use token::Token;
 pub use tokens::{BadToken, Tokens};

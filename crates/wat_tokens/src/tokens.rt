@@ -1,5 +1,5 @@
 // The tokens of a text, one after the other.
-ghost use Rattle.std.specs.Prelude.{◌≡◌, ◌≤◌, ◌+◌, ℕ, List, [], ◌∷◌, length, drop, None, Some, IfSome};
+ghost use Rattle.std.specs.Prelude.{◌≡◌, ◌≤◌, ◌<◌, ◌+◌, ℕ, List, [], ◌∷◌, length, drop, None, Some, IfSome};
 ghost use Rattle.std.specs.Prelude.{IfNone, IfOk, OnErr};
 ghost use Rattle.wat_grammar.specs.Fronts.{HasNoTokens, PassesTo, Starts};
 ghost use Rattle.wat_grammar.specs.Tokens.{Token as Spelled};
@@ -9,6 +9,7 @@ ghost use Rattle.wat_tokens.specs.inner.Fronts.{IsFront, IsNoBlank, token_length
 use crate::front::{Front, front_of};
 use crate::token::Token;
 use std::marker::Model;
+use wasm_values::ReadFault;
 
 /// Reads the tokens of a text, one after the other. Contracts see the bytes that are left.
 #[derive(Drop)]
@@ -31,6 +32,17 @@ impl<'a> Model for Tokens<'a> {
 #[derive(Clone, Copy, Debug, PartialEq, Eq)]
 pub struct BadToken;
 
+impl From<BadToken> for ReadFault {
+    ghost use Rattle.std.specs.Prelude.{◌≡◌};
+    ghost use Rattle.wasm_values.specs.declared.read.ReadFault.TheVariants.{Malformed};
+
+    ghost from_gives = { λ _ e. e ≡ Malformed };
+
+    fn from(_: BadToken) -> Self {
+        ReadFault::Malformed
+    }
+}
+
 impl<'a> Tokens<'a> {
     /// The tokens of a text.
     pub fn of(text: &'a [u8]) -> Tokens<'a>
@@ -39,12 +51,23 @@ impl<'a> Tokens<'a> {
         Tokens { text, place: 0 }
     }
 
+    /// The same tokens, to look ahead.
+    pub fn ahead(&self) -> Tokens<'a>
+        ensures { result ≡ self.now }
+    {
+        Tokens {
+            text: self.text,
+            place: self.place,
+        }
+    }
+
     /// The next token, or none where no more is left.
     pub fn next(&mut self) -> Result<Option<Token<'a>>, BadToken>
         ensures token { IfOk result (λ found. IfSome found
             (λ token. (first : Spelled) × IsSeen token first × Starts first self.old self.new)) }
         ensures end { IfOk result (λ found. IfNone found (PassesTo self.old [])) }
         ensures bad { OnErr result (HasNoTokens self.old) }
+        ensures shorter { IfOk result (λ found. IfSome found (λ token. length self.new < length self.old)) }
     {
         let text = self.text;
         let (place, front) = next_front(text, self.place);
